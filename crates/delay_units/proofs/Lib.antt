@@ -1,0 +1,10 @@
+pub mod AnswerLemmas
+pub mod LiteralLemmas
+pub mod PlaceLemmas
+pub mod PowerLemmas
+pub mod PrintingLemmas
+pub mod ReadingLemmas
+pub mod RoundingLemmas
+pub mod TallyLemmas
+pub mod StopLemmas
+pub mod OneLiteral

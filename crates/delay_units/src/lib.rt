@@ -1,0 +1,21 @@
+// Quantities of delay calculation: resistances, capacitances and times as whole grains, the decimal
+// literals that they are read from, the units that give the literals a size, rounding, and printed times.
+// It takes no memory, and nothing is a floating-point number.
+#![tactic(auto)]
+
+mod literal;
+mod numbers;
+mod printing;
+mod quantities;
+mod readings;
+mod rounding;
+mod tally;
+#[cfg(test)]
+mod tests;
+
+pub use literal::read_decimal;
+pub use numbers::{Decimal, NumberFault, Unit};
+pub use printing::{Text32, write_atto, write_femto};
+pub use quantities::{Atto, Farads, Femto, Ohms};
+pub use readings::{scale, unit};
+pub use rounding::{half_up, one_rounding};
