@@ -1,0 +1,5 @@
+mod Pushing
+mod Lines
+mod Remaining
+mod Within
+mod Adding

@@ -1,0 +1,24 @@
+use Rattle.std.proofs.lemmas.Result.{err_from_is_err_and}
+use Rattle.std.proofs.Common.{Ok, Err, [], ◌∷◌, ◌++◌, map}
+use Rattle.std.specs.List.{join_with_byte}
+use Rattle.delay_units.specs.Printing.{femto_text}
+use Rattle.sdf_writer.proofs.Pushing.{pushes_stop, pushes_then}
+use Rattle.sdf_writer.proofs.values.write_value.Goals as goal
+
+pub returns-in_err-push : goal.returns-in_err-push
+returns-in_err-push g c =
+    let p = err_from_is_err_and c.from_residual.result c.from_residual.ensures.1 in
+    rw (p.1) (record { pushes = pushes_stop c.args.buffer.now (40 ∷ []) ((join_with_byte 58 (map femto_text c.args.delay.now)) ++ (41 ∷ [])) c.in_err-push.ensures.pushes })
+
+pub returns-in_err-write_numbers : goal.returns-in_err-write_numbers
+returns-in_err-write_numbers g c =
+    let p = err_from_is_err_and c.from_residual-in_err-write_numbers.result c.from_residual-in_err-write_numbers.ensures.1 in
+    rw (p.1) (record { pushes = pushes_then c.args.buffer.now (40 ∷ []) ((join_with_byte 58 (map femto_text c.args.delay.now)) ++ (41 ∷ [])) {result = Err _} c.in_ok-push.ensures.pushes (pushes_stop c.push.new.self (join_with_byte 58 (map femto_text c.args.delay.now)) (41 ∷ []) c.in_err-write_numbers.ensures.pushes) })
+
+pub returns-in_err-push-2 : goal.returns-in_err-push-2
+returns-in_err-push-2 g c =
+    let p = err_from_is_err_and c.from_residual-in_err-push-2.result c.from_residual-in_err-push-2.ensures.1 in
+    rw (p.1) (record { pushes = pushes_then c.args.buffer.now (40 ∷ []) ((join_with_byte 58 (map femto_text c.args.delay.now)) ++ (41 ∷ [])) {result = Err _} c.in_ok-push.ensures.pushes (pushes_then c.push.new.self (join_with_byte 58 (map femto_text c.args.delay.now)) (41 ∷ []) {result = Err _} c.in_ok-write_numbers.ensures.pushes (c.in_err-push-2.ensures.pushes)) })
+
+pub returns : goal.returns
+returns g c = record { pushes = pushes_then c.args.buffer.now (40 ∷ []) ((join_with_byte 58 (map femto_text c.args.delay.now)) ++ (41 ∷ [])) {result = Ok tt} c.in_ok-push.ensures.pushes (pushes_then c.push.new.self (join_with_byte 58 (map femto_text c.args.delay.now)) (41 ∷ []) {result = Ok tt} c.in_ok-write_numbers.ensures.pushes (c.in_ok-push-2.ensures.pushes)) }

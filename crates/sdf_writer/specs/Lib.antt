@@ -1,0 +1,4 @@
+pub mod SdfText
+pub mod Bounds
+pub mod WireRows
+pub mod Gathering

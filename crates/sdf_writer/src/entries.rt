@@ -1,0 +1,77 @@
+// The rows of wires, and the lines round them.
+ghost use Rattle.std.specs.Prelude.{◌≡◌, ◌*◌, ◌++◌, length};
+ghost use Rattle.sdf_writer.specs.Bounds.{AreWithin};
+ghost use Rattle.sdf_writer.specs.Gathering.{Pushes};
+ghost use Rattle.sdf_writer.specs.SdfText.{lines_text, delay_lines, wire_line};
+ghost use Rattle.sdf_writer.specs.WireRows.{wire_rows, wire_text, wires_text};
+
+use crate::buffer::Buffer;
+use crate::rows::Wire;
+use crate::values::write_value;
+use corner_set::CornerSet;
+use delay_units::Femto;
+use edge_io::{Failed, Sink};
+
+// The lines of the delays, none where there is no wire.
+pub(crate) fn write_delays<C: CornerSet, O: Sink>(
+    buffer: &mut Buffer,
+    sink: &mut O,
+    wires: &[Wire],
+    delays: &[Femto],
+) -> Result<(), Failed>
+    requires sizes { length delays.now ≡ length wires.now * C.COUNT }
+    requires within { AreWithin delays.now }
+    ensures pushes { Pushes (buffer.old ++ lines_text (delay_lines (wire_rows C.COUNT wires.now delays.now))) buffer.new
+        (O.written sink.old) (O.written sink.new) (O.faults sink.old) (O.faults sink.new) result }
+{
+    if wires.is_empty() {
+        return Ok(());
+    }
+    buffer.push(sink, b"(DELAY\n(ABSOLUTE\n")?;
+    write_wires::<C, O>(buffer, sink, wires, delays)?;
+    buffer.push(sink, b")\n)\n")?;
+    Ok(())
+}
+
+// A line for each wire, with its next delays.
+fn write_wires<C: CornerSet, O: Sink>(
+    buffer: &mut Buffer,
+    sink: &mut O,
+    wires: &[Wire],
+    delays: &[Femto],
+) -> Result<(), Failed>
+    requires sizes { length delays.now ≡ length wires.now * C.COUNT }
+    requires within { AreWithin delays.now }
+    ensures pushes { Pushes (buffer.old ++ wires_text (wire_rows C.COUNT wires.now delays.now)) buffer.new
+        (O.written sink.old) (O.written sink.new) (O.faults sink.old) (O.faults sink.new) result }
+{
+    let mut rest = delays;
+    for wire in wires {
+        let (delay, others) = rest.split_at(C::COUNT);
+        write_wire(buffer, sink, wire.from.bytes(), wire.to.bytes(), delay)?;
+        rest = others;
+    }
+    Ok(())
+}
+
+// The line of a wire.
+fn write_wire<O: Sink>(
+    buffer: &mut Buffer,
+    sink: &mut O,
+    from: &[u8],
+    to: &[u8],
+    delay: &[Femto],
+) -> Result<(), Failed>
+    requires within { AreWithin delay.now }
+    ensures pushes { Pushes (buffer.old ++ wire_text (record { from = from.now; to = to.now; delay = delay.now })) buffer.new
+        (O.written sink.old) (O.written sink.new) (O.faults sink.old) (O.faults sink.new) result }
+{
+    buffer.push(sink, b"(INTERCONNECT ")?;
+    buffer.push(sink, from)?;
+    buffer.push(sink, b" ")?;
+    buffer.push(sink, to)?;
+    buffer.push(sink, b" ")?;
+    write_value(buffer, sink, delay)?;
+    buffer.push(sink, b")\n")?;
+    Ok(())
+}

@@ -1,0 +1,16 @@
+//! The SDF text of the delays of wires (IEEE 1497-2001), for one corner or three.
+//! Rows are collected first; then the text is written to a sink, through one buffer of fixed size.
+//! Names come in the spelling of SDF, delays in femtoseconds.
+#![tactic(auto)]
+
+mod buffer;
+mod entries;
+mod rows;
+mod text;
+mod values;
+
+pub use rows::Rows;
+pub use text::write;
+
+#[cfg(test)]
+mod tests;

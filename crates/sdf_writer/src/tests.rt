@@ -1,0 +1,107 @@
+ghost use Rattle.std.specs.Prelude.{◌≤◌, ◌^◌, unsigned_abs};
+
+use super::*;
+use crate::buffer::Buffer;
+use crate::values::write_value;
+use corner_set::{Grid, Single};
+use delay_units::Femto;
+use edge_io::{Failed, MemSink, OutOfMemory, Text};
+use std::alloc::Global;
+use std::test::Fail;
+
+/// Adds a wire of one corner.
+fn add(
+    alloc: Global,
+    rows: &mut Rows<Single>,
+    from: &[u8],
+    to: &[u8],
+    femtoseconds: i128,
+) -> Result<(), OutOfMemory>
+    requires { unsigned_abs femtoseconds ≤ 10 ^ 27 }
+{
+    let mut delay = Grid::<Single, Femto>::with_rows(alloc, 1, Femto(0))?;
+    delay.set(0, (), Femto(femtoseconds));
+    let from = Text::from_bytes(alloc, from)?;
+    let to = Text::from_bytes(alloc, to)?;
+    rows.add_wire(from, to, &delay)
+}
+
+/// The design `top`, in which a pin drives two others.
+fn two_wires(alloc: Global) -> Result<Rows<Single>, OutOfMemory> {
+    let mut rows = Rows::new(alloc, Text::from_bytes(alloc, b"top")?);
+    add(alloc, &mut rows, b"u1/Z", b"u2/A", 300)?;
+    add(alloc, &mut rows, b"u1/Z", b"u3/A", 600)?;
+    Ok(rows)
+}
+
+const TWO_WIRES: &[u8] = b"(DELAYFILE
+(SDFVERSION \"3.0\")
+(DESIGN \"top\")
+(PROGRAM \"gdc\")
+(VERSION \"1\")
+(DIVIDER /)
+(TIMESCALE 1ps)
+(CELL
+(CELLTYPE \"top\")
+(INSTANCE)
+(DELAY
+(ABSOLUTE
+(INTERCONNECT u1/Z u2/A (0.300))
+(INTERCONNECT u1/Z u3/A (0.600))
+)
+)
+)
+)
+";
+
+#[test]
+fn each_wire_has_a_line(rt: HostRuntime) -> Result<(), Fail> {
+    let rows = two_wires(rt.alloc())?;
+    let mut sink = MemSink::new(rt.alloc(), 100, 1000)?;
+    assert_eq!(rt; write(&rows, &mut sink), Ok(()));
+    assert_eq!(rt; sink.written(), TWO_WIRES);
+    Ok(())
+}
+
+#[test]
+fn a_fault_leaves_a_front_of_the_text(rt: HostRuntime) -> Result<(), Fail> {
+    let rows = two_wires(rt.alloc())?;
+    let mut sink = MemSink::new(rt.alloc(), 100, 1000)?;
+    sink.fail_at(2)?;
+    assert_eq!(rt; write(&rows, &mut sink), Err(Failed));
+    assert_eq!(rt; Some(sink.written()), TWO_WIRES.get(..100));
+    Ok(())
+}
+
+#[test]
+fn without_wires_the_cell_has_no_delays(rt: HostRuntime) -> Result<(), Fail> {
+    let rows = Rows::<Single>::new(rt.alloc(), Text::from_bytes(rt.alloc(), b"a\"b\\c")?);
+    let mut sink = MemSink::new(rt.alloc(), 1000, 1000)?;
+    assert_eq!(rt; write(&rows, &mut sink), Ok(()));
+    let text = b"(DELAYFILE
+(SDFVERSION \"3.0\")
+(DESIGN \"a\\\"b\\\\c\")
+(PROGRAM \"gdc\")
+(VERSION \"1\")
+(DIVIDER /)
+(TIMESCALE 1ps)
+(CELL
+(CELLTYPE \"a\\\"b\\\\c\")
+(INSTANCE)
+)
+)
+";
+    assert_eq!(rt; sink.written(), text.as_slice());
+    Ok(())
+}
+
+#[test]
+fn a_value_has_a_number_for_each_corner(rt: HostRuntime) -> Result<(), Fail> {
+    let mut sink = MemSink::new(rt.alloc(), 1000, 1000)?;
+    let mut buffer = Buffer::new();
+    let delay = [Femto(200), Femto(-12_345), Femto(400)];
+    assert_eq!(rt; write_value(&mut buffer, &mut sink, &delay), Ok(()));
+    assert_eq!(rt; buffer.flush(&mut sink), Ok(()));
+    assert_eq!(rt; sink.written(), b"(0.200:-12.345:0.400)".as_slice());
+    Ok(())
+}

@@ -1,0 +1,100 @@
+// The whole text: the head of the file and its cell, the rows, and the end.
+ghost use Rattle.std.specs.Prelude.{◌≡◌, ◌*◌, ◌++◌, length, flat_map};
+ghost use Rattle.edge_io.specs.Writing.{Writes};
+ghost use Rattle.sdf_writer.specs.SdfText.{escaped, quoted, lines_text, opening_lines, sdf_text};
+ghost use Rattle.sdf_writer.specs.Bounds.{AreWithin};
+ghost use Rattle.sdf_writer.specs.Gathering.{Pushes};
+ghost use Rattle.sdf_writer.specs.WireRows.{wire_rows};
+
+use crate::buffer::Buffer;
+use crate::entries::write_delays;
+use crate::rows::{Rows, Wire};
+use corner_set::CornerSet;
+use delay_units::Femto;
+use edge_io::{Failed, Sink};
+
+/// Writes the SDF text of the rows. It takes no memory. `Failed` comes only where the sink's count of
+/// faults rose, and then a front of the text was written.
+pub fn write<C: CornerSet, O: Sink>(rows: &Rows<C>, sink: &mut O) -> Result<(), Failed>
+    ensures writes { Writes (sdf_text rows.now) (O.written sink.old) (O.written sink.new) (O.faults sink.old) (O.faults sink.new) result }
+{
+    let mut buffer = Buffer::new();
+    write_rows::<C, O>(
+        &mut buffer,
+        sink,
+        rows.design.bytes(),
+        rows.wires.as_slice(),
+        rows.delays.as_slice(),
+    )?;
+    buffer.flush(sink)?;
+    Ok(())
+}
+
+// The text, into the buffer.
+fn write_rows<C: CornerSet, O: Sink>(
+    buffer: &mut Buffer,
+    sink: &mut O,
+    design: &[u8],
+    wires: &[Wire],
+    delays: &[Femto],
+) -> Result<(), Failed>
+    requires sizes { length delays.now ≡ length wires.now * C.COUNT }
+    requires within { AreWithin delays.now }
+    ensures pushes { Pushes (buffer.old ++ sdf_text (record { design = design.now; wires = wire_rows C.COUNT wires.now delays.now })) buffer.new
+        (O.written sink.old) (O.written sink.new) (O.faults sink.old) (O.faults sink.new) result }
+{
+    write_opening(buffer, sink, design)?;
+    write_delays::<C, O>(buffer, sink, wires, delays)?;
+    buffer.push(sink, b")\n)\n")?;
+    Ok(())
+}
+
+// The lines before the delays.
+fn write_opening<O: Sink>(buffer: &mut Buffer, sink: &mut O, design: &[u8]) -> Result<(), Failed>
+    ensures pushes { Pushes (buffer.old ++ lines_text (opening_lines design.now)) buffer.new
+        (O.written sink.old) (O.written sink.new) (O.faults sink.old) (O.faults sink.new) result }
+{
+    buffer.push(sink, b"(DELAYFILE\n(SDFVERSION \"3.0\")\n(DESIGN ")?;
+    write_quoted(buffer, sink, design)?;
+    buffer.push(
+        sink,
+        b")\n(PROGRAM \"gdc\")\n(VERSION \"1\")\n(DIVIDER /)\n(TIMESCALE 1ps)\n(CELL\n(CELLTYPE ",
+    )?;
+    write_quoted(buffer, sink, design)?;
+    buffer.push(sink, b")\n(INSTANCE)\n")?;
+    Ok(())
+}
+
+// A text in quotation marks.
+fn write_quoted<O: Sink>(buffer: &mut Buffer, sink: &mut O, text: &[u8]) -> Result<(), Failed>
+    ensures pushes { Pushes (buffer.old ++ quoted text.now) buffer.new
+        (O.written sink.old) (O.written sink.new) (O.faults sink.old) (O.faults sink.new) result }
+{
+    buffer.push(sink, b"\"")?;
+    write_escaped(buffer, sink, text)?;
+    buffer.push(sink, b"\"")?;
+    Ok(())
+}
+
+// The bytes of a text within quotation marks.
+fn write_escaped<O: Sink>(buffer: &mut Buffer, sink: &mut O, text: &[u8]) -> Result<(), Failed>
+    ensures pushes { Pushes (buffer.old ++ flat_map escaped text.now) buffer.new
+        (O.written sink.old) (O.written sink.new) (O.faults sink.old) (O.faults sink.new) result }
+{
+    for byte in text {
+        write_escaped_byte(buffer, sink, *byte)?;
+    }
+    Ok(())
+}
+
+fn write_escaped_byte<O: Sink>(buffer: &mut Buffer, sink: &mut O, byte: u8) -> Result<(), Failed>
+    ensures pushes { Pushes (buffer.old ++ escaped byte) buffer.new
+        (O.written sink.old) (O.written sink.new) (O.faults sink.old) (O.faults sink.new) result }
+{
+    if byte == b'"' || byte == b'\\' {
+        buffer.push(sink, &[b'\\', byte])?;
+    } else {
+        buffer.push(sink, &[byte])?;
+    }
+    Ok(())
+}
