@@ -1,0 +1,52 @@
+use edge_io::OutOfMemory;
+
+/// Why a phase that may read files gives no value: a refusal, a read fault at the file of a key, or
+/// want of memory.
+#[derive(Debug, Drop)]
+pub enum PhaseEnd<R, K> {
+    Refused(R),
+    ReadFault(K),
+    OutOfMemory,
+}
+
+/// Why a phase that reads no file gives no value: a refusal, or want of memory.
+#[derive(Debug, Drop)]
+pub enum PureEnd<R> {
+    Refused(R),
+    OutOfMemory,
+}
+
+impl<R, K> From<OutOfMemory> for PhaseEnd<R, K> {
+    ghost use Rattle.std.specs.Prelude.{◌≡◌};
+    ghost use Rattle.verdict_phases.specs.declared.ends.PhaseEnd.TheVariants.{OutOfMemory};
+
+    ghost from_gives = { λ _ end. end ≡ OutOfMemory };
+
+    fn from(_error: OutOfMemory) -> PhaseEnd<R, K> {
+        PhaseEnd::OutOfMemory
+    }
+}
+
+impl<R> From<OutOfMemory> for PureEnd<R> {
+    ghost use Rattle.std.specs.Prelude.{◌≡◌};
+    ghost use Rattle.verdict_phases.specs.declared.ends.PureEnd.TheVariants.{OutOfMemory};
+
+    ghost from_gives = { λ _ end. end ≡ OutOfMemory };
+
+    fn from(_error: OutOfMemory) -> PureEnd<R> {
+        PureEnd::OutOfMemory
+    }
+}
+
+impl<R, K> From<PureEnd<R>> for PhaseEnd<R, K> {
+    ghost use Rattle.verdict_phases.specs.Lifting.{IsLifted};
+
+    ghost from_gives = { λ pure end. IsLifted pure end };
+
+    fn from(end: PureEnd<R>) -> PhaseEnd<R, K> {
+        match end {
+            PureEnd::Refused(refusal) => PhaseEnd::Refused(refusal),
+            PureEnd::OutOfMemory => PhaseEnd::OutOfMemory,
+        }
+    }
+}
