@@ -1,0 +1,51 @@
+-- That the verdict is answered follows from what each answer says.
+use Rattle.std.proofs.Common.{◌≡◌, ℕ, inl, inr, refl, List, Option}
+use Rattle.edge_io.specs.Counts.{Rose}
+use Rattle.edge_io.specs.Holding.{Held, TellsMissing}
+use Rattle.edge_io.specs.Told.{appended, AppendsFrontOf}
+use Rattle.verdict_phases.specs.Phases.{RefusedBy, Unread, Go, Halt}
+use Rattle.gdc.specs.declared.words.Command.{Command}
+use Rattle.gdc.specs.declared.words.Command.TheVariants.{Wires}
+use Rattle.gdc.specs.declared.refusal.FileKey.{FileKey}
+use Rattle.gdc.specs.declared.refusal.FileKey.TheVariants.{Spef}
+use Rattle.gdc.specs.declared.outcome.Outcome.{Outcome}
+use Rattle.gdc.specs.declared.outcome.Outcome.TheVariants.{Done, Refused, Usage, ReadFault, WriteFault, OutOfMemory}
+use Rattle.gdc.specs.CommandLine.{Request}
+use Rattle.gdc.specs.Verdict.{Faulty, Answers, Gives, CommandGives, at_reading}
+use Rattle.gdc.specs.Outcomes.{OnDone, IfRefused, IfUsage, IfReadFault, OnWriteFault, GivesText, HasReadFault, name_of}
+use Rattle.gdc.specs.Completeness.{AnswersVerdict, IsComplete}
+
+-- the phases of a command come to the file that the shelf tells is not held
+unread_file : (held : Option Held) (command : Command) (request : Request) (key : FileKey) → TellsMissing held (name_of request key) → CommandGives held command request (Halt (Unread key))
+unread_file held Wires request Spef missing = at_reading (Unread Spef) (missing, refl)
+
+-- a read fault without a count that rose is at a file that is not held
+read_fault_wanted : (words : List (List ℕ)) (held : Option Held) (key : FileKey) (faults faults' opens opens' : ℕ) → HasReadFault words held key faults faults' opens opens' → (Rose faults faults' → ⊥) → AnswersVerdict words held (ReadFault key)
+read_fault_wanted words held key faults faults' opens opens' fault calm = elim fault.cause [
+  | inl rose ↦ absurd (calm rose)
+  | inr missing ↦ record {
+    verdict = Answers (Halt (Unread key));
+    given = (fault.request, fault.asked, unread_file held fault.request.command fault.request key missing);
+    wanted = refl;
+  }
+]
+
+pub complete_of : (words : List (List ℕ)) (held : Option Held) (faults faults' opens opens' : ℕ) (written written' : Option (List ℕ)) (out_faults out_faults' : ℕ) (outcome : Outcome)
+    → OnDone outcome (GivesText words held (λ text. written' ≡ appended written text))
+    → IfRefused outcome (λ refusal. Gives words held (Answers (Halt (RefusedBy refusal))))
+    → IfUsage outcome (λ fault. Gives words held (Faulty fault))
+    → IfReadFault outcome (λ key. HasReadFault words held key faults faults' opens opens')
+    → OnWriteFault outcome (Rose out_faults out_faults' × GivesText words held (λ text. AppendsFrontOf text written written'))
+    → IsComplete words held faults faults' out_faults out_faults' outcome
+complete_of words held f f' o o' w w' g g' Done done refused usage fault write calm sink_calm =
+    inr (record { verdict = Answers (Go done.0); given = done.1; wanted = refl })
+complete_of words held f f' o o' w w' g g' (Refused r) done refused usage fault write calm sink_calm =
+    inr (record { verdict = Answers (Halt (RefusedBy r)); given = refused; wanted = refl })
+complete_of words held f f' o o' w w' g g' (Usage u) done refused usage fault write calm sink_calm =
+    inr (record { verdict = Faulty u; given = usage; wanted = refl })
+complete_of words held f f' o o' w w' g g' (ReadFault key) done refused usage fault write calm sink_calm =
+    inr (read_fault_wanted words held key f f' o o' fault calm)
+complete_of words held f f' o o' w w' g g' WriteFault done refused usage fault write calm sink_calm =
+    absurd (sink_calm write.0)
+complete_of words held f f' o o' w w' g g' OutOfMemory done refused usage fault write calm sink_calm =
+    inl refl

@@ -1,0 +1,97 @@
+-- What each way in which a run ends says of the verdict, and of what was written.
+use Rattle.std.specs.Prelude.{◌≡◌, ℕ, ◌⊎◌, List, Option, Result, Ok, Err}
+use Rattle.edge_io.specs.Counts.{Rose, RoseBy}
+use Rattle.edge_io.specs.Holding.{Held, TellsMissing}
+use Rattle.sdf_writer.specs.SdfText.{SdfRows, sdf_text}
+use Rattle.verdict_phases.specs.Phases.{Reads, Go, Halt}
+use Rattle.gdc.specs.declared.words.Command.{Command}
+use Rattle.gdc.specs.declared.words.Command.TheVariants.{Wires}
+use Rattle.gdc.specs.declared.words.Key.TheVariants as key
+use Rattle.gdc.specs.declared.words.UsageFault.{UsageFault}
+use Rattle.gdc.specs.declared.refusal.FileKey.{FileKey}
+use Rattle.gdc.specs.declared.refusal.FileKey.TheVariants.{Spef}
+use Rattle.gdc.specs.declared.refusal.Refusal.{Refusal}
+use Rattle.gdc.specs.declared.outcome.Outcome.{Outcome}
+use Rattle.gdc.specs.declared.outcome.Outcome.TheVariants.{Done, Refused, Usage, ReadFault, WriteFault, OutOfMemory}
+use Rattle.gdc.specs.CommandLine.{Request, request_of, value_of}
+use Rattle.gdc.specs.Verdict.{Gives, Answers}
+
+-- a fact of the run where it is done
+abbrev pub OnDone : Outcome → Type 0 → Type 0
+OnDone Done fact = fact
+OnDone (Refused refusal) fact = Unit {0}
+OnDone (Usage fault) fact = Unit {0}
+OnDone (ReadFault key) fact = Unit {0}
+OnDone WriteFault fact = Unit {0}
+OnDone OutOfMemory fact = Unit {0}
+
+-- a fact of the refusal where the run is refused
+abbrev pub IfRefused : Outcome → (Refusal → Type 0) → Type 0
+IfRefused Done fact = Unit {0}
+IfRefused (Refused refusal) fact = fact refusal
+IfRefused (Usage fault) fact = Unit {0}
+IfRefused (ReadFault key) fact = Unit {0}
+IfRefused WriteFault fact = Unit {0}
+IfRefused OutOfMemory fact = Unit {0}
+
+-- a fact of the fault of the words where it is answered
+abbrev pub IfUsage : Outcome → (UsageFault → Type 0) → Type 0
+IfUsage Done fact = Unit {0}
+IfUsage (Refused refusal) fact = Unit {0}
+IfUsage (Usage fault) fact = fact fault
+IfUsage (ReadFault key) fact = Unit {0}
+IfUsage WriteFault fact = Unit {0}
+IfUsage OutOfMemory fact = Unit {0}
+
+-- a fact of the key where a file could not be read
+abbrev pub IfReadFault : Outcome → (FileKey → Type 0) → Type 0
+IfReadFault Done fact = Unit {0}
+IfReadFault (Refused refusal) fact = Unit {0}
+IfReadFault (Usage fault) fact = Unit {0}
+IfReadFault (ReadFault key) fact = fact key
+IfReadFault WriteFault fact = Unit {0}
+IfReadFault OutOfMemory fact = Unit {0}
+
+-- a fact where the text could not be written whole
+abbrev pub OnWriteFault : Outcome → Type 0 → Type 0
+OnWriteFault Done fact = Unit {0}
+OnWriteFault (Refused refusal) fact = Unit {0}
+OnWriteFault (Usage fault) fact = Unit {0}
+OnWriteFault (ReadFault key) fact = Unit {0}
+OnWriteFault WriteFault fact = fact
+OnWriteFault OutOfMemory fact = Unit {0}
+
+-- a fact of every answer that comes before a byte of the text is written
+abbrev pub UnlessWritten : Outcome → Type 0 → Type 0
+UnlessWritten Done fact = Unit {0}
+UnlessWritten (Refused refusal) fact = fact
+UnlessWritten (Usage fault) fact = fact
+UnlessWritten (ReadFault key) fact = fact
+UnlessWritten WriteFault fact = Unit {0}
+UnlessWritten OutOfMemory fact = fact
+
+-- the verdict gives rows, of whose text this holds
+abbrev pub GivesText : List (List ℕ) → Option Held → (List ℕ → Type 0) → Type 0
+GivesText words held fact = (rows : SdfRows) × Gives words held (Answers (Go rows)) × fact (sdf_text rows)
+
+-- the name of the file of a key
+abbrev pub name_of : Request → FileKey → List ℕ
+name_of request Spef = value_of request.given key.Spef
+
+-- the place of the file of a key in the order in which a command reads its files, from 1
+abbrev pub reading_place : Command → FileKey → ℕ
+reading_place Wires Spef = 1
+
+-- The cause of a read fault at the file of a key: the phases of the command come to its reading; the shelf's count of
+-- faults rose, or the shelf tells that it does not hold the file; and so many files were opened as stand up to it.
+pub record HasReadFault (words : List (List ℕ)) (held : Option Held) (key : FileKey) (faults faults' opens opens' : ℕ) : Type 0 where
+  pub request : Request
+  pub asked : request_of words ≡ Ok request
+  pub reached : Gives words held (Answers (Halt (Reads key)))
+  pub cause : Rose faults faults' ⊎ TellsMissing held (name_of request key)
+  pub opened : RoseBy (reading_place request.command key) opens opens'
+
+-- where the words have a first fault, the run answers it, unless memory runs out
+abbrev pub AnswersUsage : Result Request UsageFault → Outcome → Type 0
+AnswersUsage (Ok request) outcome = Unit {0}
+AnswersUsage (Err fault) outcome = (outcome ≡ Usage fault) ⊎ (outcome ≡ OutOfMemory)

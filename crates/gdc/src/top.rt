@@ -1,0 +1,145 @@
+//! The one call that the program makes.
+ghost use Rattle.std.specs.Prelude.{◌≡◌, Result, Err};
+ghost use Rattle.edge_io.specs.Counts.{Rose};
+ghost use Rattle.edge_io.specs.Told.{appended, AppendsFrontOf};
+ghost use Rattle.gdc.specs.CommandLine.{request_of};
+ghost use Rattle.gdc.specs.Verdict.{Gives, Answers};
+ghost use Rattle.gdc.specs.Outcomes.{OnDone, IfRefused, IfUsage, IfReadFault, OnWriteFault, UnlessWritten, GivesText, HasReadFault, AnswersUsage};
+ghost use Rattle.gdc.specs.Saying.{Says};
+ghost use Rattle.gdc.specs.Completeness.{IsComplete};
+ghost use Rattle.gdc.specs.Ends.{MeansEnd, FollowsTop};
+ghost use Rattle.verdict_phases.specs.Phases.{RefusedBy, Halt};
+
+use crate::lines::say;
+use crate::outcome::Outcome;
+use crate::refusal::{FileKey, Refusal};
+use crate::wires::wires;
+use crate::words::{Asked, Command, Key, UsageFault, Words, WordsEnd, read_words};
+use corner_set::Single;
+use edge_io::{Failed, Shelf, Sink, Steps};
+use sdf_writer::{Rows, write};
+use std::alloc::Global;
+use std::sync::ledger::Ledger;
+use verdict_phases::PhaseEnd;
+
+/// Why there are no rows to write.
+#[derive(Drop)]
+enum End {
+    Usage(UsageFault),
+    Phase(PhaseEnd<Refusal, FileKey>),
+    OutOfMemory,
+}
+
+impl From<WordsEnd> for End {
+    ghost use Rattle.gdc.specs.Ends.{end_of_words};
+    ghost use Rattle.std.specs.Prelude.{◌≡◌};
+
+    ghost from_gives = { λ words end. end ≡ end_of_words words };
+
+    fn from(end: WordsEnd) -> End {
+        match end {
+            WordsEnd::Usage(fault) => End::Usage(fault),
+            WordsEnd::OutOfMemory => End::OutOfMemory,
+        }
+    }
+}
+
+impl From<PhaseEnd<Refusal, FileKey>> for End {
+    ghost use Rattle.std.specs.Prelude.{◌≡◌};
+    ghost use Rattle.gdc.specs.declared.top.End.TheVariants.{Phase};
+
+    ghost from_gives = { λ phase end. end ≡ Phase phase };
+
+    fn from(end: PhaseEnd<Refusal, FileKey>) -> End {
+        End::Phase(end)
+    }
+}
+
+/// The rows that the words ask for.
+fn decide<H: Shelf>(alloc: Global, words: &Words, shelf: &mut H) -> Result<Rows<Single>, End>
+    ensures follows { FollowsTop words.now (H.held shelf.old) result }
+    ensures fault { MeansEnd words.now (H.held shelf.old) (H.faults shelf.old) (H.faults shelf.new) (H.opens shelf.old) (H.opens shelf.new) result }
+{
+    let asked = read_words(alloc, words)?;
+    let rows = match asked.command() {
+        Command::Wires => wires(alloc, shelf, asked.needed(Key::Spef))?,
+    };
+    Ok(rows)
+}
+
+/// Decides, and writes the text where there are rows.
+fn answer<H: Shelf, O: Sink>(alloc: Global, words: &Words, shelf: &mut H, out: &mut O) -> Outcome
+    ensures done { OnDone result (GivesText words.now (H.held shelf.old)
+        (λ text. O.written out.new ≡ appended (O.written out.old) text)) }
+    ensures refused { IfRefused result
+        (λ refusal. Gives words.now (H.held shelf.old) (Answers (Halt (RefusedBy refusal)))) }
+    ensures usage { IfUsage result (λ fault. request_of words.now ≡ Err fault) }
+    ensures read_fault { IfReadFault result (λ key. HasReadFault words.now (H.held shelf.old) key
+        (H.faults shelf.old) (H.faults shelf.new) (H.opens shelf.old) (H.opens shelf.new)) }
+    ensures write_fault { OnWriteFault result (Rose (O.faults out.old) (O.faults out.new)
+        × GivesText words.now (H.held shelf.old)
+        (λ text. AppendsFrontOf text (O.written out.old) (O.written out.new))) }
+    ensures untouched { UnlessWritten result (O.written out.new ≡ O.written out.old) }
+{
+    match decide(alloc, words, shelf) {
+        Err(End::Usage(fault)) => Outcome::Usage(fault),
+        Err(End::Phase(PhaseEnd::Refused(refusal))) => Outcome::Refused(refusal),
+        Err(End::Phase(PhaseEnd::ReadFault(key))) => Outcome::ReadFault(key),
+        Err(End::Phase(PhaseEnd::OutOfMemory)) => Outcome::OutOfMemory,
+        Err(End::OutOfMemory) => Outcome::OutOfMemory,
+        Ok(rows) => match write(&rows, out) {
+            Ok(()) => Outcome::Done,
+            Err(Failed) => Outcome::WriteFault,
+        },
+    }
+}
+
+/// Does what the words ask for: reads the files that they name from `shelf`, writes the text to `out`,
+/// and for every answer but `Done` one line to `err`.
+///
+/// Nothing is written to `out` before the verdict is reached. Where `err` fails, a front of the line is
+/// written and the answer stays. `steps` counts the reads of nets, of which there are none yet.
+pub fn run<H: Shelf, O: Sink, E: Sink, L: Ledger>(
+    alloc: Global,
+    words: &Words,
+    shelf: &mut H,
+    out: &mut O,
+    err: &mut E,
+    _steps: &mut Steps<L>,
+) -> Outcome
+    // Done: the verdict gives rows, and their text stands behind what `out` held.
+    ensures done { OnDone result (GivesText words.now (H.held shelf.old)
+        (λ text. O.written out.new ≡ appended (O.written out.old) text)) }
+
+    // A refusal is the verdict's.
+    ensures refused { IfRefused result
+        (λ refusal. Gives words.now (H.held shelf.old) (Answers (Halt (RefusedBy refusal)))) }
+
+    // A fault of the words is answered exactly where it is their first.
+    ensures usage { IfUsage result (λ fault. request_of words.now ≡ Err fault) }
+    ensures usage_first { AnswersUsage (request_of words.now) result }
+
+    // A read fault has its cause, which both counts of the shelf show.
+    ensures read_fault { IfReadFault result (λ key. HasReadFault words.now (H.held shelf.old) key
+        (H.faults shelf.old) (H.faults shelf.new) (H.opens shelf.old) (H.opens shelf.new)) }
+
+    // Where the text could not be written whole, a front of it was, and the count of `out` rose.
+    ensures write_fault { OnWriteFault result (Rose (O.faults out.old) (O.faults out.new)
+        × GivesText words.now (H.held shelf.old)
+        (λ text. AppendsFrontOf text (O.written out.old) (O.written out.new))) }
+
+    // Every other answer leaves `out` as it was.
+    ensures untouched { UnlessWritten result (O.written out.new ≡ O.written out.old) }
+
+    // Where no count rises, the answer is the verdict's, or memory ran out.
+    ensures complete { IsComplete words.now (H.held shelf.old) (H.faults shelf.old) (H.faults shelf.new)
+        (O.faults out.old) (O.faults out.new) result }
+
+    // The answer's line stands behind what `err` held.
+    ensures said { Says result (E.written err.old) (E.written err.new) (E.faults err.old) (E.faults err.new) }
+{
+    let outcome = answer(alloc, words, shelf, out);
+    // The answer stays where its line could not be written.
+    let _ = say(&outcome, err);
+    outcome
+}

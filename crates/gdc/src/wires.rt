@@ -1,0 +1,37 @@
+//! The command `wires`: the delays of the wires of a SPEF file.
+ghost use Rattle.std.specs.Prelude.{◌≡◌, ◌≤◌, ◌⊎◌};
+ghost use Rattle.edge_io.specs.Counts.{Rose, RoseBy};
+ghost use Rattle.edge_io.specs.Holding.{TellsMissing};
+ghost use Rattle.verdict_phases.specs.Phases.{Follows, OnReadFault};
+ghost use Rattle.gdc.specs.Verdict.{WiresGives};
+
+use crate::refusal::{FileKey, LimitKind, Refusal};
+use crate::star_wires::star_wires;
+use corner_set::Single;
+use edge_io::{Shelf, Text};
+use sdf_writer::Rows;
+use std::alloc::Global;
+use verdict_phases::{PhaseEnd, read_phase};
+
+/// How many bytes of a file are read at the most: 2^28.
+pub const FILE_LIMIT: usize = 268_435_456;
+
+/// The rows of the wires of the SPEF file of that name.
+#[tactic(auto, using(crate::specs::Verdict::at_reading, crate::specs::Verdict::at_wires, crate::specs::Verdict::through))]
+pub fn wires<H: Shelf>(
+    alloc: Global,
+    shelf: &mut H,
+    name: &Text,
+) -> Result<Rows<Single>, PhaseEnd<Refusal, FileKey>>
+    ensures follows { Follows (WiresGives (H.held shelf.old) name.now) result }
+    ensures fault { OnReadFault result
+        (Rose (H.faults shelf.old) (H.faults shelf.new) ⊎ TellsMissing (H.held shelf.old) name.now) }
+    ensures later { H.faults shelf.old ≤ H.faults shelf.new }
+    ensures opens { RoseBy 1 (H.opens shelf.old) (H.opens shelf.new) }
+    ensures held { H.held shelf.new ≡ H.held shelf.old }
+{
+    let too_long = Refusal::Limit(LimitKind::File(FileKey::Spef));
+    let text = read_phase(alloc, shelf, name, FILE_LIMIT, FileKey::Spef, too_long)?;
+    let rows = star_wires(alloc, text.bytes())?;
+    Ok(rows)
+}
