@@ -17,7 +17,8 @@ RoseBy many before now = now ≡ raised many before
 pub record ShelfCounts : Type 0 where
   pub faults : ℕ
   pub opens : ℕ
+  pub reads : ℕ
 
 -- no call so far
 abbrev pub no_counts : ShelfCounts
-no_counts = record { faults = 0; opens = 0 }
+no_counts = record { faults = 0; opens = 0; reads = 0 }

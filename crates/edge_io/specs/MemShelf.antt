@@ -16,10 +16,12 @@ pub record ShelfState : Type 0 where
   pub calls : Calls
   -- how many of them were an `open`
   pub opens : ℕ
+  -- and how many a `read`
+  pub reads : ℕ
 
 -- a new shelf holds nothing
 abbrev pub empty_shelf : ℕ → ShelfState
-empty_shelf most = record { files = []; left = []; most = most; calls = no_calls; opens = 0 }
+empty_shelf most = record { files = []; left = []; most = most; calls = no_calls; opens = 0; reads = 0 }
 
 -- the name has these bytes now, every other name what it had
 pub record Puts (held held' : Held) (name bytes : List ℕ) : Type 0 where
@@ -33,3 +35,4 @@ pub record ChangesHeld (before after : ShelfState) (name bytes : List ℕ) : Typ
   pub most : after.most ≡ before.most
   pub calls : after.calls ≡ before.calls
   pub opens : after.opens ≡ before.opens
+  pub reads : after.reads ≡ before.reads

@@ -1,8 +1,8 @@
-ghost use Rattle.std.specs.Prelude.{◌≡◌, ◌≢◌, ℕ, ◌+◌, ◌≤◌, ◌<◌, ◌⊎◌, [], ◌∷◌, ◌++◌, ◌↔◌, List, length, take, drop, min, Option, Some, None, Ok, is_some, if◌then◌else◌, nat_lt, ◌&&◌, IsTrue, IsErr, IfOk, OnOk, OnErr};
+ghost use Rattle.std.specs.Prelude.{◌≡◌, ◌≢◌, ℕ, ◌+◌, ◌^◌, ◌≤◌, ◌<◌, ◌⊎◌, [], ◌∷◌, ◌++◌, ◌↔◌, List, length, take, drop, min, Option, Some, None, Ok, is_some, if◌then◌else◌, nat_lt, ◌&&◌, IsTrue, IsErr, IfOk, OnOk, OnErr};
 ghost use Rattle.edge_io.specs.Counts.{Rose, RoseBy, raised};
 ghost use Rattle.edge_io.specs.Holding.{TakesFront};
 ghost use Rattle.edge_io.specs.Calls.{Calls, fails_next, counted_call};
-ghost use Rattle.edge_io.specs.HeldFiles.{held_in, IsPlaceOf};
+ghost use Rattle.edge_io.specs.HeldFiles.{held_in, left_of, IsOpen, IsPlaceOf};
 ghost use Rattle.edge_io.specs.MemShelf.{ShelfState, empty_shelf, ChangesHeld};
 
 use crate::calls::{CallPlan, next};
@@ -31,6 +31,7 @@ pub struct MemShelf {
     most: usize,
     plan: CallPlan,
     opens: u64,
+    reads: u64,
 }
 
 impl Model for MemShelf {
@@ -40,7 +41,7 @@ impl Model for MemShelf {
 
     ghost Value = { ShelfState };
 
-    ghost view = { λ shelf. record { files = shelf.files.items; left = left_of shelf.files.items shelf.opened shelf.at; most = shelf.most; calls = shelf.plan; opens = shelf.opens } };
+    ghost view = { λ shelf. record { files = shelf.files.items; left = left_of shelf.files.items shelf.opened shelf.at; most = shelf.most; calls = shelf.plan; opens = shelf.opens; reads = shelf.reads } };
 
     ghost invariant = { λ shelf. IsOpen shelf.files.items shelf.opened shelf.at × (1 ≤ shelf.most) };
 }
@@ -58,6 +59,7 @@ impl MemShelf {
             most,
             plan: CallPlan::new(alloc),
             opens: 0,
+            reads: 0,
         }
     }
 
@@ -107,6 +109,18 @@ fn copy_front(piece: &mut [u8], left: &[u8], most: usize) -> usize
     count
 }
 
+/// Copies the front of what is left of the file at `place`, of which `at` bytes were read.
+fn copy_from(files: &[HeldFile], place: usize, at: usize, piece: &mut [u8], most: usize) -> usize
+    requires open { IsOpen files.now (Some place) at }
+    requires most { 1 ≤ most }
+    ensures count { result ≡ min most (min (length piece.old) (length (left_of files.now (Some place) at))) }
+    ensures within { IsOpen files.now (Some place) (at + result) }
+    ensures fits { at + result < 2 ^ 64 }
+    ensures taken { TakesFront result piece.new (left_of files.now (Some place) at) (left_of files.now (Some place) (at + result)) }
+{
+    copy_front(piece, &files[place].bytes.bytes()[at..], most)
+}
+
 impl Shelf for MemShelf {
     ghost held = { λ shelf. Some (held_in shelf.files) };
 
@@ -116,10 +130,13 @@ impl Shelf for MemShelf {
 
     ghost opens = { λ shelf. shelf.opens };
 
+    ghost reads = { λ shelf. shelf.reads };
+
     fn open(&mut self, name: &Text) -> Result<(), Failed>
         ensures held { self.new.files ≡ self.old.files }
         ensures most { self.new.most ≡ self.old.most }
         ensures opens { self.new.opens ≡ raised 1 self.old.opens }
+        ensures reads { self.new.reads ≡ self.old.reads }
         ensures left { OnOk result (held_in self.old.files name.now ≡ Some self.new.left) }
         ensures unchanged { OnErr result (self.new.left ≡ self.old.left) }
         ensures later { self.old.calls.faults ≤ self.new.calls.faults }
@@ -149,6 +166,7 @@ impl Shelf for MemShelf {
         ensures files { self.new.files ≡ self.old.files }
         ensures most { self.new.most ≡ self.old.most }
         ensures opens { self.new.opens ≡ self.old.opens }
+        ensures reads { self.new.reads ≡ raised 1 self.old.reads }
         ensures count { IfOk result (λ count. count ≡ min self.old.most (min (length piece.old) (length self.old.left))) }
         ensures bound { IfOk result (λ count. count ≤ length piece.new) }
         ensures left { IfOk result (λ count. TakesFront count piece.new self.old.left self.new.left) }
@@ -162,6 +180,7 @@ impl Shelf for MemShelf {
         ensures fails { IsErr result ↔ ((0 < length piece.old) × IsTrue (fails_next self.old.calls)) }
         ensures calls { self.new.calls ≡ counted_call (nat_lt 0 (length piece.old) && fails_next self.old.calls) self.old.calls }
     {
+        self.reads = next(self.reads);
         let fails = self.plan.begin();
         if piece.is_empty() {
             return Ok(0);
@@ -173,8 +192,7 @@ impl Shelf for MemShelf {
         match self.opened {
             None => Ok(0),
             Some(place) => {
-                let left = &self.files[place].bytes.bytes()[self.at..];
-                let count = copy_front(piece, left, self.most);
+                let count = copy_from(self.files.as_slice(), place, self.at, piece, self.most);
                 self.at += count;
                 Ok(count)
             }

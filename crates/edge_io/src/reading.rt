@@ -48,7 +48,8 @@ const PIECE_BYTES: usize = 131072;
 
 /// Reads a whole file of at most `limit` bytes.
 ///
-/// The file is opened once, and of a longer one just `limit + 1` bytes are taken.
+/// The file is opened once, and of a longer one just `limit + 1` bytes are taken. Each read but the last
+/// takes at least one byte, so at most `limit + 1` reads are made.
 pub fn read_file<H: Shelf>(
     alloc: Global,
     shelf: &mut H,
@@ -63,6 +64,7 @@ pub fn read_file<H: Shelf>(
     ensures fault { result ≡ Err ReadEnd.ReadFault → Rose (H.faults shelf.old) (H.faults shelf.new) ⊎ TellsMissing (H.held shelf.old) name.now }
     ensures later { H.faults shelf.old ≤ H.faults shelf.new }
     ensures opens { RoseBy 1 (H.opens shelf.old) (H.opens shelf.new) }
+    ensures reads { H.reads shelf.new ≤ H.reads shelf.old + (limit + 1) }
     ensures held { H.held shelf.new ≡ H.held shelf.old }
 {
     shelf.open(name)?;

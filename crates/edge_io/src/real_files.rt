@@ -12,13 +12,14 @@ use std::{fs, str};
 /// The files of the system, by their paths. It tells nothing of what they hold.
 ///
 /// A path that is not UTF-8 is a fault, as is every error of the system, and a file that grows while it
-/// is read just has more to read. Both counts stand still at 2 ^ 64 - 1.
+/// is read just has more to read. The counts stand still at 2 ^ 64 - 1.
 #[derive(Drop)]
 pub struct FileShelf<R: Files> {
     rt: R,
     file: Option<R::File>,
     faults: u64,
     opens: u64,
+    reads: u64,
 }
 
 impl<R: Files> Model for FileShelf<R> {
@@ -26,7 +27,7 @@ impl<R: Files> Model for FileShelf<R> {
 
     ghost Value = { ShelfCounts };
 
-    ghost view = { λ shelf. record { faults = shelf.faults; opens = shelf.opens } };
+    ghost view = { λ shelf. record { faults = shelf.faults; opens = shelf.opens; reads = shelf.reads } };
 }
 
 impl<R: Files> FileShelf<R> {
@@ -42,6 +43,7 @@ impl<R: Files> FileShelf<R> {
             file: None,
             faults: 0,
             opens: 0,
+            reads: 0,
         }
     }
 }
@@ -54,6 +56,8 @@ impl<R: Files> Shelf for FileShelf<R> {
     ghost faults = { λ shelf. shelf.faults };
 
     ghost opens = { λ shelf. shelf.opens };
+
+    ghost reads = { λ shelf. shelf.reads };
 
     fn open(&mut self, name: &Text) -> Result<(), Failed> {
         self.opens = next(self.opens);
@@ -68,6 +72,7 @@ impl<R: Files> Shelf for FileShelf<R> {
     }
 
     fn read(&mut self, piece: &mut [u8]) -> Result<usize, Failed> {
+        self.reads = next(self.reads);
         if piece.is_empty() {
             return Ok(0);
         }

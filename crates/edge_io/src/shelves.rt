@@ -22,6 +22,9 @@ pub trait Shelf {
     // How many times a file was opened, or tried to; it stands still at 2 ^ 64 - 1.
     ghost opens: { Self → ℕ };
 
+    // How many calls of `read` were made; it stands still at 2 ^ 64 - 1.
+    ghost reads: { Self → ℕ };
+
     /// Opens the file of that name in place of the one that is open.
     ///
     /// It fails where the outside failed, which raises the count of faults, or where the shelf tells
@@ -30,6 +33,7 @@ pub trait Shelf {
         ensures held { held self.new ≡ held self.old }
         ensures told { is_some (left self.new) ≡ is_some (left self.old) }
         ensures opens { RoseBy 1 (opens self.old) (opens self.new) }
+        ensures reads { reads self.new ≡ reads self.old }
         ensures later { faults self.old ≤ faults self.new }
         ensures left { OnOk result (Opens (held self.old) name.now (left self.new)) }
         ensures unchanged { OnErr result (left self.new ≡ left self.old) }
@@ -40,6 +44,7 @@ pub trait Shelf {
     fn read(&mut self, piece: &mut [u8]) -> Result<usize, Failed>
         ensures held { held self.new ≡ held self.old }
         ensures opens { opens self.new ≡ opens self.old }
+        ensures reads { RoseBy 1 (reads self.old) (reads self.new) }
         ensures later { faults self.old ≤ faults self.new }
         ensures bound { IfOk result (λ count. count ≤ length piece.new) }
         ensures left { IfOk result (λ count. ReadsFront count piece.new (left self.old) (left self.new)) }

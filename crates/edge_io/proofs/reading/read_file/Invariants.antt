@@ -9,6 +9,7 @@ invariant-taking g l =
     × (length l.text ≤ l.limit + 1)
     × IsTaken (g.H.Shelf.held l.fn.shelf) l.name l.text (g.H.Shelf.left l.shelf)
     × (g.H.Shelf.held l.shelf ≡ g.H.Shelf.held l.fn.shelf)
+    × (g.H.Shelf.reads l.shelf ≤ g.H.Shelf.reads l.fn.shelf + length l.text)
     × RoseBy 1 (g.H.Shelf.opens l.fn.shelf) (g.H.Shelf.opens l.shelf)
     × (g.H.Shelf.faults l.fn.shelf ≤ g.H.Shelf.faults l.shelf)
 
