@@ -1,6 +1,6 @@
-// Quantities of delay calculation: resistances, capacitances and times as whole grains, the decimal
-// literals that they are read from, the units that give the literals a size, rounding, and printed times.
-// It takes no memory, and nothing is a floating-point number.
+//! Quantities of delay calculation: resistances, capacitances and times as whole grains, the decimal
+//! literals that they are read from, the units that give the literals a size, rounding, and printed times.
+//! It takes no memory, and nothing is a floating-point number.
 #![tactic(auto)]
 
 mod literal;

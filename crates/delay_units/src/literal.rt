@@ -1,4 +1,4 @@
-// Decimal literals, read exactly.
+//! Decimal literals, read exactly.
 ghost use Rattle.std.specs.Prelude.{◌≡◌, ℕ, ◌^◌, ◌<◌, ◌≤◌, List, IfOk, IfErr, MatchOption, ◌∷◌, unsigned_abs};
 ghost use Rattle.delay_units.specs.Literal.{Literal, Spells, IsNumber, IsFaultOf, IsAnswerTo};
 ghost use Rattle.delay_units.specs.Parts.{SplitsSign, SplitsMantissa, SplitsSize, IsPowerOf, StopsIn, DecidesDecimal, signed_by, NotFirst, NoMarkFirst, BeginsWithMark};

@@ -1,4 +1,4 @@
-// Exact decimal numbers and units.
+//! Exact decimal numbers and units.
 ghost use Rattle.std.specs.Prelude.{◌^◌, ◌<◌, ◌≤◌, unsigned_abs};
 
 use thiserror::Error;

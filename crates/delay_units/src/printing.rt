@@ -1,4 +1,4 @@
-// Times as decimal texts in picoseconds.
+//! Times as decimal texts in picoseconds.
 ghost use Rattle.std.specs.Prelude.{◌≡◌, ◌+◌, ◌/◌, ◌%◌, ◌^◌, ◌<◌, ◌≤◌, [], ◌∷◌, ◌++◌, length, take, unsigned_abs, if◌then◌else◌, decimal};
 ghost use Rattle.delay_units.specs.Printing.{last_digits, femto_text, atto_text};
 

@@ -1,4 +1,4 @@
-// The quantities, each a whole number of grains.
+//! The quantities, each a whole number of grains.
 
 /// A resistance in grains of 10^-6 ohm; one resistor has at most [`Ohms::MOST`].
 #[derive(Clone, Copy, PartialEq, Eq, PartialOrd, Ord, Hash, Debug, Default)]

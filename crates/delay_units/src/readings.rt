@@ -1,4 +1,4 @@
-// Units, and the reading of a decimal in a unit as a whole number of grains.
+//! Units, and the reading of a decimal in a unit as a whole number of grains.
 ghost use Rattle.std.specs.Prelude.{◌≡◌, ◌↔◌, ◌+◌, ◌^◌, ◌<◌, ◌≤◌, ℤ, pos, ◌+ℤ◌, ◌*ℤ◌, ◌<ℤ◌, ◌≤ℤ◌, unsigned_abs, IsSome, IfSome, IfNone};
 ghost use Rattle.delay_units.specs.Reading.{IsReading, IsRoundedPower};
 

@@ -1,4 +1,4 @@
-// Rounding half up, toward the greater.
+//! Rounding half up, toward the greater.
 ghost use Rattle.std.specs.Prelude.{◌≡◌, ◌^◌, ◌≤◌, ℤ, pos, ◌≤ℤ◌, unsigned_abs};
 ghost use Rattle.delay_units.specs.Rounding.{IsRounding, OneRounding};
 

@@ -1,4 +1,4 @@
-// The running value of the digits of a literal.
+//! The running value of the digits of a literal.
 ghost use Rattle.std.specs.Prelude.{◌≡◌, ◌∷◌, ◌++◌, [], ℕ, ◌+◌, ◌*◌, ◌^◌, ◌<◌, ◌≤◌, List, length};
 
 /// The digits that were read: how many, how many of them are significant, how many zeros stand behind those, and the

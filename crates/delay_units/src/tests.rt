@@ -1,4 +1,4 @@
-// Outside values: texts and what they read as, readings at ties and bounds, and printed times.
+//! Outside values: texts and what they read as, readings at ties and bounds, and printed times.
 ghost use Rattle.std.specs.Prelude.{◌≤◌, ◌^◌, unsigned_abs};
 
 use crate::{

@@ -1,4 +1,4 @@
-// Bytes that wait to be written, so that the sink is called with large pieces.
+//! Bytes that wait to be written, so that the sink is called with large pieces.
 ghost use Rattle.std.specs.Prelude.{◌≡◌, ◌+◌, ◌≤◌, [], ◌++◌, length, OnOk};
 ghost use Rattle.edge_io.specs.Writing.{Writes};
 ghost use Rattle.sdf_writer.specs.Gathering.{Pushes};

@@ -1,4 +1,4 @@
-// The rows of wires, and the lines round them.
+//! The rows of wires, and the lines round them.
 ghost use Rattle.std.specs.Prelude.{◌≡◌, ◌*◌, ◌++◌, length};
 ghost use Rattle.sdf_writer.specs.Bounds.{AreWithin};
 ghost use Rattle.sdf_writer.specs.Gathering.{Pushes};

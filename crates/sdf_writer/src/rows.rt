@@ -1,4 +1,4 @@
-// The rows of one file, as they are collected.
+//! The rows of one file, as they are collected.
 ghost use Rattle.std.specs.Prelude.{◌≡◌, [], ◌∷◌, ◌++◌, length, OnOk, OnErr};
 ghost use Rattle.sdf_writer.specs.Bounds.{AreWithin};
 

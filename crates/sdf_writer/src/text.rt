@@ -1,4 +1,4 @@
-// The whole text: the head of the file and its cell, the rows, and the end.
+//! The whole text: the head of the file and its cell, the rows, and the end.
 ghost use Rattle.std.specs.Prelude.{◌≡◌, ◌*◌, ◌++◌, length, flat_map};
 ghost use Rattle.edge_io.specs.Writing.{Writes};
 ghost use Rattle.sdf_writer.specs.SdfText.{escaped, quoted, lines_text, opening_lines, sdf_text};

@@ -1,4 +1,4 @@
-// The value of a delay: the numbers of its corners.
+//! The value of a delay: the numbers of its corners.
 ghost use Rattle.std.specs.Prelude.{◌≡◌, ◌≤◌, ◌^◌, ◌∷◌, ◌++◌, unsigned_abs, map, flat_map};
 ghost use Rattle.std.specs.List.{join_with_byte};
 ghost use Rattle.delay_units.specs.Printing.{femto_text};
