@@ -28,3 +28,4 @@ pub mod NetLoad
 pub mod AnnotationRows
 pub mod StarElements
 pub mod WireProducts
+pub mod NameHash

@@ -3,10 +3,10 @@ use Rattle.std.specs.Prelude.{◌≡◌, ℕ, ◌+◌, ◌^◌, ◌<◌, ◌≤�
 use Rattle.std.specs.Option.{option_map}
 use Rattle.std.specs.List.{filter_map, cons_option}
 use Rattle.std.specs.Str.{bytes_eq}
-use Rattle.std.specs.declared.hash.FoldHasher.{FoldHasher}
 use Rattle.std.specs.declared.hash.BuildHasherDefault.{BuildHasherDefault}
 use Rattle.std.specs.HashMap.{get_by, HashMap}
 use Rattle.std.specs.Borrow.{Bor}
+use Rattle.gdc.specs.declared.name_hash.NameHasher.{NameHasher}
 use Rattle.gdc.specs.declared.star_net.Pin.{Pin}
 use Rattle.gdc.specs.declared.star_text.span.Span.{Span}
 use Rattle.gdc.specs.StarSpans.{cut}
@@ -15,7 +15,7 @@ use Rattle.gdc.specs.StarNets.{ohms_to, farads_at, leads_to, is_pin, is_driver, 
 
 -- the pins of a net, by the name of each
 abbrev pub PinMap : Type 0
-PinMap = HashMap (Bor (List ℕ)) Pin (BuildHasherDefault FoldHasher)
+PinMap = HashMap (Bor (List ℕ)) Pin (BuildHasherDefault NameHasher)
 
 abbrev pub pin_at : PinMap → List ℕ → Option Pin
 pin_at pins name = get_by (λ key. bytes_eq name key.now) pins

@@ -2,13 +2,13 @@
 use Rattle.std.specs.Prelude.{◌≡◌, ℕ, ◌*◌, ◌^◌, ◌≤◌, List, [], ◌∷◌, ◌++◌, map, Option, Some, None, IfSome, IsSome, ℤ, pos, Bool, true, false, not, ◌||◌, if◌then◌else◌}
 use Rattle.std.specs.List.{cons_option, list_any}
 use Rattle.std.specs.Str.{bytes_eq}
-use Rattle.std.specs.declared.hash.FoldHasher.{FoldHasher}
 use Rattle.std.specs.declared.hash.BuildHasherDefault.{BuildHasherDefault}
 use Rattle.std.specs.HashSet.{contains_by, HashSet}
 use Rattle.std.specs.Borrow.{Bor}
 use Rattle.delay_units.specs.declared.quantities.Femto.{Femto}
 use Rattle.delay_units.specs.Rounding.{IsRounding}
 use Rattle.sdf_writer.specs.SdfText.{WireRow, SdfRows}
+use Rattle.gdc.specs.declared.name_hash.NameHasher.{NameHasher}
 use Rattle.gdc.specs.declared.star_net.Pin.{Pin}
 use Rattle.gdc.specs.declared.star_net.Star.{Star}
 use Rattle.gdc.specs.StarText.{StarEntry, Net, Driver, Sink, Capacitor, Resistor}
@@ -61,7 +61,7 @@ IsBoundedAt star (Resistor from to value) = Unit {0}
 
 -- the names of the nets so far
 abbrev pub NameSet : Type 0
-NameSet = HashSet (Bor (List ℕ)) (BuildHasherDefault FoldHasher)
+NameSet = HashSet (Bor (List ℕ)) (BuildHasherDefault NameHasher)
 
 abbrev pub has_name : NameSet → List ℕ → Bool
 has_name names name = contains_by (λ key. bytes_eq name key.now) names

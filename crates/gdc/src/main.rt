@@ -10,6 +10,7 @@ ghost use Rattle.std.specs.Prelude.{◌≡◌, ◌<◌};
 mod command_line;
 mod laws;
 mod lines;
+mod name_hash;
 mod outcome;
 mod refusal;
 mod star_net;

@@ -9,6 +9,7 @@ ghost use Rattle.gdc.specs.StarPins.{pin_at, with_farads, with_ohms, AddsEach, H
 ghost use Rattle.gdc.specs.StarText.{StarEntry};
 ghost use Rattle.gdc.specs.StarOf.{IsStarOf};
 
+use crate::name_hash::NameHash;
 use crate::star_text::entry::Entry;
 use crate::star_text::span::Span;
 use edge_io::OutOfMemory;
@@ -32,7 +33,7 @@ pub struct Pin {
 }
 
 /// Puts a capacitance at the pin of that name. The answer is whether there is one.
-fn add_farads(pins: &mut HashMap<&[u8], Pin>, name: &[u8], grains: u64) -> bool
+fn add_farads(pins: &mut HashMap<&[u8], Pin, NameHash>, name: &[u8], grains: u64) -> bool
     requires { IfSome (pin_at pins.old name.now) (λ pin. pin.farads + grains < 2 ^ 64) }
     ensures found { result ≡ is_some (pin_at pins.old name.now) }
     ensures adds { AddsEach pins.old pins.new name.now (with_farads grains) }
@@ -47,7 +48,7 @@ fn add_farads(pins: &mut HashMap<&[u8], Pin>, name: &[u8], grains: u64) -> bool
 }
 
 /// Joins the pin of that name to the driver by a resistor. The answer is whether it is a sink.
-fn add_ohms(pins: &mut HashMap<&[u8], Pin>, name: &[u8], grains: u64) -> bool
+fn add_ohms(pins: &mut HashMap<&[u8], Pin, NameHash>, name: &[u8], grains: u64) -> bool
     requires ohms { IfSome (pin_at pins.old name.now) (λ pin. pin.ohms + grains < 2 ^ 128) }
     requires resistors { IfSome (pin_at pins.old name.now) (λ pin. pin.resistors + 1 < 2 ^ 64) }
     ensures found { result ≡ is_free_sink (pin_at pins.old name.now) }
@@ -65,7 +66,7 @@ fn add_ohms(pins: &mut HashMap<&[u8], Pin>, name: &[u8], grains: u64) -> bool
 
 /// Puts what an entry says at the pins. The answer is whether the entry is where a star round the
 /// driver has it.
-fn add(pins: &mut HashMap<&[u8], Pin>, driver: &[u8], bytes: &[u8], entry: &Entry) -> bool
+fn add(pins: &mut HashMap<&[u8], Pin, NameHash>, driver: &[u8], bytes: &[u8], entry: &Entry) -> bool
     requires within { IsWithin (entry_of bytes.now entry.now) }
     requires room { (node : List ℕ) → IfSome (pin_at pins.old node) HasRoom }
     ensures placed { result ≡ is_added driver.now pins.old (entry_of bytes.now entry.now) }
@@ -88,7 +89,12 @@ fn add(pins: &mut HashMap<&[u8], Pin>, driver: &[u8], bytes: &[u8], entry: &Entr
 
 /// Puts what all entries of a net say at its pins, which have nothing yet. The answer is whether each
 /// entry is where a star round the driver has it.
-fn gather(pins: &mut HashMap<&[u8], Pin>, driver: &[u8], bytes: &[u8], net: &[Entry]) -> bool
+fn gather(
+    pins: &mut HashMap<&[u8], Pin, NameHash>,
+    driver: &[u8],
+    bytes: &[u8],
+    net: &[Entry],
+) -> bool
     requires within { All IsWithin (map (entry_of bytes.now) net.now) }
     requires few { length net.now ≤ 2 ^ 20 }
     requires bare { Gathers pins.old (map (entry_of bytes.now) net.now) [] }
@@ -106,7 +112,7 @@ fn gather(pins: &mut HashMap<&[u8], Pin>, driver: &[u8], bytes: &[u8], net: &[En
 
 /// Puts a pin with nothing at it among the pins. The answer is whether its name is new.
 fn put_pin<'a>(
-    pins: &mut HashMap<&'a [u8], Pin>,
+    pins: &mut HashMap<&'a [u8], Pin, NameHash>,
     name: &'a [u8],
     drives: bool,
 ) -> Result<bool, OutOfMemory>
@@ -127,7 +133,7 @@ fn put_pin<'a>(
 /// Puts the pin of an entry among the pins, with nothing at it yet. The answer is whether its name is
 /// new; an entry that is no pin changes nothing.
 fn add_pin<'a>(
-    pins: &mut HashMap<&'a [u8], Pin>,
+    pins: &mut HashMap<&'a [u8], Pin, NameHash>,
     bytes: &'a [u8],
     entry: &Entry,
 ) -> Result<bool, OutOfMemory>
@@ -147,10 +153,10 @@ fn bare_pins<'a>(
     alloc: Global,
     bytes: &'a [u8],
     net: &[Entry],
-) -> Result<Option<HashMap<&'a [u8], Pin>>, OutOfMemory>
+) -> Result<Option<HashMap<&'a [u8], Pin, NameHash>>, OutOfMemory>
     ensures { IfOk result (λ found. ArePins (map (entry_of bytes.now) net.now) found) }
 {
-    let mut pins = HashMap::new(alloc);
+    let mut pins = HashMap::with_hasher(alloc, NameHash::default());
     for entry in net {
         if !add_pin(&mut pins, bytes, entry)? {
             return Ok(None);
@@ -209,7 +215,7 @@ fn is_small(net: &[Entry]) -> bool
 }
 
 /// Whether an entry is joined to the driver by exactly one resistor, where it is a sink.
-fn is_joined(pins: &HashMap<&[u8], Pin>, bytes: &[u8], entry: &Entry) -> bool
+fn is_joined(pins: &HashMap<&[u8], Pin, NameHash>, bytes: &[u8], entry: &Entry) -> bool
     ensures { (entries : List StarEntry) → Gathers pins.now entries entries
         → StandsAmong entries (entry_of bytes.now entry.now)
         → result ≡ is_joined entries (entry_of bytes.now entry.now) }
@@ -224,7 +230,7 @@ fn is_joined(pins: &HashMap<&[u8], Pin>, bytes: &[u8], entry: &Entry) -> bool
 }
 
 /// Whether exactly one resistor leads to the pin of that name.
-fn is_joined_once(pins: &HashMap<&[u8], Pin>, name: &[u8]) -> bool
+fn is_joined_once(pins: &HashMap<&[u8], Pin, NameHash>, name: &[u8]) -> bool
     ensures { result ≡ is_joined_once (pin_at pins.now name.now) }
 {
     match pins.get(name) {
@@ -234,7 +240,7 @@ fn is_joined_once(pins: &HashMap<&[u8], Pin>, name: &[u8]) -> bool
 }
 
 /// Whether each sink of a net is joined to the driver by exactly one resistor.
-fn all_joined(pins: &HashMap<&[u8], Pin>, bytes: &[u8], net: &[Entry]) -> bool
+fn all_joined(pins: &HashMap<&[u8], Pin, NameHash>, bytes: &[u8], net: &[Entry]) -> bool
     requires { Gathers pins.now (map (entry_of bytes.now) net.now) (map (entry_of bytes.now) net.now) }
     ensures { result ≡ list_all (is_joined (map (entry_of bytes.now) net.now)) (map (entry_of bytes.now) net.now) }
 {
@@ -250,7 +256,7 @@ fn all_joined(pins: &HashMap<&[u8], Pin>, bytes: &[u8], net: &[Entry]) -> bool
 #[derive(Drop)]
 pub struct Star<'a> {
     pub driver: &'a [u8],
-    pub pins: HashMap<&'a [u8], Pin>,
+    pub pins: HashMap<&'a [u8], Pin, NameHash>,
 }
 
 /// The star of a net, or `None` where the net breaks a rule of the star.

@@ -12,6 +12,7 @@ ghost use Rattle.gdc.specs.StarWires.{StarWires, sdf_name};
 ghost use Rattle.gdc.specs.StarParts.{begins_net, net_length};
 ghost use Rattle.gdc.specs.StarRowParts.{IsBounded, IsPinDelay, AddsRow, AddsRows, IsBoundedAt, entry_wires, PutsName, DrawsNet, DrawsEntry, RefusesWord};
 
+use crate::name_hash::NameHash;
 use crate::refusal::Refusal;
 use crate::star_net::{Pin, Star, star_of};
 use crate::star_text::entry::{Entry, StarText};
@@ -164,7 +165,10 @@ fn net_length(rest: &[Entry]) -> usize
 }
 
 /// Puts a net's name among those that stand. The answer is whether it is new.
-fn add_name<'a>(names: &mut HashSet<&'a [u8]>, name: &'a [u8]) -> Result<bool, OutOfMemory>
+fn add_name<'a>(
+    names: &mut HashSet<&'a [u8], NameHash>,
+    name: &'a [u8],
+) -> Result<bool, OutOfMemory>
     ensures { IfOk result (λ is_new. PutsName names.old names.new name.now is_new) }
 {
     match names.insert(name) {
@@ -179,7 +183,7 @@ fn add_net<'a>(
     alloc: Global,
     rows: &mut Rows<Single>,
     delay: &mut Grid<Single, Femto>,
-    names: &mut HashSet<&'a [u8]>,
+    names: &mut HashSet<&'a [u8], NameHash>,
     bytes: &'a [u8],
     name: Span,
     net: &[Entry],
@@ -207,7 +211,7 @@ fn draw_net<'a>(
     alloc: Global,
     rows: &mut Rows<Single>,
     delay: &mut Grid<Single, Femto>,
-    names: &mut HashSet<&'a [u8]>,
+    names: &mut HashSet<&'a [u8], NameHash>,
     bytes: &'a [u8],
     first: &Entry,
     net: &[Entry],
@@ -246,7 +250,7 @@ fn draw(
     ensures broken { IfOk result (λ name. option_map (cut bytes.now) name ≡ first_broken [] (nets_of (map (entry_of bytes.now) entries.now))) }
     ensures rows { IfOk result (λ name. IfNone name (AddsRows rows.old rows.new (star_wires (nets_of (map (entry_of bytes.now) entries.now))))) }
 {
-    let mut names = HashSet::new(alloc);
+    let mut names = HashSet::with_hasher(alloc, NameHash::default());
     let mut rest = entries;
     while let [first, after @ ..] = rest {
         let (net, others) = after.split_at(net_length(after));

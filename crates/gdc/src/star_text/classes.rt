@@ -1,5 +1,5 @@
 //! Classes of bytes and of tokens.
-ghost use Rattle.std.specs.Prelude.{◌≡◌, count_by};
+ghost use Rattle.std.specs.Prelude.{◌≡◌, ◌&&◌, count_by, nat_le};
 ghost use Rattle.std.specs.List.{list_all};
 ghost use Rattle.gdc.specs.StarBytes.{is_blank};
 ghost use Rattle.gdc.specs.StarText.{begins_name, is_digit, is_colon, goes_on_name, is_name, is_id};
@@ -23,22 +23,39 @@ fn is_digit(byte: u8) -> bool
     matches!(byte, b'0'..=b'9')
 }
 
+// Each byte that a name goes on with stands at its own place, and a comma at every other place. A look-up
+// takes no branch, where the tests of the ranges would take one that cannot be foretold.
+static NAME_BYTES: [u8; 256] = *b"\
+    ,,,,,,,,,,,,,,,,,,,,,,,,,,,,,,,,\
+    ,,,,,,,,,,,,,,,/0123456789:,,,,,\
+    ,ABCDEFGHIJKLMNOPQRSTUVWXYZ,,,,_\
+    ,abcdefghijklmnopqrstuvwxyz,,,,,\
+    ,,,,,,,,,,,,,,,,,,,,,,,,,,,,,,,,\
+    ,,,,,,,,,,,,,,,,,,,,,,,,,,,,,,,,\
+    ,,,,,,,,,,,,,,,,,,,,,,,,,,,,,,,,\
+    ,,,,,,,,,,,,,,,,,,,,,,,,,,,,,,,,";
+
+#[inline]
 fn goes_on_name(byte: u8) -> bool
     ensures { result ≡ goes_on_name byte }
 {
-    matches!(byte, b'a'..=b'z' | b'A'..=b'Z' | b'_' | b'0'..=b'9' | b'/' | b':')
+    NAME_BYTES[byte as usize] != b','
 }
 
+/// Whether all bytes may stand behind the first of a name, with at most one colon. It is one pass that no
+/// byte ends early, as nearly every token of which it is asked is a name.
 fn goes_on_as_name(rest: &[u8]) -> bool
-    ensures { result ≡ list_all goes_on_name rest.now }
+    ensures { result ≡ (list_all goes_on_name rest.now && nat_le (count_by is_colon rest.now) 1) }
 {
-    rest.iter().all(|byte| goes_on_name(*byte))
-}
-
-fn colons(rest: &[u8]) -> usize
-    ensures { result ≡ count_by is_colon rest.now }
-{
-    rest.iter().filter(|byte| **byte == b':').count()
+    let mut fits = true;
+    let mut colons = 0usize;
+    for byte in rest {
+        fits = fits & goes_on_name(*byte);
+        if *byte == b':' {
+            colons += 1;
+        }
+    }
+    fits && colons <= 1
 }
 
 fn is_all_digits(token: &[u8]) -> bool
@@ -53,7 +70,7 @@ pub fn is_name(token: &[u8]) -> bool
 {
     match token {
         [] => false,
-        [first, rest @ ..] => begins_name(*first) && goes_on_as_name(rest) && colons(rest) <= 1,
+        [first, rest @ ..] => begins_name(*first) && goes_on_as_name(rest),
     }
 }
 

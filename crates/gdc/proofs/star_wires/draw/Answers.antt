@@ -4,7 +4,7 @@ use Rattle.gdc.proofs.Drawing.{after_first, first_and_after, none_of, drawn_none
 use Rattle.gdc.proofs.star_wires.draw.Goals as goal
 
 pub loop-rest-init : goal.loop-rest-init
-loop-rest-init c = (c.requires.one_row, c.requires.within, drawn_none c.args.bytes.now c.args.entries.now c.new-names.result c.args.rows.now c.new-names.ensures.empty)
+loop-rest-init c = (c.requires.one_row, c.requires.within, drawn_none c.args.bytes.now c.args.entries.now c.with_hasher-names.result c.args.rows.now c.with_hasher-names.ensures.empty)
 
 pub draw_net-requires-clause-within : goal.draw_net-requires-clause-within
 draw_net-requires-clause-within c =
