@@ -1,0 +1,5 @@
+pub mod Cutting
+pub mod Keys
+pub mod Reading
+pub mod Spelling
+pub mod Writing

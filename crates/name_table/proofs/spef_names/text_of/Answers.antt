@@ -1,0 +1,34 @@
+use Rattle.std.proofs.Common.{◌∙◌, [], ◌∷◌, sym, take, get_or}
+use Rattle.std.proofs.lemmas.List.{map-append}
+use Rattle.name_table.specs.Characters.{bare, escaped, characters}
+use Rattle.name_table.specs.SpefNames.{byte_of}
+use Rattle.name_table.proofs.Reading.{read_escaped, read_slash, read_bare, leaves_escape, enters_escape, stays_outside}
+use Rattle.name_table.proofs.spef_names.text_of.Goals as goal
+use Rattle.name_table.proofs.spef_names.text_of.Goals.{then-is_taken+in_ok-push, else-is_taken+then-byte-eq92, else-is_taken+else-byte-eq92+in_ok-push-2}
+
+-- src/spef_names.rt
+pub loop-byte-preserved : goal.loop-byte-preserved
+loop-byte-preserved c =
+    let word = c.args.word.now in
+    let place = c.loop-byte.byte-index in
+    let more = map-append (byte_of c.args.marks.now) (characters (take place word)) in
+    elim c.if-is_taken.branch [
+      | then-is_taken+in_ok-push w ↦
+          let inside = sym c.loop-byte.invariant.within ∙ w.if-is_taken.true in
+          let read = read_escaped word place c.loop-byte-test.true inside in
+          let pushed = more (escaped (get_or word place 0) ∷ []) in
+          let ok = w.in_ok-push.ensures.ok in
+          record { so_far = cc; within = w.is_taken-is ∙ sym (leaves_escape word place c.loop-byte-test.true inside) }
+      | else-is_taken+then-byte-eq92 w ↦
+          let outside = sym c.loop-byte.invariant.within ∙ w.if-is_taken.false in
+          let read = read_slash word place c.loop-byte-test.true outside w.if-byte-eq92.true in
+          record { so_far = cc; within = w.is_taken-is ∙ sym (enters_escape word place c.loop-byte-test.true outside w.if-byte-eq92.true) }
+      | else-is_taken+else-byte-eq92+in_ok-push-2 w ↦
+          let outside = sym c.loop-byte.invariant.within ∙ w.if-is_taken.false in
+          let read = read_bare word place c.loop-byte-test.true outside w.if-byte-eq92.false in
+          let pushed = more (bare (get_or word place 0) ∷ []) in
+          let ok = w.in_ok-push-2.ensures.ok in
+          let meant = w.meaning.ensures in
+          let or = w.unwrap_or.ensures in
+          record { so_far = cc; within = w.is_taken-is ∙ w.if-is_taken.false ∙ sym (stays_outside word place c.loop-byte-test.true outside w.if-byte-eq92.false) }
+    ]

@@ -1,0 +1,5 @@
+pub mod Characters
+pub mod Names
+pub mod SdfNames
+pub mod SpefNames
+pub mod WellSpelled

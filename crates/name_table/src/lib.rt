@@ -1,0 +1,17 @@
+//! Names: numbered texts, and how a name is spelled in SPEF (IEEE 1481-1999) and in SDF (IEEE 1497-2001).
+//! A table gives each text one number. A name of SPEF becomes the text that it stands for and its spelling
+//! in SDF; a name that is read from SDF becomes its canonical spelling.
+#![tactic(auto)]
+
+mod laws;
+mod names;
+mod sdf_names;
+mod spef_names;
+
+pub use laws::{one_cut, one_reading, well_spelled_stays};
+pub use names::{NameId, Names};
+pub use sdf_names::{canonical_sdf, escape_sdf};
+pub use spef_names::{NodeName, SpefMarks, read_spef_node};
+
+#[cfg(test)]
+mod tests;

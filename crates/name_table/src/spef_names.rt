@@ -1,0 +1,181 @@
+//! Names of SPEF (IEEE 1481-1999).
+ghost use Rattle.std.specs.Prelude.{◌≡◌, ◌+◌, ◌<◌, ◌++◌, ◌∷◌, Bool, ℕ, List, Option, Some, None, take, drop, length, IfOk, IfSome, IfNone, OnOk, OnErr};
+ghost use Rattle.name_table.specs.Characters.{bare, characters};
+ghost use Rattle.name_table.specs.SdfNames.{slash, canonical};
+ghost use Rattle.name_table.specs.SpefNames.{sdf_of, meaning, text_of, spelling_of, cut_last, halves_at, whole_node, cut_node, node_name, joined};
+
+use crate::sdf_names::{push, push_spelled};
+use edge_io::{OutOfMemory, Text};
+use std::alloc::Global;
+
+/// The marks of a SPEF file: what divides the parts of a path, what stands between a node's name and its
+/// pin, and what stands round the number of a bit. Where marks are one byte the divider counts, then the
+/// left one.
+#[derive(Clone, Copy, Debug, PartialEq, Eq)]
+pub struct SpefMarks {
+    pub divider: u8,
+    pub delimiter: u8,
+    pub left: u8,
+    pub right: u8,
+}
+
+/// A node's name: what stands before its last delimiter and after it, or the whole of it as a head alone;
+/// and its spelling in SDF, in which head and tail are joined by `/`.
+#[derive(Debug, Drop)]
+pub struct NodeName {
+    pub head: Text,
+    pub tail: Option<Text>,
+    pub sdf: Text,
+}
+
+/// Reads a name. A backslash makes the next byte literal; an unescaped divider is `/`, and unescaped bus
+/// delimiters are `[` and `]`. Where `cut` asks for it the name is cut at its last unescaped delimiter, if
+/// it has one. A backslash at the very end stands for nothing.
+pub fn read_spef_node(
+    alloc: Global,
+    word: &[u8],
+    cut: bool,
+    marks: &SpefMarks,
+) -> Result<NodeName, OutOfMemory>
+    ensures named { IfOk result (λ node. node ≡ node_name marks.now cut word.now) }
+    ensures joined { IfOk result (λ node. joined marks.now node.head node.tail ≡ text_of marks.now (characters word.now)) }
+    ensures settled { IfOk result (λ node. canonical slash node.sdf ≡ node.sdf) }
+{
+    match last_delimiter(word, cut, marks.delimiter) {
+        None => whole_node(alloc, word, marks),
+        Some(place) => cut_node(alloc, &word[..place], &word[place + 1..], marks),
+    }
+}
+
+// A name that is not cut.
+fn whole_node(alloc: Global, word: &[u8], marks: &SpefMarks) -> Result<NodeName, OutOfMemory>
+    ensures { IfOk result (λ node. node ≡ whole_node marks.now (characters word.now)) }
+{
+    let head = text_of(alloc, word, marks)?;
+    let mut sdf = Vec::with_capacity(alloc, word.len())?;
+    push_spelling(&mut sdf, word, marks)?;
+    let sdf = Text::from_bytes(alloc, sdf.as_slice())?;
+    Ok(NodeName {
+        head,
+        tail: None,
+        sdf,
+    })
+}
+
+// A name that is cut into these two.
+fn cut_node(
+    alloc: Global,
+    front: &[u8],
+    back: &[u8],
+    marks: &SpefMarks,
+) -> Result<NodeName, OutOfMemory>
+    ensures { IfOk result (λ node. node ≡ cut_node marks.now (characters front.now) (characters back.now)) }
+{
+    let head = text_of(alloc, front, marks)?;
+    let tail = text_of(alloc, back, marks)?;
+    let mut sdf = Vec::with_capacity(alloc, front.len())?;
+    push_spelling(&mut sdf, front, marks)?;
+    push(&mut sdf, b'/')?;
+    push_spelling(&mut sdf, back, marks)?;
+    let sdf = Text::from_bytes(alloc, sdf.as_slice())?;
+    Ok(NodeName {
+        head,
+        tail: Some(tail),
+        sdf,
+    })
+}
+
+// The place of the last unescaped delimiter, where the name is to be cut and has one.
+fn last_delimiter(word: &[u8], cut: bool, delimiter: u8) -> Option<usize>
+    ensures none { IfNone result (halves_at delimiter cut (characters word.now) ≡ None) }
+    ensures within { IfSome result (λ place. place < length word.now) }
+    ensures some { IfSome result (λ place. halves_at delimiter cut (characters word.now) ≡ Some (record { front = characters (take place word.now); back = characters (drop (place + 1) word.now) })) }
+{
+    if cut {
+        last_unescaped(word, delimiter)
+    } else {
+        None
+    }
+}
+
+// The place of the last unescaped delimiter, if there is one.
+fn last_unescaped(word: &[u8], delimiter: u8) -> Option<usize>
+    ensures none { IfNone result (cut_last delimiter (characters word.now) ≡ None) }
+    ensures within { IfSome result (λ place. place < length word.now) }
+    ensures some { IfSome result (λ place. cut_last delimiter (characters word.now) ≡ Some (record { front = characters (take place word.now); back = characters (drop (place + 1) word.now) })) }
+{
+    let mut last = None;
+    let mut is_taken = false;
+    for (place, &byte) in word.iter().enumerate() {
+        if is_taken {
+            is_taken = false;
+        } else if byte == b'\\' {
+            is_taken = true;
+        } else if byte == delimiter {
+            last = Some(place);
+        }
+    }
+    last
+}
+
+// The text that a name stands for.
+fn text_of(alloc: Global, word: &[u8], marks: &SpefMarks) -> Result<Text, OutOfMemory>
+    ensures { IfOk result (λ text. text ≡ text_of marks.now (characters word.now)) }
+{
+    let mut text = Vec::with_capacity(alloc, word.len())?;
+    let mut is_taken = false;
+    for &byte in word {
+        if is_taken {
+            push(&mut text, byte)?;
+            is_taken = false;
+        } else if byte == b'\\' {
+            is_taken = true;
+        } else {
+            push(&mut text, meaning(marks, byte).unwrap_or(byte))?;
+        }
+    }
+    Text::from_bytes(alloc, text.as_slice())
+}
+
+// Puts the spelling of a name in SDF at the end.
+fn push_spelling(sdf: &mut Vec<u8>, word: &[u8], marks: &SpefMarks) -> Result<(), OutOfMemory>
+    ensures { OnOk result (sdf.new.items ≡ sdf.old.items ++ spelling_of marks.now (characters word.now)) }
+{
+    let mut is_taken = false;
+    for &byte in word {
+        if is_taken {
+            push_spelled(sdf, byte)?;
+            is_taken = false;
+        } else if byte == b'\\' {
+            is_taken = true;
+        } else {
+            push_mark_or_spelled(sdf, byte, marks)?;
+        }
+    }
+    Ok(())
+}
+
+// Puts the spelling of a byte without a backslash at the end.
+fn push_mark_or_spelled(sdf: &mut Vec<u8>, byte: u8, marks: &SpefMarks) -> Result<(), OutOfMemory>
+    ensures { OnOk result (sdf.new.items ≡ sdf.old.items ++ sdf_of marks.now (bare byte)) }
+{
+    match meaning(marks, byte) {
+        Some(mark) => push(sdf, mark),
+        None => push_spelled(sdf, byte),
+    }
+}
+
+// What an unescaped mark stands for.
+fn meaning(marks: &SpefMarks, byte: u8) -> Option<u8>
+    ensures { result ≡ meaning marks.now byte }
+{
+    if byte == marks.divider {
+        Some(b'/')
+    } else if byte == marks.left {
+        Some(b'[')
+    } else if byte == marks.right {
+        Some(b']')
+    } else {
+        None
+    }
+}
