@@ -1,0 +1,12 @@
+pub mod Classes
+pub mod Cuts
+pub mod LiteralPlaces
+pub mod Spans
+pub mod Tokens
+pub mod Entries
+pub mod Grammar
+pub mod Modes
+pub mod SectionTable
+pub mod ReaderStates
+pub mod SpefFiles
+pub mod TokenTexts

@@ -1,0 +1,241 @@
+//! The classes of one token: what it may stand for. A broken token is in none.
+ghost use Rattle.std.specs.Prelude.{◌≡◌, ◌+◌, ◌^◌, ◌<◌, ◌≤◌, not, ◌&&◌, length, drop, position, bytes_eq};
+ghost use Rattle.std.specs.List.{list_all, prefix_len};
+ghost use Rattle.std.specs.Char.{is_ascii_digit};
+ghost use Rattle.delay_units.specs.Literal.{without_leading_zeros};
+ghost use Rattle.spef_text.specs.Tokens.{is_broken, is_nothing};
+ghost use Rattle.spef_text.specs.Classes.{is_other, is_loose, marks, is_mark, is_two_marks, is_colon, is_literal, are_two_literals, is_value_parted, is_value, is_id, is_index, is_tail, is_indexed, is_name, is_map_name, is_ref, is_direction, index_digits, same_index, holds_of, is_top, is_tight, word_of};
+
+use crate::broken::is_broken;
+use crate::places::is_literal;
+use crate::words::word_of;
+
+/// A token that is no keyword of the head, as what stands behind `*DATE`.
+#[tactic(auto, unfolding(crate::specs::Classes::is_other))]
+pub fn is_other(text: &[u8]) -> bool
+    ensures { result ≡ is_other text.now }
+{
+    !is_broken(text) && !is_top_text(text)
+}
+
+fn is_top_text(text: &[u8]) -> bool
+    ensures { result ≡ holds_of is_top (word_of text.now) }
+{
+    match word_of(text) {
+        None => false,
+        Some(word) => word.is_top(),
+    }
+}
+
+/// A token that may stand in a connection behind what is read of it.
+#[tactic(auto, unfolding(crate::specs::Classes::is_loose))]
+pub fn is_loose(text: &[u8]) -> bool
+    ensures { result ≡ is_loose text.now }
+{
+    !is_broken(text) && !is_tight_text(text)
+}
+
+fn is_tight_text(text: &[u8]) -> bool
+    ensures { result ≡ holds_of is_tight (word_of text.now) }
+{
+    match word_of(text) {
+        None => false,
+        Some(word) => word.is_tight(),
+    }
+}
+
+/// A byte from 33 to 126 that is no letter, digit, `_`, `"`, `*` or backslash.
+fn marks(byte: u8) -> bool
+    ensures { result ≡ marks byte }
+{
+    33 <= byte
+        && byte <= 126
+        && !(byte.is_ascii_alphanumeric()
+            || byte == b'_'
+            || byte == b'"'
+            || byte == b'*'
+            || byte == b'\\')
+}
+
+/// A divider, a delimiter or a bus delimiter.
+#[tactic(auto, unfolding(crate::specs::Classes::is_mark))]
+pub fn is_mark(text: &[u8]) -> bool
+    ensures { result ≡ is_mark text.now }
+{
+    match text {
+        [byte] => marks(*byte),
+        _ => false,
+    }
+}
+
+/// Two bus delimiters in one token.
+#[tactic(auto, unfolding(crate::specs::Classes::is_two_marks))]
+pub fn is_two_marks(text: &[u8]) -> bool
+    ensures { result ≡ is_two_marks text.now }
+{
+    match text {
+        [left, right] => marks(*left) && marks(*right),
+        _ => false,
+    }
+}
+
+fn colon_place(text: &[u8]) -> Option<usize>
+    ensures { result ≡ position is_colon text.now }
+{
+    text.iter().position(|byte| *byte == b':')
+}
+
+fn are_two_literals(text: &[u8]) -> bool
+    ensures { result ≡ are_two_literals text.now (position is_colon text.now) }
+{
+    match colon_place(text) {
+        None => false,
+        Some(colon) => {
+            let (first, rest) = text.split_at(colon);
+            is_literal(first) && is_literal(rest.split_at(1).1)
+        }
+    }
+}
+
+/// A literal, or three with colons between them.
+#[tactic(auto, unfolding(crate::specs::Classes::is_value))]
+pub fn is_value(text: &[u8]) -> bool
+    ensures { result ≡ is_value text.now }
+{
+    match colon_place(text) {
+        None => is_literal(text),
+        Some(colon) => {
+            let (first, rest) = text.split_at(colon);
+            is_literal(first) && are_two_literals(rest.split_at(1).1)
+        }
+    }
+}
+
+fn are_digits(text: &[u8]) -> bool
+    ensures { result ≡ list_all is_ascii_digit text.now }
+{
+    text.iter().all(|byte| byte.is_ascii_digit())
+}
+
+/// The number of a capacitance or a resistance: one or more digits.
+#[tactic(auto, unfolding(crate::specs::Classes::is_id))]
+pub fn is_id(text: &[u8]) -> bool
+    ensures { result ≡ is_id text.now }
+{
+    !text.is_empty() && are_digits(text)
+}
+
+/// The index of a name: `*` and digits.
+#[tactic(auto, unfolding(crate::specs::Classes::is_index))]
+pub fn is_index(text: &[u8]) -> bool
+    ensures { result ≡ is_index text.now }
+{
+    match text {
+        [] => false,
+        [first, rest @ ..] => *first == b'*' && is_id(rest),
+    }
+}
+
+/// What may follow the digits of an index: nothing, or the delimiter and at least one byte.
+fn is_tail(delimiter: u8, text: &[u8]) -> bool
+    ensures { result ≡ is_tail delimiter text.now }
+{
+    match text {
+        [] => true,
+        [first, rest @ ..] => *first == delimiter && !rest.is_empty(),
+    }
+}
+
+/// How many digits the text begins with.
+fn digits_in_front(text: &[u8]) -> usize
+    ensures value { result ≡ prefix_len is_ascii_digit text.now }
+    ensures within { result ≤ length text.now }
+{
+    let mut count = 0;
+    while count < text.len() && text[count].is_ascii_digit() {
+        count += 1;
+    }
+    count
+}
+
+fn is_indexed(delimiter: u8, text: &[u8]) -> bool
+    ensures { result ≡ is_indexed delimiter text.now }
+{
+    let digits = digits_in_front(text);
+    0 < digits && is_tail(delimiter, text.split_at(digits).1)
+}
+
+#[tactic(auto, unfolding(crate::specs::Classes::is_name))]
+fn is_name(text: &[u8]) -> bool
+    ensures { result ≡ is_name text.now }
+{
+    match text {
+        [] => false,
+        [first, ..] => *first != b'*' && *first != b'"' && !is_broken(text),
+    }
+}
+
+/// What an index may stand for in the name map: neither `*` nor `"` begins it.
+#[tactic(auto, unfolding(crate::specs::Classes::is_map_name))]
+pub fn is_map_name(text: &[u8]) -> bool
+    ensures { result ≡ is_map_name text.now }
+{
+    is_name(text)
+}
+
+/// What names a net or a node: an index, an index with the delimiter and a tail, or a name that has not the form of a
+/// value.
+#[tactic(auto, unfolding(crate::specs::Classes::is_ref))]
+pub fn is_ref(delimiter: u8, text: &[u8]) -> bool
+    ensures { result ≡ is_ref delimiter text.now }
+{
+    match text {
+        [] => false,
+        [first, rest @ ..] => {
+            if *first == b'*' {
+                is_indexed(delimiter, rest)
+            } else {
+                is_name(text) && !is_value(text)
+            }
+        }
+    }
+}
+
+/// `I`, `O` or `B`.
+#[tactic(auto, unfolding(crate::specs::Classes::is_direction))]
+pub fn is_direction(text: &[u8]) -> bool
+    ensures { result ≡ is_direction text.now }
+{
+    match text {
+        [byte] => matches!(*byte, b'I' | b'O' | b'B'),
+        _ => false,
+    }
+}
+
+/// The digits of an index without the zeros in front: two spellings of one index have the same.
+pub fn index_digits(text: &[u8]) -> &[u8]
+    ensures { result.now ≡ index_digits text.now }
+{
+    match text {
+        [] => text,
+        [_, digits @ ..] => without_leading_zeros(digits),
+    }
+}
+
+fn without_leading_zeros(digits: &[u8]) -> &[u8]
+    ensures { result.now ≡ without_leading_zeros digits.now }
+{
+    let mut rest = digits;
+    while let [b'0', after @ ..] = rest {
+        rest = after;
+    }
+    rest
+}
+
+/// Whether two spellings are of one index.
+#[tactic(auto, unfolding(crate::specs::Classes::same_index))]
+pub fn same_index(one: &[u8], other: &[u8]) -> bool
+    ensures { result ≡ same_index one.now other.now }
+{
+    index_digits(one) == index_digits(other)
+}

@@ -1,0 +1,84 @@
+//! Reads a SPEF file, or tells at which token it is none.
+ghost use Rattle.std.specs.Prelude.{◌≡◌, ◌-◌, ◌^◌, ◌<◌, ◌≤◌, length, slice_get, IfOk, IfErr, MatchResult};
+ghost use Rattle.spef_text.specs.Spans.{texts};
+ghost use Rattle.spef_text.specs.Classes.{word_of};
+ghost use Rattle.spef_text.specs.Entries.{Reading};
+ghost use Rattle.spef_text.specs.SpefFiles.{Reads, SaysSpef, IsDead, HasForm, is_refused_word, is_refused, IsRefusalAt};
+
+use crate::file::SpefFile;
+use crate::reader::{ReadEnd, read};
+use crate::scan::scan;
+use crate::spans::Span;
+use crate::words::{Word, word_of};
+use edge_io::{OutOfMemory, Text};
+use std::alloc::Global;
+
+/// Why a file is not read. Tokens count from 1, comments and blanks left out.
+#[derive(Debug, Drop)]
+pub enum SpefEnd {
+    /// No text of the grammar begins with the tokens up to this one, or, one past the last token, the file ends too early.
+    Syntax { token: u64 },
+
+    /// The same, where the token is a word that is refused by name: `*R_NET`, `*R_PNET`, `*D_PNET`, `*DEFINE`, `*PDEFINE`
+    /// or `*INDUC`.
+    Form { word: Text, token: u64 },
+
+    /// There was no memory for what the file says.
+    OutOfMemory,
+}
+
+fn is_refused_word(word: Option<Word>) -> bool
+    ensures { result ≡ is_refused_word word }
+{
+    matches!(word, Some(Word::Refused | Word::Induc))
+}
+
+/// The refusal at the token of this number.
+fn refusal(alloc: Global, bytes: &[u8], spans: &[Span], number: u32) -> SpefEnd
+    requires { 0 < number }
+    ensures { IsRefusalAt (texts bytes.now spans.now) number result }
+{
+    let token = number as u64;
+    let Some(span) = spans.get(number as usize - 1) else {
+        return SpefEnd::Syntax { token };
+    };
+    let text = span.of(bytes);
+    if !is_refused_word(word_of(text)) {
+        return SpefEnd::Syntax { token };
+    }
+    match Text::from_bytes(alloc, text) {
+        Ok(word) => SpefEnd::Form { word, token },
+        Err(_) => SpefEnd::OutOfMemory,
+    }
+}
+
+/// Reads the bytes of a SPEF file (IEEE 1481), in one pass over the bytes and one over the tokens.
+///
+/// `Syntax` and `Form` come exactly where the bytes are no text of the grammar; their token is the first with which no text
+/// of the grammar begins.
+pub fn parse(alloc: Global, bytes: &[u8]) -> Result<SpefFile<'_>, SpefEnd>
+    requires { length bytes.now < 2 ^ 30 }
+    // What is answered is what the bytes say.
+    ensures ok { IfOk result (Reads bytes.now) }
+    // A refusal's token is the one with which the bytes leave the grammar, and they say nothing.
+    ensures dead { IfErr result (IsDead bytes.now) }
+    // It is `Form`, with the word, exactly where that token is a refused word.
+    ensures form { IfErr result (HasForm bytes.now) }
+    // What the bytes say is answered, unless memory ran out.
+    ensures only { (reading : Reading) → SaysSpef bytes.now reading → MatchResult result (λ file. file.reading ≡ reading) (λ end. end ≡ SpefEnd.OutOfMemory) }
+{
+    let spans = match scan(alloc, bytes) {
+        Ok(spans) => spans,
+        Err(_) => return Err(SpefEnd::OutOfMemory),
+    };
+    match read(alloc, bytes, spans.as_slice()) {
+        Ok(reader) => Ok(SpefFile {
+            bytes,
+            spans,
+            head: reader.head,
+            sections: reader.sections,
+        }),
+        Err(ReadEnd::Refused(number)) => Err(refusal(alloc, bytes, spans.as_slice(), number)),
+        Err(ReadEnd::OutOfMemory) => Err(SpefEnd::OutOfMemory),
+    }
+}

@@ -1,0 +1,179 @@
+//! Parts a file's bytes into tokens.
+ghost use Rattle.std.specs.Prelude.{◌≡◌, ◌+◌, ◌^◌, ◌<◌, ◌≤◌, [], ◌∷◌, ◌++◌, length, position, IfOk, OnOk};
+ghost use Rattle.spef_text.specs.Spans.{texts};
+ghost use Rattle.spef_text.specs.Tokens.{is_blank, ends_text, text_cut, comment_end, comment_cut, line_length, run_length, begins_with, cut_at, AreTokens};
+ghost use Rattle.spef_text.specs.Cuts.{IsWithin};
+
+use crate::spans::Span;
+use edge_io::OutOfMemory;
+use memchr::{memchr, memchr2, memmem};
+use std::alloc::Global;
+
+/// What stands at the front of some bytes: so many that are passed over, a token of so many, or a token that is broken,
+/// which takes them all.
+#[derive(Clone, Copy, PartialEq, Eq, Debug)]
+pub enum Cut {
+    Skip(usize),
+    Take(usize),
+    Broken,
+}
+
+#[inline]
+fn is_blank(byte: u8) -> bool
+    ensures { result ≡ is_blank byte }
+{
+    matches!(byte, 9..=13 | b' ')
+}
+
+/// Behind a quote: a text to the next quote of the line, or an open one.
+fn text_cut(rest: &[u8]) -> Cut
+    requires { length rest.now < 2 ^ 32 }
+    ensures { result ≡ text_cut rest.now (position ends_text rest.now) }
+{
+    match memchr2(b'"', b'\n', rest) {
+        Some(place) if rest[place] == b'"' => Cut::Take(place + 2),
+        _ => Cut::Broken,
+    }
+}
+
+/// Behind the first slash of a comment to the end of the line: how many bytes it has.
+fn line_length(rest: &[u8]) -> usize
+    requires { length rest.now < 2 ^ 32 }
+    ensures { result ≡ line_length rest.now }
+{
+    match memchr(b'\n', rest) {
+        Some(place) => place + 1,
+        None => rest.len() + 1,
+    }
+}
+
+/// Behind the `/*` of a comment.
+fn comment_cut(rest: &[u8]) -> Cut
+    requires { length rest.now < 2 ^ 32 }
+    ensures { result ≡ comment_cut (comment_end rest.now) }
+{
+    match memmem::find(rest, b"*/") {
+        Some(place) => Cut::Skip(place + 4),
+        None => Cut::Broken,
+    }
+}
+
+/// How many bytes the longest run has that holds no blank, where a backslash takes the next byte with it.
+#[inline]
+fn run_length(bytes: &[u8]) -> usize
+    ensures value { result ≡ run_length bytes.now }
+    ensures within { result ≤ length bytes.now }
+{
+    let mut place = 0;
+    while place < bytes.len() {
+        let byte = bytes[place];
+        if byte == b'\\' {
+            if bytes.len() - place == 1 {
+                break;
+            }
+            place += 2;
+        } else if is_blank(byte) {
+            break;
+        } else {
+            place += 1;
+        }
+    }
+    place
+}
+
+/// Whether the bytes begin with this one.
+#[inline]
+pub(crate) fn begins_with(byte: u8, bytes: &[u8]) -> bool
+    ensures { result ≡ begins_with byte bytes.now }
+{
+    match bytes {
+        [] => false,
+        [first, ..] => *first == byte,
+    }
+}
+
+/// Behind a slash: a comment, or a run of bytes.
+fn slash_cut(rest: &[u8]) -> Cut
+    requires { length rest.now < 2 ^ 32 }
+    ensures { result ≡ cut_at 47 rest.now }
+{
+    if begins_with(b'/', rest) {
+        Cut::Skip(line_length(rest))
+    } else if begins_with(b'*', rest) {
+        comment_cut(rest.split_at(1).1)
+    } else {
+        Cut::Take(run_length(rest) + 1)
+    }
+}
+
+/// Behind a backslash: a run of bytes, the first of which it takes with it.
+fn backslash_cut(rest: &[u8]) -> Cut
+    requires { length rest.now < 2 ^ 32 }
+    ensures { result ≡ cut_at 92 rest.now }
+{
+    if rest.is_empty() {
+        Cut::Broken
+    } else {
+        Cut::Take(run_length(rest.split_at(1).1) + 2)
+    }
+}
+
+/// What stands at the front of `first` and `rest`.
+#[inline]
+fn cut_at(first: u8, rest: &[u8]) -> Cut
+    requires { length rest.now < 2 ^ 32 }
+    ensures value { result ≡ cut_at first rest.now }
+    ensures within { IsWithin (length rest.now + 1) result }
+{
+    if is_blank(first) {
+        Cut::Skip(1)
+    } else if first == b'"' {
+        text_cut(rest)
+    } else if first == b'/' {
+        slash_cut(rest)
+    } else if first == b'\\' {
+        backslash_cut(rest)
+    } else {
+        Cut::Take(run_length(rest) + 1)
+    }
+}
+
+/// Puts a token of so many bytes behind the others.
+#[inline]
+fn push_token(spans: &mut Vec<Span>, start: usize, len: usize) -> Result<(), OutOfMemory>
+    requires { start + len < 2 ^ 32 }
+    ensures { OnOk result (spans.new.items ≡ spans.old.items ++ record { start = start; len = len } ∷ []) }
+{
+    let span = Span {
+        start: start as u32,
+        len: len as u32,
+    };
+    if spans.push(span).is_err() {
+        return Err(OutOfMemory);
+    }
+    Ok(())
+}
+
+/// The tokens of the bytes, in order: blanks and comments part them. What is broken, an open text, an open comment or a
+/// backslash at the end, is the last token and takes the rest of the bytes.
+pub fn scan(alloc: Global, bytes: &[u8]) -> Result<Vec<Span>, OutOfMemory>
+    requires { length bytes.now < 2 ^ 30 }
+    ensures { IfOk result (λ spans. AreTokens bytes.now (texts bytes.now spans.items)) }
+{
+    let mut spans = Vec::new(alloc);
+    let mut start = 0;
+    while let [first, rest @ ..] = bytes.split_at(start).1 {
+        match cut_at(*first, rest) {
+            Cut::Skip(n) => start += n,
+            Cut::Take(n) => {
+                push_token(&mut spans, start, n)?;
+                start += n;
+            }
+            Cut::Broken => {
+                push_token(&mut spans, start, bytes.len() - start)?;
+                start = bytes.len();
+            }
+        }
+    }
+    Ok(spans)
+}

@@ -1,0 +1,144 @@
+//! The keywords of SPEF.
+ghost use Rattle.std.specs.Prelude.{◌≡◌, map};
+ghost use Rattle.spef_text.specs.Classes.{word_of, lookup, is_top, is_tight, begins_as_keyword};
+
+/// What a keyword stands for in the grammar.
+#[derive(Clone, Copy, PartialEq, Eq, Debug)]
+pub enum Word {
+    /// `*SPEF`
+    Spef,
+    /// A keyword of the head that has no line of its own in the grammar, as `*DATE`.
+    Free,
+    /// `*DESIGN`, which is free too; the first token behind it is the design's name.
+    Design,
+    /// `*DIVIDER`
+    Divider,
+    /// `*DELIMITER`
+    Delimiter,
+    /// `*BUS_DELIMITER`
+    BusDelimiter,
+    /// `*C_UNIT`
+    CapUnit,
+    /// `*R_UNIT`
+    ResUnit,
+    /// `*NAME_MAP`
+    NameMap,
+    /// `*D_NET`
+    Net,
+    /// `*R_NET`, `*R_PNET`, `*D_PNET`, `*DEFINE` or `*PDEFINE`
+    Refused,
+    /// `*INDUC`, which is refused too, but is no keyword of the head.
+    Induc,
+    /// `*L`
+    Load,
+    /// `*P`
+    Port,
+    /// `*I`
+    Internal,
+    /// `*N`
+    Node,
+    /// `*CONN`
+    Conn,
+    /// `*CAP`
+    Cap,
+    /// `*RES`
+    Res,
+    /// `*END`
+    End,
+    /// `*V`, the confidence in a net's values
+    Confidence,
+}
+
+/// The keywords that the grammar tells from others, those first that stand in each net.
+const KEYWORDS: [(&[u8], Word); 35] = [
+    (b"*I", Word::Internal),
+    (b"*P", Word::Port),
+    (b"*N", Word::Node),
+    (b"*L", Word::Load),
+    (b"*V", Word::Confidence),
+    (b"*CONN", Word::Conn),
+    (b"*CAP", Word::Cap),
+    (b"*RES", Word::Res),
+    (b"*END", Word::End),
+    (b"*D_NET", Word::Net),
+    (b"*SPEF", Word::Spef),
+    (b"*DESIGN", Word::Design),
+    (b"*DATE", Word::Free),
+    (b"*VENDOR", Word::Free),
+    (b"*PROGRAM", Word::Free),
+    (b"*VERSION", Word::Free),
+    (b"*DESIGN_FLOW", Word::Free),
+    (b"*DIVIDER", Word::Divider),
+    (b"*DELIMITER", Word::Delimiter),
+    (b"*BUS_DELIMITER", Word::BusDelimiter),
+    (b"*T_UNIT", Word::Free),
+    (b"*C_UNIT", Word::CapUnit),
+    (b"*R_UNIT", Word::ResUnit),
+    (b"*L_UNIT", Word::Free),
+    (b"*NAME_MAP", Word::NameMap),
+    (b"*POWER_NETS", Word::Free),
+    (b"*GROUND_NETS", Word::Free),
+    (b"*PORTS", Word::Free),
+    (b"*PHYSICAL_PORTS", Word::Free),
+    (b"*R_NET", Word::Refused),
+    (b"*R_PNET", Word::Refused),
+    (b"*D_PNET", Word::Refused),
+    (b"*DEFINE", Word::Refused),
+    (b"*PDEFINE", Word::Refused),
+    (b"*INDUC", Word::Induc),
+];
+
+/// What stands in the table beside the text.
+fn look_up(table: &[(&[u8], Word)], text: &[u8]) -> Option<Word>
+    ensures { result ≡ lookup (map (λ k. (k.0.now, k.1)) table.now) text.now }
+{
+    for keyword in table {
+        if keyword.0 == text {
+            return Some(keyword.1);
+        }
+    }
+    None
+}
+
+/// Whether a text begins as each keyword does, with a star and a capital.
+#[inline]
+fn begins_as_keyword(text: &[u8]) -> bool
+    ensures { result ≡ begins_as_keyword text.now }
+{
+    match text {
+        [] => false,
+        [_] => false,
+        [first, second, ..] => *first == b'*' && second.is_ascii_uppercase(),
+    }
+}
+
+/// The keyword that a token is, if any. Keywords are in capitals.
+pub fn word_of(text: &[u8]) -> Option<Word>
+    ensures { result ≡ word_of text.now }
+{
+    if begins_as_keyword(text) {
+        look_up(&KEYWORDS, text)
+    } else {
+        None
+    }
+}
+
+impl Word {
+    /// A keyword of the file's head, or `*D_NET`, or one that is refused there.
+    pub fn is_top(self) -> bool
+        ensures { result ≡ is_top self }
+    {
+        match self {
+            Word::Induc | Word::Load | Word::Port | Word::Internal | Word::Node => false,
+            Word::Conn | Word::Cap | Word::Res | Word::End | Word::Confidence => false,
+            _ => true,
+        }
+    }
+
+    /// A keyword that ends what stands loose in a connection.
+    pub fn is_tight(self) -> bool
+        ensures { result ≡ is_tight self }
+    {
+        !matches!(self, Word::Confidence)
+    }
+}
