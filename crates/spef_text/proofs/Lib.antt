@@ -16,3 +16,9 @@ pub mod Fitting
 pub mod SectionLemmas
 pub mod Answering
 pub mod TokenTexts
+pub mod OneDecimal
+pub mod UnitLemmas
+pub mod MapLemmas
+pub mod ReferenceLemmas
+pub mod HeadLemmas
+pub mod MapOrder

@@ -10,3 +10,6 @@ pub mod SectionTable
 pub mod ReaderStates
 pub mod SpefFiles
 pub mod TokenTexts
+pub mod Units
+pub mod Heads
+pub mod References

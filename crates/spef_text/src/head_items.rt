@@ -49,6 +49,41 @@ impl HeadItems {
         self.marks.delimiter
     }
 
+    /// The marks that part names.
+    pub fn marks(&self) -> Marks
+        ensures { result ≡ self.now.marks }
+    {
+        self.marks
+    }
+
+    /// The token of the design's name.
+    pub fn design(&self) -> Option<u32>
+        ensures { result ≡ self.now.design }
+    {
+        self.design
+    }
+
+    /// The number's token of the unit of capacitances.
+    pub fn cap_unit(&self) -> Option<u32>
+        ensures { result ≡ self.now.cap_unit }
+    {
+        self.cap_unit
+    }
+
+    /// The number's token of the unit of resistances.
+    pub fn res_unit(&self) -> Option<u32>
+        ensures { result ≡ self.now.res_unit }
+    {
+        self.res_unit
+    }
+
+    /// The entries of the name map.
+    pub fn map(&self) -> &[MapEntry]
+        ensures { result.now ≡ self.now.map }
+    {
+        self.map.as_slice()
+    }
+
     /// Sets what the item sets.
     pub fn put(&mut self, item: HeadItem) -> Result<(), OutOfMemory>
         ensures { OnOk result (self.new ≡ with_item self.old item) }

@@ -6,21 +6,32 @@ mod broken;
 mod classes;
 mod entries;
 mod file;
+mod file_texts;
+mod head;
+mod head_ends;
 mod head_items;
+mod head_laws;
 mod laws;
 mod modes;
+mod name_map;
 mod parsing;
 mod places;
 mod reader;
+mod references;
 mod scan;
 mod sections;
 mod spans;
+mod units;
 mod words;
 
 pub use entries::{Cap, Conn, Res};
 pub use file::SpefFile;
+pub use head::{Head, read_head};
+pub use head_ends::HeadEnd;
+pub use head_laws::{map_in_order, one_head_end};
 pub use laws::{literals, one_dead_token, one_spef, one_tokens, token_texts};
 pub use parsing::{SpefEnd, parse};
+pub use references::ResolveEnd;
 
 #[cfg(test)]
 mod tests;

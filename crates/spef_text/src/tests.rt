@@ -2,5 +2,6 @@
 //! surprise were worked by hand.
 mod accepted_files;
 mod files;
+mod heads;
 mod refused_files;
 mod tokens;

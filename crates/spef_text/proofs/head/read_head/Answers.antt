@@ -1,0 +1,33 @@
+use Rattle.std.proofs.Common.{◌≡◌, ℕ, Option, ap, ◌∙◌, inr, subst}
+use Rattle.delay_units.specs.declared.numbers.Unit.{Unit}
+use Rattle.spef_text.specs.SpefFiles.{SpefText}
+use Rattle.spef_text.specs.Heads.{IsUnitAt, IsBadUnit}
+use Rattle.spef_text.specs.declared.units.Quantity.{Quantity}
+use Rattle.spef_text.specs.declared.units.Quantity.TheVariants.{Capacitance, Resistance}
+use Rattle.spef_text.proofs.HeadLemmas.{of_repeat, only_want}
+use Rattle.spef_text.proofs.head.read_head.Goals as goal
+
+of_item : (quantity : Quantity) (file : SpefText) (item other : Option ℕ) (unit : Unit) → item ≡ other → IsUnitAt quantity file item unit → IsUnitAt quantity file other unit
+of_item quantity file item other unit e is = subst (λ (x : Option ℕ). IsUnitAt quantity file x unit) e is
+
+bad_item : (quantity : Quantity) (file : SpefText) (item other : Option ℕ) (token : ℕ) → item ≡ other → IsBadUnit quantity file item token → IsBadUnit quantity file other token
+bad_item quantity file item other token e is = subst (λ (x : Option ℕ). IsBadUnit quantity file x token) e is
+
+pub returns-in-Err-unit_at-clause-refused : goal.returns-in-Err-unit_at-clause-refused
+returns-in-Err-unit_at-clause-refused c =
+    let file : SpefText = c.args.file.now in
+    inr (
+      (c.in-Ok.unit, of_item Capacitance file c.cap_unit.result file.reading.head.cap_unit c.in-Ok.unit (c.cap_unit.ensures ∙ ap (λ f. f.reading.head.cap_unit) c.file.view_is) c.in-Ok.ensures.ok),
+      bad_item Resistance file c.res_unit.result file.reading.head.res_unit c.in-Err-unit_at.token (c.res_unit.ensures ∙ ap (λ f. f.reading.head.res_unit) c.file.view_is) c.in-Err-unit_at.ensures.bad,
+    )
+
+pub returns-in-Err-read_indices-clause-refused : goal.returns-in-Err-read_indices-clause-refused
+returns-in-Err-read_indices-clause-refused c =
+    let file : SpefText = c.args.file.now in
+    of_repeat file c.in-Err-read_indices.end
+    (c.in-Ok.unit, of_item Capacitance file c.cap_unit.result file.reading.head.cap_unit c.in-Ok.unit (c.cap_unit.ensures ∙ ap (λ f. f.reading.head.cap_unit) c.file.view_is) c.in-Ok.ensures.ok)
+    (c.in-Ok-unit_at.unit, of_item Resistance file c.res_unit.result file.reading.head.res_unit c.in-Ok-unit_at.unit (c.res_unit.ensures ∙ ap (λ f. f.reading.head.res_unit) c.file.view_is) c.in-Ok-unit_at.ensures.ok)
+    c.in-Err-read_indices.ensures.repeated
+
+pub returns-in-Err-read_indices-clause-only : goal.returns-in-Err-read_indices-clause-only
+returns-in-Err-read_indices-clause-only c head of_file = only_want c.args.file.now c.in-Err-read_indices.end head c.in-Err-read_indices.ensures.repeated of_file

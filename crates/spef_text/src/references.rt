@@ -1,0 +1,177 @@
+//! What a reference names: a node or a net.
+ghost use Rattle.std.specs.Prelude.{◌≡◌, ℕ, ◌<◌, ◌++◌, List, length, IfOk, IfErr, IfSome, IfNone, MatchResult};
+ghost use Rattle.spef_text.specs.Heads.{text_of, IsHeadOf};
+ghost use Rattle.spef_text.specs.Classes.{index_digits};
+ghost use Rattle.spef_text.specs.References.{is_starred, marks_of, index_end, before, mapped_node, IsMapped, IsNodeOf, IsResolveEnd};
+ghost use Rattle.name_table.specs.Characters.{characters};
+ghost use Rattle.name_table.specs.SpefNames.{whole_node, cut_node};
+ghost use Rattle.name_table.specs.declared.spef_names.NodeName.{NodeName};
+
+use crate::classes::index_digits;
+use crate::file::SpefFile;
+use crate::head::Head;
+use edge_io::{OutOfMemory, Text};
+use name_table::{NodeName, SpefMarks, read_spef_node};
+use std::alloc::Global;
+
+/// Why a reference names nothing. Tokens count from 1.
+#[derive(Debug, Drop)]
+pub enum ResolveEnd {
+    /// The index at this token is not in the name map.
+    UnknownIndex { token: u64 },
+
+    /// There was no memory for the name.
+    OutOfMemory,
+}
+
+fn is_starred(word: &[u8]) -> bool
+    ensures { result ≡ is_starred word.now }
+{
+    match word {
+        [first, ..] => *first == b'*',
+        [] => false,
+    }
+}
+
+// Where the index ends that a word begins with, if a delimiter ends it.
+fn index_end(word: &[u8], delimiter: u8) -> Option<usize>
+    ensures value { result ≡ index_end delimiter word.now }
+    ensures within { IfSome result (λ place. place < length word.now) }
+{
+    word.iter().position(|byte| *byte == delimiter)
+}
+
+fn before(end: Option<usize>, word: &[u8]) -> &[u8]
+    requires { IfSome end (λ place. place < length word.now) }
+    ensures { result.now ≡ before end word.now }
+{
+    match end {
+        Some(place) => &word[..place],
+        None => word,
+    }
+}
+
+impl<'a> SpefFile<'a> {
+    fn marks(&self) -> SpefMarks
+        ensures { result ≡ marks_of self.now }
+    {
+        let marks = self.head.marks();
+        SpefMarks {
+            divider: marks.divider,
+            delimiter: marks.delimiter,
+            left: marks.left,
+            right: marks.right,
+        }
+    }
+}
+
+// A name with a tail, of which neither is cut.
+fn node_with_tail(
+    alloc: Global,
+    name: &[u8],
+    tail: &[u8],
+    marks: &SpefMarks,
+) -> Result<NodeName, OutOfMemory>
+    ensures { IfOk result (λ node. node ≡ cut_node marks.now (characters name.now) (characters tail.now)) }
+{
+    let head = read_spef_node(alloc, name, false, marks)?;
+    let tail = read_spef_node(alloc, tail, false, marks)?;
+    let mut sdf = head.sdf;
+    sdf.push_all(b"/")?;
+    sdf.push_all(tail.sdf.bytes())?;
+    Ok(NodeName {
+        head: head.head,
+        tail: Some(tail.head),
+        sdf,
+    })
+}
+
+// A name and what follows it as one head.
+fn joined_node(
+    alloc: Global,
+    name: &[u8],
+    behind: &[u8],
+    marks: &SpefMarks,
+) -> Result<NodeName, OutOfMemory>
+    ensures { IfOk result (λ node. node ≡ whole_node marks.now (characters (name.now ++ behind.now))) }
+{
+    let mut joined = Text::from_bytes(alloc, name)?;
+    joined.push_all(behind)?;
+    read_spef_node(alloc, joined.bytes(), false, marks)
+}
+
+// The node of a word whose index, which ends there, stands for the name.
+fn mapped_node(
+    alloc: Global,
+    name: &[u8],
+    word: &[u8],
+    end: Option<usize>,
+    cut: bool,
+    marks: &SpefMarks,
+) -> Result<NodeName, OutOfMemory>
+    requires { IfSome end (λ place. place < length word.now) }
+    ensures { IfOk result (λ node. node ≡ mapped_node marks.now cut name.now word.now end) }
+{
+    match end {
+        None => read_spef_node(alloc, name, false, marks),
+        Some(place) => {
+            if cut {
+                node_with_tail(alloc, name, &word[place + 1..], marks)
+            } else {
+                joined_node(alloc, name, &word[place..], marks)
+            }
+        }
+    }
+}
+
+impl Head {
+    // The name that an index stands for, if the map has it.
+    fn name_of<'f>(&self, file: &'f SpefFile<'_>, index: &[u8]) -> Option<&'f [u8]>
+        requires { IsHeadOf file.now self.now }
+        ensures mapped { IfSome result (λ name. IsMapped file.now (index_digits index.now) name.now) }
+        ensures unknown { IfNone result ((name : List ℕ) → IsMapped file.now (index_digits index.now) name → ⊥) }
+    {
+        let id = self.indices.find(index_digits(index))?;
+        let entry = file.head.map()[id.0 as usize];
+        Some(file.text_of(entry.name as u64))
+    }
+
+    /// What a token names, which is a reference of the file that the head is of: a name as it is written, or an index, which
+    /// stands for its name in the map. A written name is cut at its last delimiter, where `cut` asks for it. The name of an
+    /// index is never cut: alone it is the node's head, and where a delimiter and a tail follow the index, the tail is the
+    /// node's, unless the word is not to be cut; then the name, the delimiter and the tail are one head.
+    ///
+    /// `UnknownIndex` comes exactly where the index is not in the map. It takes one look-up in the map.
+    pub fn resolve(
+        &self,
+        alloc: Global,
+        file: &SpefFile,
+        token: u64,
+        cut: bool,
+    ) -> Result<NodeName, ResolveEnd>
+        requires { IsHeadOf file.now self.now }
+        // What is answered is what the token names.
+        ensures named { IfOk result (IsNodeOf file.now cut (text_of file.now token)) }
+        // A refusal has its cause.
+        ensures refused { IfErr result (IsResolveEnd file.now token) }
+        // What the token names is answered, unless memory ran out.
+        ensures only { (node : NodeName) → IsNodeOf file.now cut (text_of file.now token) node →
+            MatchResult result (λ found. found ≡ node) (λ end. end ≡ ResolveEnd.OutOfMemory) }
+    {
+        let word = file.text_of(token);
+        let marks = file.marks();
+        let found = if is_starred(word) {
+            let end = index_end(word, marks.delimiter);
+            match self.name_of(file, before(end, word)) {
+                Some(name) => mapped_node(alloc, name, word, end, cut, &marks),
+                None => return Err(ResolveEnd::UnknownIndex { token }),
+            }
+        } else {
+            read_spef_node(alloc, word, cut, &marks)
+        };
+        match found {
+            Ok(node) => Ok(node),
+            Err(_) => Err(ResolveEnd::OutOfMemory),
+        }
+    }
+}

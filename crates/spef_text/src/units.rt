@@ -1,0 +1,75 @@
+//! The units of a SPEF file.
+ghost use Rattle.std.specs.Prelude.{◌≡◌, ◌≤◌, unsigned_abs, IfSome, IfNone};
+ghost use Rattle.spef_text.specs.Units.{same_word, power_of, IsUnit, IsNoUnit};
+
+use delay_units::{Farads, Ohms, Unit, read_decimal, unit};
+
+/// What a unit is of.
+#[derive(Clone, Copy, PartialEq, Eq, Debug)]
+pub enum Quantity {
+    /// In grains of 10^-21 F.
+    Capacitance,
+
+    /// In grains of 10^-6 ohm.
+    Resistance,
+}
+
+// One word, in any case of letters.
+#[tactic(auto, unfolding(crate::specs::Units::same_word))]
+fn same_word(one: &[u8], other: &[u8]) -> bool
+    ensures { result ≡ same_word one.now other.now }
+{
+    one.eq_ignore_ascii_case(other)
+}
+
+fn cap_power(word: &[u8]) -> Option<i32>
+    ensures { result ≡ power_of Quantity.Capacitance word.now }
+{
+    if same_word(word, b"FF") {
+        Some(Farads::FEMTOFARAD_POWER)
+    } else if same_word(word, b"PF") {
+        Some(Farads::PICOFARAD_POWER)
+    } else {
+        None
+    }
+}
+
+fn res_power(word: &[u8]) -> Option<i32>
+    ensures { result ≡ power_of Quantity.Resistance word.now }
+{
+    if same_word(word, b"OHM") {
+        Some(Ohms::OHM_POWER)
+    } else if same_word(word, b"KOHM") {
+        Some(Ohms::KILOOHM_POWER)
+    } else {
+        None
+    }
+}
+
+impl Quantity {
+    // The power of ten that a word stands for, in any case of letters.
+    fn power_of(self, word: &[u8]) -> Option<i32>
+        ensures { result ≡ power_of self word.now }
+    {
+        match self {
+            Quantity::Capacitance => cap_power(word),
+            Quantity::Resistance => res_power(word),
+        }
+    }
+
+    /// The unit that a literal and a word name: `FF` or `PF` for capacitances, `OHM` or `KOHM` for resistances, in any case
+    /// of letters. `None` where the word is another, or the literal is not positive, has more than seven significant digits,
+    /// or leaves an exponent past 99 in size.
+    pub fn unit_of(self, number: &[u8], word: &[u8]) -> Option<Unit>
+        ensures some { IfSome result (IsUnit self number.now word.now) }
+        ensures none { IfNone result (IsNoUnit self number.now word.now) }
+    {
+        match self.power_of(word) {
+            None => None,
+            Some(power) => match read_decimal(number) {
+                Ok(value) => unit(&value, power),
+                Err(_) => None,
+            },
+        }
+    }
+}
