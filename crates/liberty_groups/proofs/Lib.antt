@@ -1,0 +1,17 @@
+pub mod Searching
+pub mod Runs
+pub mod Cutting
+pub mod Within
+pub mod Saying
+pub mod Living
+pub mod Taking
+pub mod Meaning
+pub mod Fitting
+pub mod Refusing
+pub mod Deepening
+pub mod Causing
+pub mod Stepping
+pub mod Parting
+pub mod Building
+pub mod Lines
+pub mod Reading

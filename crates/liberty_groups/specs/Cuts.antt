@@ -1,0 +1,15 @@
+-- How much of some bytes stands at their front.
+use Rattle.std.specs.Prelude.{ℕ, ◌+◌, ◌<◌, ◌≤◌, List, length, if◌then◌else◌}
+use Rattle.liberty_groups.specs.Tokens.{is_plain, opened_behind, word_length}
+use Rattle.liberty_groups.specs.declared.scan.Kind.TheVariants.{Word, Bad}
+use Rattle.liberty_groups.specs.declared.scan.Cut.{Cut}
+use Rattle.liberty_groups.specs.declared.scan.Cut.TheVariants.{Skip, Take}
+
+-- at least one byte, and at most n
+abbrev pub IsWithin : ℕ → Cut → Type 0
+IsWithin n (Skip k breaks) = (0 < k) × (k ≤ n)
+IsWithin n (Take k kind) = (0 < k) × (k ≤ n)
+
+-- a word from its first byte on, or what begins no token
+abbrev pub word_cut : ℕ → List ℕ → Cut
+word_cut first rest = if is_plain first then Take (word_length (opened_behind 0 first) rest + 1) Word else Take (length rest + 1) Bad

@@ -1,0 +1,11 @@
+pub mod Tokens
+pub mod Cuts
+pub mod Dropping
+pub mod Groups
+pub mod Grammar
+pub mod Causes
+pub mod Modes
+pub mod Steps
+pub mod Building
+pub mod ReaderStates
+pub mod Answers

@@ -1,0 +1,33 @@
+-- What the reader stands for.
+use Rattle.std.specs.Prelude.{◌≡◌, Bool, true, false, length, Option, Some, None, Result, Ok, Err}
+use Rattle.liberty_groups.specs.Modes.{State, settled}
+use Rattle.liberty_groups.specs.Building.{Built, built}
+use Rattle.liberty_groups.specs.declared.modes.Mode.{Mode}
+use Rattle.liberty_groups.specs.Groups.{Group}
+use Rattle.liberty_groups.specs.declared.faults.Cause.{Cause}
+use Rattle.liberty_groups.specs.declared.faults.Cause.TheVariants.{EndInside}
+use Rattle.liberty_groups.specs.declared.reader.Reader.{Reader}
+
+abbrev pub at_mode : Mode → Built → State
+at_mode mode b = record { mode = mode; name = b.name; parts = b.parts; frames = b.frames }
+
+abbrev pub state_of : Reader → State
+state_of reader = at_mode reader.mode (built reader.events.items)
+
+-- it counts the groups that have not ended
+abbrev pub IsSound : Reader → Type 0
+IsSound reader = reader.depth ≡ length (built reader.events.items).frames
+
+abbrev pub settled_if : Bool → State → State
+settled_if true s = settled s
+settled_if false s = s
+
+-- the step leads to this state, or the token is refused for a cause
+abbrev pub Steps : Result State Cause → State → Option Cause → Type 0
+Steps answer after None = answer ≡ Ok after
+Steps answer after (Some cause) = answer ≡ Err cause
+
+-- the file says this tree, or may not end here
+abbrev pub Finishes : Result Group Cause → Option Group → Type 0
+Finishes answer (Some tree) = answer ≡ Ok tree
+Finishes answer None = answer ≡ Err EndInside

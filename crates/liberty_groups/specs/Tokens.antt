@@ -1,0 +1,169 @@
+-- The bytes of a Liberty file (Liberty User Guide), and the tokens that they are parted into.
+use Rattle.std.specs.Prelude.{◌≡◌, ℕ, zero, suc, ◌+◌, ◌-◌, Bool, true, false, not, ◌&&◌, ◌||◌, ◌==◌, nat_le, nat_lt, if◌then◌else◌, List, [], ◌∷◌, length, take, drop, count_by, slice_index, position, Option, Some, None, unwrap_or}
+use Rattle.std.specs.List.{list_any}
+use Rattle.std.specs.Option.{option_map}
+use Rattle.liberty_groups.specs.declared.scan.Kind.{Kind}
+use Rattle.liberty_groups.specs.declared.scan.Kind.TheVariants.{Word, Quoted, LeftParen, RightParen, LeftBrace, RightBrace, Colon, Semicolon, Comma, Bad, OpenQuoted, OpenNote}
+use Rattle.liberty_groups.specs.declared.scan.Cut.{Cut}
+use Rattle.liberty_groups.specs.declared.scan.Cut.TheVariants.{Skip, Take}
+
+-- the bytes 9 to 13 and 32
+abbrev pub is_blank : ℕ → Bool
+is_blank byte = (nat_le 9 byte && nat_le byte 13) || byte == 32
+
+abbrev pub is_line_end : ℕ → Bool
+is_line_end byte = byte == 10
+
+-- the bytes that may stand in a continuation between its backslash and its line end: 9, 13 and 32; this test is of all others
+abbrev pub ends_gap : ℕ → Bool
+ends_gap byte = not (byte == 9 || byte == 13 || byte == 32)
+
+abbrev pub begins_with : ℕ → List ℕ → Bool
+begins_with byte [] = false
+begins_with byte (first ∷ rest) = first == byte
+
+-- A backslash with `rest` behind it, in which the first byte that is no gap is at this place: how many bytes of `rest` belong to the continuation, or 0, where there is none.
+abbrev pub continued_to : List ℕ → Option ℕ → ℕ
+continued_to rest None = 0
+continued_to rest (Some place) = if is_line_end (slice_index rest place) then place + 1 else 0
+
+abbrev pub continuation : List ℕ → ℕ
+continuation rest = continued_to rest (position ends_gap rest)
+
+-- A quote with `rest` behind it: the place in `rest` of the quote that ends the text. A quote right behind a backslash does not.
+unfoldable pub text_end : Bool → List ℕ → Option ℕ
+text_end escaped [] = None
+text_end escaped (byte ∷ rest) = if byte == 34 && not escaped then Some 0 else option_map (λ place. place + 1) (text_end (byte == 92) rest)
+
+-- a backslash that is dropped: it makes the quote behind it a part of the text, or begins a continuation
+abbrev pub is_dropped : ℕ → List ℕ → Bool
+is_dropped byte rest = byte == 92 && (begins_with 34 rest || nat_lt 0 (continuation rest))
+
+-- What the bytes between the quotes of a text say: continuations are dropped, and so is a backslash in front of a quote. Every other byte stands for itself. The first number is how many bytes of a continuation are still to be dropped.
+unfoldable pub meaning_behind : ℕ → List ℕ → List ℕ
+meaning_behind more [] = []
+meaning_behind (suc more) (byte ∷ rest) = meaning_behind more rest
+meaning_behind zero (byte ∷ rest) = if is_dropped byte rest then meaning_behind (continuation rest) rest else byte ∷ meaning_behind zero rest
+
+abbrev pub meaning : List ℕ → List ℕ
+meaning bytes = meaning_behind 0 bytes
+
+-- the kind of a mark, `( ) { } : ; ,`
+abbrev pub mark_of : ℕ → Option Kind
+mark_of byte =
+    if byte == 40 then Some LeftParen
+    else (if byte == 41 then Some RightParen
+    else (if byte == 123 then Some LeftBrace
+    else (if byte == 125 then Some RightBrace
+    else (if byte == 58 then Some Colon
+    else (if byte == 59 then Some Semicolon
+    else (if byte == 44 then Some Comma
+    else None))))))
+
+abbrev pub is_mark : ℕ → Bool
+is_mark byte = byte == 40 || byte == 41 || byte == 123 || byte == 125 || byte == 58 || byte == 59 || byte == 44
+
+-- the bytes 33 to 126 but a quote and a backslash
+abbrev pub is_plain : ℕ → Bool
+is_plain byte = nat_le 33 byte && nat_le byte 126 && not (byte == 34) && not (byte == 92)
+
+-- a byte with `rest` behind it that begins a comment
+abbrev pub begins_comment : ℕ → List ℕ → Bool
+begins_comment byte rest = byte == 47 && (begins_with 42 rest || begins_with 47 rest)
+
+-- a byte with `rest` behind it that a word goes on with, where so many `[` of the word are not closed: inside them a colon belongs to the word
+abbrev pub goes_on : ℕ → ℕ → List ℕ → Bool
+goes_on opened byte rest = is_plain byte && not (begins_comment byte rest) && (not (is_mark byte) || (byte == 58 && nat_lt 0 opened))
+
+abbrev pub opened_behind : ℕ → ℕ → ℕ
+opened_behind opened byte = if byte == 91 then opened + 1 else (if byte == 93 then opened - 1 else opened)
+
+-- how many bytes the longest word has, or the longest rest of a word in which so many `[` are not closed
+unfoldable pub word_length : ℕ → List ℕ → ℕ
+word_length opened [] = 0
+word_length opened (byte ∷ rest) = if goes_on opened byte rest then word_length (opened_behind opened byte) rest + 1 else 0
+
+-- the place of the first `*/`
+unfoldable pub comment_end : List ℕ → Option ℕ
+comment_end [] = None
+comment_end (byte ∷ rest) = if byte == 42 && begins_with 47 rest then Some 0 else option_map (λ place. place + 1) (comment_end rest)
+
+-- A `/*` with `inner` behind it, where the comment ends at this place: it is passed over, or it is open and takes all.
+abbrev pub comment_cut : List ℕ → Option ℕ → Cut
+comment_cut inner None = Take (length inner + 2) OpenNote
+comment_cut inner (Some place) = Skip (place + 4) (list_any is_line_end (take place inner))
+
+-- A slash with `rest` behind it, which begins with a slash: the comment goes up to the end of the line.
+abbrev pub line_length : List ℕ → ℕ
+line_length rest = unwrap_or (position is_line_end rest) (length rest) + 1
+
+-- A backslash with `rest` behind it, of which so many bytes belong to a continuation.
+abbrev pub backslash_cut : List ℕ → ℕ → Cut
+backslash_cut rest length_of = if nat_lt 0 length_of then Skip (length_of + 1) false else Take (length rest + 1) Bad
+
+-- A quote with `rest` behind it, in which the text ends at this place: a text, or an open one, which takes all.
+abbrev pub text_cut : List ℕ → Option ℕ → Cut
+text_cut rest None = Take (length rest + 1) OpenQuoted
+text_cut rest (Some place) = Take (place + 2) Quoted
+
+abbrev pub mark_or_word : ℕ → List ℕ → Option Kind → Cut
+mark_or_word first rest (Some kind) = Take 1 kind
+mark_or_word first rest None = if is_plain first then Take (word_length 0 (first ∷ rest)) Word else Take (length rest + 1) Bad
+
+-- What stands at the front of `first ∷ rest`: bytes that are passed over, or a token. What no text of the grammar has is a token that takes all.
+unfoldable pub cut_at : ℕ → List ℕ → Cut
+cut_at first rest =
+    if is_blank first then Skip 1 (is_line_end first)
+    else (if first == 34 then text_cut rest (text_end false rest)
+    else (if first == 92 then backslash_cut rest (continuation rest)
+    else (if first == 47 && begins_with 47 rest then Skip (line_length rest) false
+    else (if first == 47 && begins_with 42 rest then comment_cut (drop 1 rest) (comment_end (drop 1 rest))
+    else mark_or_word first rest (mark_of first)))))
+
+-- what no text of the grammar has: a byte that begins no token, and a text and a comment that do not end
+abbrev pub is_broken : Kind → Bool
+is_broken Bad = true
+is_broken OpenQuoted = true
+is_broken OpenNote = true
+is_broken _ = false
+
+-- What a token of this kind and of these bytes says: a text what stands between its quotes, a word itself, a mark nothing.
+abbrev pub said_by : Kind → List ℕ → List ℕ
+said_by Word bytes = bytes
+said_by Quoted bytes = meaning (take (length bytes - 2) (drop 1 bytes))
+said_by _ bytes = []
+
+-- A token: what it is, what it says, whether a line end that is no continuation's stands between it and the token before, and the place of its first byte in the file.
+pub record Lexeme : Type 0 where
+  pub kind : Kind
+  pub bytes : List ℕ
+  pub fresh : Bool
+  pub start : ℕ
+
+-- The tokens of the bytes from this place of the file on, in order, where a line end has been passed since the last token, or not.
+pub data AreTokensFrom : ℕ → Bool → List ℕ → List Lexeme → Type 0 where
+  end : {start : ℕ} {fresh : Bool} → AreTokensFrom start fresh [] []
+  skip : {start : ℕ} {fresh : Bool} {first : ℕ} {rest : List ℕ} {tokens : List Lexeme} (n : ℕ) (breaks : Bool)
+      → cut_at first rest ≡ Skip n breaks
+      → AreTokensFrom (start + n) (fresh || breaks) (drop n (first ∷ rest)) tokens
+      → AreTokensFrom start fresh (first ∷ rest) tokens
+  take_one : {start : ℕ} {fresh : Bool} {first : ℕ} {rest : List ℕ} {tokens : List Lexeme} (n : ℕ) (kind : Kind)
+      → cut_at first rest ≡ Take n kind
+      → AreTokensFrom (start + n) false (drop n (first ∷ rest)) tokens
+      → AreTokensFrom start fresh (first ∷ rest) (record { kind = kind; bytes = said_by kind (take n (first ∷ rest)); fresh = fresh; start = start } ∷ tokens)
+
+-- the tokens of a file
+abbrev pub AreTokens : List ℕ → List Lexeme → Type 0
+AreTokens bytes tokens = AreTokensFrom 0 false bytes tokens
+
+-- What can stand as a token, those that are broken aside: some bytes are this one token, and all of it.
+pub data IsToken : Lexeme → Type 0 where
+  is_token : {token : Lexeme} (first : ℕ) (rest : List ℕ)
+      → cut_at first rest ≡ Take (length (first ∷ rest)) token.kind
+      → is_broken token.kind ≡ false
+      → token.bytes ≡ said_by token.kind (first ∷ rest)
+      → IsToken token
+
+-- the line of a place, from 1: the count of line ends before it, and one
+abbrev pub line_at : List ℕ → ℕ → ℕ
+line_at bytes place = count_by is_line_end (take place bytes) + 1

@@ -1,0 +1,25 @@
+//! What tokens add to the tree, in the order of the file.
+use edge_io::Text;
+
+/// What a token adds.
+#[derive(Debug, Drop)]
+pub enum Event {
+    /// The name of a statement, or `library`.
+    Name(Text),
+
+    /// An argument.
+    Part(Text),
+
+    /// A value: its words and texts, joined by one space.
+    Piece(Text),
+
+    /// The statement was an attribute.
+    Attribute,
+
+    /// The statement opens the body of the library, or of a group in the one that is open.
+    OpenLibrary,
+    Open,
+
+    /// The body of the innermost group ends.
+    Close,
+}

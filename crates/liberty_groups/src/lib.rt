@@ -1,0 +1,19 @@
+//! Liberty files (Liberty User Guide): their tokens, and the tree of groups and attributes that they say, or the one
+//! token that cannot stand where it stands, with its line and the cause.
+#![tactic(auto)]
+
+pub mod events;
+pub mod faults;
+pub mod laws;
+pub mod modes;
+mod parsing;
+pub mod reader;
+pub mod scan;
+#[cfg(test)]
+mod tests;
+mod texts;
+pub mod tree;
+
+pub use faults::{Cause, ParseEnd, SyntaxFault};
+pub use parsing::parse;
+pub use tree::GroupTree;

@@ -1,0 +1,84 @@
+//! Reads a Liberty file.
+ghost use Rattle.std.specs.Prelude.{◌||◌, ◌≡◌, ◌<◌, ◌≤◌, ◌^◌, List, ℕ, length, IfOk};
+ghost use Rattle.liberty_groups.specs.Tokens.{is_line_end, line_at};
+ghost use Rattle.liberty_groups.specs.Groups.{Group};
+ghost use Rattle.liberty_groups.specs.Building.{tree_of};
+ghost use Rattle.liberty_groups.specs.Causes.{IsFault};
+ghost use Rattle.liberty_groups.specs.Answers.{SaysTree, IfSyntax, Gives};
+
+use crate::faults::{Cause, ParseEnd, SyntaxFault};
+use crate::reader::Reader;
+use crate::scan::{Cut, cut_at};
+use crate::tree::GroupTree;
+use std::alloc::Global;
+
+/// The line of a place: the count of line ends before it, and one.
+fn line_at(bytes: &[u8], place: usize) -> u64
+    requires within { place ≤ length bytes.now }
+    requires bytes { length bytes.now < 2 ^ 32 }
+    ensures { result ≡ line_at bytes.now place }
+{
+    let mut line = 1;
+    for byte in bytes.split_at(place).0 {
+        if *byte == b'\n' {
+            line += 1;
+        }
+    }
+    line
+}
+
+/// Whether a line end stands between two tokens, which blanks and comments part.
+fn either(fresh: bool, breaks: bool) -> bool
+    ensures { result ≡ (fresh || breaks) }
+{
+    fresh || breaks
+}
+
+/// The fault of the token of this number that begins at a place, or at the end of the file.
+fn fault_at(bytes: &[u8], place: usize, token: u64, cause: Cause) -> ParseEnd
+    requires within { place ≤ length bytes.now }
+    requires bytes { length bytes.now < 2 ^ 32 }
+    ensures { result ≡ ParseEnd.Syntax (record { token = token; line = line_at bytes.now place; cause = cause }) }
+{
+    ParseEnd::Syntax(SyntaxFault {
+        token,
+        line: line_at(bytes, place),
+        cause,
+    })
+}
+
+/// The tree of a Liberty file, or the token that cannot stand where it stands, with its line and the cause.
+pub fn parse(alloc: Global, bytes: &[u8]) -> Result<GroupTree, ParseEnd>
+    requires { length bytes.now < 2 ^ 32 }
+    ensures ok { IfOk result (λ tree. SaysTree bytes.now (tree_of tree)) }
+    ensures fault { IfSyntax result (IsFault bytes.now) }
+    ensures only { (tree : Group) → SaysTree bytes.now tree → Gives tree_of tree result }
+{
+    let mut reader = Reader::new(alloc);
+    let mut number = 1;
+    let mut fresh = false;
+    let mut start = 0;
+    while let [first, rest @ ..] = bytes.split_at(start).1 {
+        match cut_at(*first, rest) {
+            Cut::Skip(count, breaks) => {
+                fresh = either(fresh, breaks);
+                start += count;
+            }
+            Cut::Take(count, kind) => {
+                let token = bytes.split_at(start).1.split_at(count).0;
+                match reader.take(alloc, kind, token, fresh) {
+                    Ok(None) => {}
+                    Ok(Some(cause)) => return Err(fault_at(bytes, start, number, cause)),
+                    Err(_) => return Err(ParseEnd::OutOfMemory),
+                }
+                number += 1;
+                fresh = false;
+                start += count;
+            }
+        }
+    }
+    match reader.finish() {
+        Some(events) => Ok(GroupTree { events }),
+        None => Err(fault_at(bytes, bytes.len(), number, Cause::EndInside)),
+    }
+}

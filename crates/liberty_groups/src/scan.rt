@@ -1,0 +1,291 @@
+//! Parts a file's bytes into tokens.
+ghost use Rattle.std.specs.Prelude.{◌≡◌, ◌+◌, ◌^◌, ◌<◌, ◌≤◌, false, length, position};
+ghost use Rattle.std.specs.List.{list_any};
+ghost use Rattle.std.specs.Option.{IfSome};
+ghost use Rattle.liberty_groups.specs.Tokens.{is_blank, is_line_end, ends_gap, begins_with, continuation, text_end, mark_of, is_mark, is_plain, begins_comment, goes_on, opened_behind, word_length, comment_end, comment_cut, line_length, backslash_cut, text_cut, cut_at};
+ghost use Rattle.liberty_groups.specs.Cuts.{IsWithin, word_cut};
+
+use memchr::{memchr, memmem};
+
+/// What a token is.
+#[derive(Clone, Copy, PartialEq, Eq, Debug)]
+pub enum Kind {
+    Word,
+
+    /// A text in quotes.
+    Quoted,
+    LeftParen,
+    RightParen,
+    LeftBrace,
+    RightBrace,
+    Colon,
+    Semicolon,
+    Comma,
+
+    /// What no text of the grammar has: a byte that begins no token, a text and a comment that do not end.
+    Bad,
+    OpenQuoted,
+    OpenNote,
+}
+
+/// What stands at the front of some bytes.
+#[derive(Clone, Copy, PartialEq, Eq, Debug)]
+pub enum Cut {
+    /// So many bytes that are passed over, and whether a line end stands there that is no continuation's.
+    Skip(usize, bool),
+
+    /// A token of so many bytes. What no text of the grammar has takes them all.
+    Take(usize, Kind),
+}
+
+/// The bytes 9 to 13 and 32.
+#[inline]
+fn is_blank(byte: u8) -> bool
+    ensures { result ≡ is_blank byte }
+{
+    matches!(byte, 9..=13 | b' ')
+}
+
+/// Whether the bytes begin with this one.
+#[inline]
+pub(crate) fn begins_with(byte: u8, bytes: &[u8]) -> bool
+    ensures { result ≡ begins_with byte bytes.now }
+{
+    match bytes {
+        [] => false,
+        [first, ..] => *first == byte,
+    }
+}
+
+/// The place of the first byte that may not stand in a continuation before its line end.
+fn gap_end(rest: &[u8]) -> Option<usize>
+    ensures { result ≡ position ends_gap rest.now }
+{
+    rest.iter()
+        .position(|byte| !(*byte == 9 || *byte == 13 || *byte == 32))
+}
+
+/// Behind a backslash: how many bytes belong to a continuation, or 0, where it begins none.
+pub(crate) fn continuation(rest: &[u8]) -> usize
+    ensures value { result ≡ continuation rest.now }
+    ensures within { result ≤ length rest.now }
+{
+    match gap_end(rest) {
+        Some(place) if rest[place] == b'\n' => place + 1,
+        _ => 0,
+    }
+}
+
+/// Behind a quote: the place of the quote that ends the text.
+#[inline]
+fn text_end(rest: &[u8]) -> Option<usize>
+    ensures value { result ≡ text_end false rest.now }
+    ensures within { IfSome result (λ place. place < length rest.now) }
+{
+    let mut escaped = false;
+    let mut place = 0;
+    while place < rest.len() {
+        let byte = rest[place];
+        if byte == b'"' && !escaped {
+            return Some(place);
+        }
+        escaped = byte == b'\\';
+        place += 1;
+    }
+    None
+}
+
+/// The kind of a mark.
+#[inline]
+fn mark_of(byte: u8) -> Option<Kind>
+    ensures { result ≡ mark_of byte }
+{
+    match byte {
+        b'(' => Some(Kind::LeftParen),
+        b')' => Some(Kind::RightParen),
+        b'{' => Some(Kind::LeftBrace),
+        b'}' => Some(Kind::RightBrace),
+        b':' => Some(Kind::Colon),
+        b';' => Some(Kind::Semicolon),
+        b',' => Some(Kind::Comma),
+        _ => None,
+    }
+}
+
+#[inline]
+fn is_mark(byte: u8) -> bool
+    ensures { result ≡ is_mark byte }
+{
+    matches!(byte, b'(' | b')' | b'{' | b'}' | b':' | b';' | b',')
+}
+
+/// The bytes 33 to 126 but a quote and a backslash.
+#[inline]
+fn is_plain(byte: u8) -> bool
+    ensures { result ≡ is_plain byte }
+{
+    byte >= 33 && byte <= 126 && !(byte == b'"') && !(byte == b'\\')
+}
+
+/// Whether a comment begins with this byte and those behind it.
+#[inline]
+fn begins_comment(byte: u8, rest: &[u8]) -> bool
+    ensures { result ≡ begins_comment byte rest.now }
+{
+    byte == b'/' && (begins_with(b'*', rest) || begins_with(b'/', rest))
+}
+
+/// Whether a word goes on with this byte, where so many `[` are not closed.
+#[inline]
+fn goes_on(opened: usize, byte: u8, rest: &[u8]) -> bool
+    ensures { result ≡ goes_on opened byte rest.now }
+{
+    is_plain(byte) && !begins_comment(byte, rest) && (!is_mark(byte) || byte == b':' && opened > 0)
+}
+
+/// How many `[` are not closed behind this byte.
+#[inline]
+fn opened_behind(opened: usize, byte: u8) -> usize
+    requires { opened < 2 ^ 33 }
+    ensures { result ≡ opened_behind opened byte }
+{
+    if byte == b'[' {
+        opened + 1
+    } else if byte == b']' {
+        opened.saturating_sub(1)
+    } else {
+        opened
+    }
+}
+
+/// How many bytes the rest of a word has in which so many `[` are not closed.
+#[inline]
+fn word_length(opened: usize, bytes: &[u8]) -> usize
+    requires opened { opened ≤ 1 }
+    requires bytes { length bytes.now < 2 ^ 32 }
+    ensures value { result ≡ word_length opened bytes.now }
+    ensures within { result ≤ length bytes.now }
+{
+    let mut unclosed = opened;
+    let mut place = 0;
+    while place < bytes.len() {
+        let byte = bytes[place];
+        let rest = bytes.split_at(place + 1).1;
+        if !goes_on(unclosed, byte, rest) {
+            break;
+        }
+        unclosed = opened_behind(unclosed, byte);
+        place += 1;
+    }
+    place
+}
+
+/// Whether a line end stands among the bytes.
+fn has_line_end(bytes: &[u8]) -> bool
+    ensures { result ≡ list_any is_line_end bytes.now }
+{
+    bytes.contains(&b'\n')
+}
+
+/// Behind a quote: a text, or an open one.
+#[inline]
+fn text_cut(rest: &[u8]) -> Cut
+    requires { length rest.now < 2 ^ 32 }
+    ensures value { result ≡ text_cut rest.now (text_end false rest.now) }
+    ensures within { IsWithin (length rest.now + 1) result }
+{
+    match text_end(rest) {
+        Some(place) => Cut::Take(place + 2, Kind::Quoted),
+        None => Cut::Take(rest.len() + 1, Kind::OpenQuoted),
+    }
+}
+
+/// Behind the first slash of a comment up to the end of the line: how many bytes it has.
+fn line_length(rest: &[u8]) -> usize
+    requires { length rest.now < 2 ^ 32 }
+    ensures value { result ≡ line_length rest.now }
+    ensures within { (0 < result) × (result ≤ length rest.now + 1) }
+{
+    match memchr(b'\n', rest) {
+        Some(place) => place + 1,
+        None => rest.len() + 1,
+    }
+}
+
+/// Behind the `/*` of a comment.
+fn comment_cut(inner: &[u8]) -> Cut
+    requires { length inner.now < 2 ^ 32 }
+    ensures value { result ≡ comment_cut inner.now (comment_end inner.now) }
+    ensures within { IsWithin (length inner.now + 2) result }
+{
+    match memmem::find(inner, b"*/") {
+        Some(place) => Cut::Skip(place + 4, has_line_end(inner.split_at(place).0)),
+        None => Cut::Take(inner.len() + 2, Kind::OpenNote),
+    }
+}
+
+/// Behind a backslash outside texts: a continuation, or a byte that begins no token.
+fn backslash_cut(rest: &[u8]) -> Cut
+    requires { length rest.now < 2 ^ 32 }
+    ensures value { result ≡ backslash_cut rest.now (continuation rest.now) }
+    ensures within { IsWithin (length rest.now + 1) result }
+{
+    let length = continuation(rest);
+    if length > 0 {
+        Cut::Skip(length + 1, false)
+    } else {
+        Cut::Take(rest.len() + 1, Kind::Bad)
+    }
+}
+
+/// A word, or a byte that begins no token.
+#[inline]
+fn word_cut(first: u8, rest: &[u8]) -> Cut
+    requires { length rest.now < 2 ^ 32 }
+    ensures value { result ≡ word_cut first rest.now }
+    ensures within { IsWithin (length rest.now + 1) result }
+{
+    if is_plain(first) {
+        let opened = opened_behind(0, first);
+        Cut::Take(word_length(opened, rest) + 1, Kind::Word)
+    } else {
+        Cut::Take(rest.len() + 1, Kind::Bad)
+    }
+}
+
+/// Behind a slash: a comment, or a word.
+fn slash_cut(rest: &[u8]) -> Cut
+    requires { length rest.now < 2 ^ 32 }
+    ensures value { result ≡ cut_at 47 rest.now }
+    ensures within { IsWithin (length rest.now + 1) result }
+{
+    if begins_with(b'/', rest) {
+        Cut::Skip(line_length(rest), false)
+    } else if begins_with(b'*', rest) {
+        comment_cut(rest.split_at(1).1)
+    } else {
+        word_cut(b'/', rest)
+    }
+}
+
+/// What stands at the front of `first` and `rest`.
+#[inline]
+pub(crate) fn cut_at(first: u8, rest: &[u8]) -> Cut
+    requires { length rest.now < 2 ^ 32 }
+    ensures value { result ≡ cut_at first rest.now }
+    ensures within { IsWithin (length rest.now + 1) result }
+{
+    if is_blank(first) {
+        Cut::Skip(1, first == b'\n')
+    } else if first == b'"' {
+        text_cut(rest)
+    } else if first == b'\\' {
+        backslash_cut(rest)
+    } else if first == b'/' {
+        slash_cut(rest)
+    } else if let Some(kind) = mark_of(first) {
+        Cut::Take(1, kind)
+    } else {
+        word_cut(first, rest)
+    }
+}
