@@ -5,8 +5,8 @@ ghost use Rattle.spef_text.specs.Heads.{text_of};
 use crate::file::SpefFile;
 
 impl<'a> SpefFile<'a> {
-    /// The text of a token, which counts from 1, or nothing where the file has fewer tokens.
-    pub(crate) fn text_of(&self, number: u64) -> &[u8]
+    /// The text of a token, as `token` gives it, or nothing where the file has no such token. Tokens count from 1.
+    pub fn text_of(&self, number: u64) -> &[u8]
         ensures { result.now ≡ text_of self.now number }
     {
         match self.spans.get((number as usize).saturating_sub(1)) {
