@@ -20,7 +20,7 @@ same_power x p q a b = cc
 fits : (quantity : Quantity) (number word : List ℕ) (power : ℤ) (value : Decimal) (u : Unit) → power_of quantity word ≡ Some power → IsNumber number value → IsUnit quantity number word u
     → (pos 1 ≤ℤ value.digits) × (value.digits ≤ℤ pos 9999999) × (unsigned_abs (value.exponent +ℤ power) ≤ 99)
 fits quantity number word power value u known reads is =
-    let one : (value.digits ≡ is.value.digits) × (value.exponent ≡ is.value.exponent) = one_decimal number value is.value u.mantissa reads is.reads is.mantissa u.positive in
+    let one : (value.digits ≡ is.value.digits) × (value.exponent ≡ is.value.exponent) = one_decimal number value is.value reads is.reads in
     let digits : value.digits ≡ pos u.mantissa = one.0 ∙ sym is.mantissa in
     let exponent : value.exponent +ℤ power ≡ u.exponent = ap (λ x. x +ℤ power) one.1 ∙ ap (λ x. is.value.exponent +ℤ x) (same_power (power_of quantity word) power is.power known is.known) ∙ sym is.exponent in
     (low value.digits u.mantissa digits u.positive, high value.digits u.mantissa digits u.seven_digits, subst (λ (x : ℤ). unsigned_abs x ≤ 99) (sym exponent) u.exponent_fits)
