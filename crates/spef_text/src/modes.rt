@@ -270,6 +270,21 @@ fn second_byte(text: &[u8]) -> u8
     }
 }
 
+/// What the mark behind `*DIVIDER` does, and the one behind `*DELIMITER`.
+fn divider_step(text: &[u8]) -> Step
+    ensures { (mark number : ℕ) → result ≡ next_mode Mode.DividerMark mark number text.now }
+{
+    let item = HeadItem::Divider(first_byte(text));
+    put_if(is_mark(text), Mode::Items, item)
+}
+
+fn delimiter_step(text: &[u8]) -> Step
+    ensures { (mark number : ℕ) → result ≡ next_mode Mode.DelimiterMark mark number text.now }
+{
+    let item = HeadItem::Delimiter(first_byte(text));
+    put_if(is_mark(text), Mode::Items, item)
+}
+
 /// What the bus marks do: both in one token, or the left one.
 fn bus_step(text: &[u8]) -> Step
     ensures { (mark number : ℕ) → result ≡ next_mode Mode.BusLeft mark number text.now }
@@ -280,6 +295,14 @@ fn bus_step(text: &[u8]) -> Step
     } else {
         go_if(is_mark(text), Mode::BusRight(first_byte(text)))
     }
+}
+
+/// What the right bus mark does.
+fn right_step(left: u8, text: &[u8]) -> Step
+    ensures { (mark number : ℕ) → result ≡ next_mode (Mode.BusRight left) mark number text.now }
+{
+    let item = HeadItem::BusDelimiter(left, first_byte(text));
+    put_if(is_mark(text), Mode::Items, item)
 }
 
 /// What a token does behind a connection's node.
@@ -386,6 +409,60 @@ fn map_step(number: u32, text: &[u8]) -> Step
     }
 }
 
+/// What the name of an index does.
+fn map_name_step(index: u32, number: u32, text: &[u8]) -> Step
+    ensures { (mark : ℕ) → result ≡ next_mode (Mode.MapName index) mark number text.now }
+{
+    let entry = MapEntry {
+        index,
+        name: number,
+    };
+    put_if(is_map_name(text), Mode::NameMap, HeadItem::Mapped(entry))
+}
+
+/// What a token does behind `*D_NET`.
+fn net_step(mark: u8, number: u32, text: &[u8]) -> Step
+    ensures { result ≡ next_mode Mode.NetName mark number text.now }
+{
+    if is_ref(mark, text) {
+        Step::Open(number)
+    } else {
+        Step::Refuse
+    }
+}
+
+/// What a token does in a `*N` line.
+fn node_line_step(text: &[u8]) -> Step
+    ensures { (mark number : ℕ) → result ≡ next_mode Mode.NodeLine mark number text.now }
+{
+    if is_loose(text) {
+        Step::Go(Mode::NodeLine)
+    } else {
+        conns_step(word_of(text))
+    }
+}
+
+/// What a token does among the capacitances, and among the resistances.
+fn cap_id_step(text: &[u8]) -> Step
+    ensures { (mark number : ℕ) → result ≡ next_mode Mode.Caps mark number text.now }
+{
+    if is_id(text) {
+        Step::Go(Mode::CapFirst)
+    } else {
+        caps_step(word_of(text))
+    }
+}
+
+fn res_id_step(text: &[u8]) -> Step
+    ensures { (mark number : ℕ) → result ≡ next_mode Mode.Ress mark number text.now }
+{
+    if is_id(text) {
+        Step::Go(Mode::ResFirst)
+    } else {
+        ress_step(word_of(text))
+    }
+}
+
 impl Mode {
     /// What the token of this number and text does, where `mark` is the delimiter.
     pub fn next(self, mark: u8, number: u32, text: &[u8]) -> Step
@@ -396,38 +473,18 @@ impl Mode {
             Mode::Others => others_step(text),
             Mode::DesignName => design_step(number, text),
             Mode::Items => top_step(word_of(text)),
-            Mode::DividerMark => put_if(
-                is_mark(text),
-                Mode::Items,
-                HeadItem::Divider(first_byte(text)),
-            ),
-            Mode::DelimiterMark => put_if(
-                is_mark(text),
-                Mode::Items,
-                HeadItem::Delimiter(first_byte(text)),
-            ),
+            Mode::DividerMark => divider_step(text),
+            Mode::DelimiterMark => delimiter_step(text),
             Mode::BusLeft => bus_step(text),
-            Mode::BusRight(left) => put_if(
-                is_mark(text),
-                Mode::Items,
-                HeadItem::BusDelimiter(left, first_byte(text)),
-            ),
+            Mode::BusRight(left) => right_step(left, text),
             Mode::CapNumber => go_if(is_literal(text), Mode::CapWord(number)),
             Mode::CapWord(at) => put_if(is_other(text), Mode::Items, HeadItem::CapUnit(at)),
             Mode::ResNumber => go_if(is_literal(text), Mode::ResWord(number)),
             Mode::ResWord(at) => put_if(is_other(text), Mode::Items, HeadItem::ResUnit(at)),
             Mode::NameMap => map_step(number, text),
-            Mode::MapName(index) => put_if(
-                is_map_name(text),
-                Mode::NameMap,
-                HeadItem::Mapped(MapEntry {
-                    index,
-                    name: number,
-                }),
-            ),
+            Mode::MapName(index) => map_name_step(index, number, text),
             Mode::Sections => sections_step(word_of(text)),
-            Mode::NetName if is_ref(mark, text) => Step::Open(number),
-            Mode::NetName => Step::Refuse,
+            Mode::NetName => net_step(mark, number, text),
             Mode::NetTotal => go_if(is_value(text), Mode::AfterTotal),
             Mode::AfterTotal => total_step(word_of(text)),
             Mode::Confidence => go_if(is_literal(text), Mode::AfterConfidence),
@@ -437,15 +494,12 @@ impl Mode {
             Mode::ConnDirection(port, node) => direction_step(port, node, text),
             Mode::ConnTail(conn) => tail_step(conn, word_of(text), is_loose(text)),
             Mode::ConnLoad(conn) => load_step(conn, number, text),
-            Mode::NodeLine if is_loose(text) => Step::Go(Mode::NodeLine),
-            Mode::NodeLine => conns_step(word_of(text)),
-            Mode::Caps if is_id(text) => Step::Go(Mode::CapFirst),
-            Mode::Caps => caps_step(word_of(text)),
+            Mode::NodeLine => node_line_step(text),
+            Mode::Caps => cap_id_step(text),
             Mode::CapFirst => go_if(is_ref(mark, text), Mode::CapSecond(number)),
             Mode::CapSecond(first) => second_step(first, mark, number, text),
             Mode::CapValue(first, second) => cap_value_step(first, second, number, text),
-            Mode::Ress if is_id(text) => Step::Go(Mode::ResFirst),
-            Mode::Ress => ress_step(word_of(text)),
+            Mode::Ress => res_id_step(text),
             Mode::ResFirst => go_if(is_ref(mark, text), Mode::ResSecond(number)),
             Mode::ResSecond(first) => go_if(is_ref(mark, text), Mode::ResValue(first, number)),
             Mode::ResValue(first, second) => res_value_step(first, second, number, text),
