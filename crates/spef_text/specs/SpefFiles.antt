@@ -24,10 +24,14 @@ pub record SpefText : Type 0 where
   pub texts : List (List ℕ)
   pub reading : Reading
 
+-- what the file says is what its tokens say by the grammar
+abbrev pub IsFormed : SpefText → Type 0
+IsFormed file = IsSpef (numbered 1 file.texts) file.reading
+
 -- the file is these bytes' tokens, and what they say
 pub record Reads (bytes : List ℕ) (file : SpefText) : Type 0 where
   pub parted : AreTokens bytes file.texts
-  pub formed : IsSpef (numbered 1 file.texts) file.reading
+  pub formed : IsFormed file
 
 -- a word that is refused by name
 abbrev pub is_refused_word : Option Word → Bool

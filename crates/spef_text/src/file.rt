@@ -2,7 +2,7 @@
 ghost use Rattle.std.specs.Prelude.{◌≡◌, ◌-◌, ◌<◌, ◌≤◌, length, slice_get, Some};
 ghost use Rattle.spef_text.specs.Spans.{texts};
 ghost use Rattle.spef_text.specs.Entries.{section_at};
-ghost use Rattle.spef_text.specs.SpefFiles.{SpefText};
+ghost use Rattle.spef_text.specs.SpefFiles.{SpefText, IsFormed};
 
 use crate::entries::{Cap, Conn, Res};
 use crate::head_items::HeadItems;
@@ -10,7 +10,7 @@ use crate::sections::Sections;
 use crate::spans::Span;
 use std::marker::Model;
 
-/// A SPEF file: its tokens, and what they say. Contracts see the texts of the tokens, and the reading.
+/// A SPEF file: its tokens, and what they say by the grammar. Contracts see the texts of the tokens, and the reading.
 #[derive(Drop)]
 pub struct SpefFile<'a> {
     pub(crate) bytes: &'a [u8],
@@ -23,6 +23,9 @@ impl<'a> Model for SpefFile<'a> {
     ghost Value = { SpefText };
 
     ghost view = { λ f. record { texts = texts f.bytes.now f.spans.items; reading = record { head = f.head; sections = f.sections.done } } };
+
+    // what is kept is what the tokens say
+    ghost invariant = { λ f. IsFormed (record { texts = texts f.bytes.now f.spans.items; reading = record { head = f.head; sections = f.sections.done } }) };
 }
 
 impl<'a> SpefFile<'a> {
@@ -33,6 +36,14 @@ impl<'a> SpefFile<'a> {
         ensures { slice_get self.now.texts (t - 1) ≡ Some result.now }
     {
         self.spans[t as usize - 1].of(self.bytes)
+    }
+
+    /// The law of files, which its contract states: a file says what its tokens say by the grammar. It does nothing when it is
+    /// called.
+    pub fn formed(&self)
+        ensures { IsFormed self.now }
+    {
+        let _ = &self.bytes;
     }
 
     /// How many sections the file has, one for each net.

@@ -10,6 +10,9 @@ read-requires c =
     let few = few_tokens c.in-Ok.ensures in
     rw c.as_slice.ensures.value (omega (arith, length-map c.in-Ok.spans.items (text_at c.args.bytes.now)))
 
+pub invariant_of-result : goal.invariant_of-result
+invariant_of-result c = (reads c.args.bytes.now _ c.in-Ok.ensures _ (rw c.as_slice.ensures.value at c.in-Ok-read.ensures)).formed
+
 pub returns-in-Ok-read-clause-ok : goal.returns-in-Ok-read-clause-ok
 returns-in-Ok-read-clause-ok c = reads c.args.bytes.now _ c.in-Ok.ensures _ (rw c.as_slice.ensures.value at c.in-Ok-read.ensures)
 
