@@ -22,3 +22,4 @@ pub mod MapLemmas
 pub mod ReferenceLemmas
 pub mod HeadLemmas
 pub mod MapOrder
+pub mod SectionOrder

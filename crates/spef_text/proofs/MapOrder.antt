@@ -12,7 +12,7 @@ use Rattle.spef_text.specs.declared.entries.MapEntry.{MapEntry}
 use Rattle.spef_text.specs.declared.entries.HeadItem.{HeadItem}
 
 -- all tokens are later than this number, and each than those before it
-abbrev Rises : ℕ → List Tok → Type 0
+abbrev pub Rises : ℕ → List Tok → Type 0
 Rises n [] = ⊤
 Rises n (token ∷ tokens) = (n < token.number) × Rises token.number tokens
 
@@ -23,14 +23,14 @@ earlier m n (token ∷ tokens) h r = (less, r.1)
     less : m < token.number
     less = let l = r.0 in omega (arith, h, l)
 
-behind : (n : ℕ) (token : Tok) (tokens : List Tok) → Rises n (token ∷ tokens) → Rises n tokens
+pub behind : (n : ℕ) (token : Tok) (tokens : List Tok) → Rises n (token ∷ tokens) → Rises n tokens
 behind n token tokens r = let l = r.0 in let less : n ≤ token.number = omega (arith, l) in earlier n token.number tokens less r.1
 
-rises : (n m : ℕ) (texts : List (List ℕ)) → n < m → Rises n (numbered m texts)
+pub rises : (n m : ℕ) (texts : List (List ℕ)) → n < m → Rises n (numbered m texts)
 rises n m [] h = tt
 rises n m (text ∷ texts) h = (h, rises m (m + 1) texts (omega arith))
 
-others_rise : (n : ℕ) (from rest : List Tok) → Others from rest → Rises n from → Rises n rest
+pub others_rise : (n : ℕ) (from rest : List Tok) → Others from rest → Rises n from → Rises n rest
 others_rise n from rest no_other r = r
 others_rise n from rest (and_other {token = token} others is) r = behind n token rest (others_rise n from (token ∷ rest) others r)
 
@@ -55,11 +55,11 @@ item_map from rest item head (cap_unit a b c) = refl
 item_map from rest item head (res_unit a b c) = refl
 
 -- the entries stand in order, at tokens up to this one, and the rest of the tokens are later
-record Stands (entries : List MapEntry) (rest : List Tok) : Type 0 where
-  last : ℕ
+pub record Stands (entries : List MapEntry) (rest : List Tok) : Type 0 where
+  pub last : ℕ
   order : IsInOrder entries
   within : (i : ℕ) (d : MapEntry) → i < length entries → (get_or entries i d).index ≤ last
-  later : Rises last rest
+  pub later : Rises last rest
 
 nothing : (d : ℕ) → d < 0 → ⊥
 nothing d h = omega (arith, h)
@@ -112,7 +112,7 @@ map_stands from rest before after no_entry s = s
 map_stands from rest before after (and_entry {after = middle} {index = index} {name = name} part a b) s =
     one_more middle.map index name rest (record { index = index.number; name = name.number }) refl (map_stands from (index ∷ name ∷ rest) before middle part s)
 
-items_stand : (n : ℕ) (from rest : List Tok) (head : Head) → Items from head rest → Rises n from → Stands head.map rest
+pub items_stand : (n : ℕ) (from rest : List Tok) (head : Head) → Items from head rest → Rises n from → Stands head.map rest
 items_stand n from rest head no_item r = no_entries n from r
 items_stand n from rest head (and_item {middle = middle} {head = before} {item = item} items is) r =
     subst (λ (entries : List MapEntry). Stands entries rest) (sym (item_map middle rest item before is)) (with_rest before.map middle rest (λ k. item_rises k middle rest item is) (items_stand n from middle before items r))

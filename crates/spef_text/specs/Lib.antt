@@ -13,3 +13,4 @@ pub mod TokenTexts
 pub mod Units
 pub mod Heads
 pub mod References
+pub mod TokenOrder

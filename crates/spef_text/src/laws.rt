@@ -4,8 +4,9 @@ ghost use Rattle.delay_units.specs.Literal.{IsLiteral};
 ghost use Rattle.spef_text.specs.Classes.{is_literal};
 ghost use Rattle.spef_text.specs.Tokens.{AreTokens};
 ghost use Rattle.spef_text.specs.Entries.{Reading};
-ghost use Rattle.spef_text.specs.SpefFiles.{SaysSpef, LeavesSpef};
+ghost use Rattle.spef_text.specs.SpefFiles.{SpefText, SaysSpef, LeavesSpef, IsFormed};
 ghost use Rattle.spef_text.specs.TokenTexts.{StandAlone};
+ghost use Rattle.spef_text.specs.TokenOrder.{AreInFileOrder};
 
 /// The law of tokens, which its contract states: given bytes have only one list of them. It does nothing when it is
 /// called.
@@ -35,4 +36,12 @@ pub fn literals()
 /// broken instead. So what is broken is told from a token by its text. It does nothing when it is called.
 pub fn token_texts()
     ensures law { (bytes : List ℕ) (texts : List (List ℕ)) → AreTokens bytes texts → StandAlone texts }
+{}
+
+/// The law of sections, which its contract states: the tokens that they are said by stand in the order of the file, one
+/// section behind the other, and in each the net's name, the connections, the capacitances and the resistances. It does
+/// nothing when it is called.
+#[tactic(auto, using(crate::proofs::SectionOrder::sections_in_order))]
+pub fn sections_in_order()
+    ensures law { (file : SpefText) → IsFormed file → AreInFileOrder file.reading.sections }
 {}
