@@ -2,7 +2,8 @@
 use Rattle.std.proofs.Common.{◌≡◌, ℕ, ◌+◌, ◌-◌, ◌<◌, ◌≤◌, Bool, true, false, cond, not, ◌&&◌, ◌==◌, List, ◌∷◌, length, drop, get_or, Option, Some, None, option_map, refl, ap, ap₂, ◌∙◌, arith}
 use Rattle.std.proofs.lemmas.Bool.{eq-eqb, eqb-true}
 use Rattle.std.proofs.lemmas.List.{drop_more, drop_all}
-use Rattle.liberty_groups.specs.Tokens.{text_end, word_length, goes_on, opened_behind}
+use Rattle.liberty_groups.specs.Tokens.{is_plain, is_mark, text_end, word_length, goes_on, opened_behind}
+use Rattle.liberty_groups.specs.Cuts.{is_simple}
 
 pub not_byte : (b n : ℕ) → (b ≡ n → ⊥) → (b == n) ≡ false
 not_byte b n h = by (b == n) refl
@@ -114,3 +115,22 @@ word_ends whole opened unclosed place h le =
     let step : word_length unclosed (drop place whole) ≡ 0 = ap (word_length unclosed) (drop_all place whole le) in
     let so_far = h.so_far in
     omega arith
+
+all_five : (p m s l r : Bool) → (p && not m && not s && not l && not r) ≡ true → (p ≡ true) × (m ≡ false) × (s ≡ false) × (l ≡ false) × (r ≡ false)
+all_five true false false false false e = (refl, refl, refl, refl, refl)
+all_five true true s l r e = cc
+all_five true false true l r e = cc
+all_five true false false true r e = cc
+all_five true false false false true e = cc
+all_five false m s l r e = cc
+
+-- a simple byte
+pub simple_goes_on : (unclosed byte : ℕ) (rest : List ℕ) → is_simple byte ≡ true → goes_on unclosed byte rest ≡ true
+simple_goes_on unclosed byte rest e =
+    let is = all_five (is_plain byte) (is_mark byte) (byte == 47) (byte == 91) (byte == 93) e in
+    rw (is.0, is.1, is.2) refl
+
+pub simple_opens_none : (unclosed byte : ℕ) → is_simple byte ≡ true → opened_behind unclosed byte ≡ unclosed
+simple_opens_none unclosed byte e =
+    let is = all_five (is_plain byte) (is_mark byte) (byte == 47) (byte == 91) (byte == 93) e in
+    rw (is.3, is.4) refl

@@ -1,6 +1,6 @@
 -- How much of some bytes stands at their front.
-use Rattle.std.specs.Prelude.{ℕ, ◌+◌, ◌<◌, ◌≤◌, List, length, if◌then◌else◌}
-use Rattle.liberty_groups.specs.Tokens.{is_plain, opened_behind, word_length}
+use Rattle.std.specs.Prelude.{ℕ, ◌+◌, ◌<◌, ◌≤◌, ◌==◌, Bool, not, ◌&&◌, List, length, if◌then◌else◌}
+use Rattle.liberty_groups.specs.Tokens.{is_plain, is_mark, opened_behind, word_length}
 use Rattle.liberty_groups.specs.declared.scan.Kind.TheVariants.{Word, Bad}
 use Rattle.liberty_groups.specs.declared.scan.Cut.{Cut}
 use Rattle.liberty_groups.specs.declared.scan.Cut.TheVariants.{Skip, Take}
@@ -13,3 +13,7 @@ IsWithin n (Take k kind) = (0 < k) × (k ≤ n)
 -- a word from its first byte on, or what begins no token
 abbrev pub word_cut : ℕ → List ℕ → Cut
 word_cut first rest = if is_plain first then Take (word_length (opened_behind 0 first) rest + 1) Word else Take (length rest + 1) Bad
+
+-- a byte that a word goes on with, whatever stands before and behind it, with as many `[` open as before
+abbrev pub is_simple : ℕ → Bool
+is_simple byte = is_plain byte && not (is_mark byte) && not (byte == 47) && not (byte == 91) && not (byte == 93)

@@ -3,7 +3,7 @@ ghost use Rattle.std.specs.Prelude.{◌≡◌, ◌+◌, ◌^◌, ◌<◌, ◌≤
 ghost use Rattle.std.specs.List.{list_any};
 ghost use Rattle.std.specs.Option.{IfSome};
 ghost use Rattle.liberty_groups.specs.Tokens.{is_blank, is_line_end, ends_gap, begins_with, continuation, text_end, mark_of, is_mark, is_plain, begins_comment, goes_on, opened_behind, word_length, comment_end, comment_cut, line_length, backslash_cut, text_cut, cut_at};
-ghost use Rattle.liberty_groups.specs.Cuts.{IsWithin, word_cut};
+ghost use Rattle.liberty_groups.specs.Cuts.{IsWithin, word_cut, is_simple};
 
 use memchr::{memchr, memmem};
 
@@ -127,6 +127,26 @@ fn is_plain(byte: u8) -> bool
     byte >= 33 && byte <= 126 && !(byte == b'"') && !(byte == b'\\')
 }
 
+// Each byte that a word goes on with, whatever stands before and behind it, stands at its own place, and a comma at every
+// other place. A look-up takes no branch, where the tests of the ranges would take some that cannot be foretold.
+static SIMPLE_BYTES: [u8; 256] = *b"\
+    ,,,,,,,,,,,,,,,,,,,,,,,,,,,,,,,,\
+    ,!,#$%&',,*+,-.,0123456789,,<=>?\
+    @ABCDEFGHIJKLMNOPQRSTUVWXYZ,,,^_\
+    `abcdefghijklmnopqrstuvwxyz,|,~,\
+    ,,,,,,,,,,,,,,,,,,,,,,,,,,,,,,,,\
+    ,,,,,,,,,,,,,,,,,,,,,,,,,,,,,,,,\
+    ,,,,,,,,,,,,,,,,,,,,,,,,,,,,,,,,\
+    ,,,,,,,,,,,,,,,,,,,,,,,,,,,,,,,,";
+
+/// Whether a word goes on with this byte, whatever stands before and behind it, and has as many `[` open behind it.
+#[inline]
+fn is_simple(byte: u8) -> bool
+    ensures { result ≡ is_simple byte }
+{
+    SIMPLE_BYTES[byte as usize] != b','
+}
+
 /// Whether a comment begins with this byte and those behind it.
 #[inline]
 fn begins_comment(byte: u8, rest: &[u8]) -> bool
@@ -170,11 +190,12 @@ fn word_length(opened: usize, bytes: &[u8]) -> usize
     let mut place = 0;
     while place < bytes.len() {
         let byte = bytes[place];
-        let rest = bytes.split_at(place + 1).1;
-        if !goes_on(unclosed, byte, rest) {
-            break;
+        if !is_simple(byte) {
+            if !goes_on(unclosed, byte, bytes.split_at(place + 1).1) {
+                break;
+            }
+            unclosed = opened_behind(unclosed, byte);
         }
-        unclosed = opened_behind(unclosed, byte);
         place += 1;
     }
     place
