@@ -15,3 +15,9 @@ pub mod Parting
 pub mod Building
 pub mod Lines
 pub mod Reading
+pub mod Trees
+pub mod Spans
+pub mod Lasting
+pub mod Pushing
+pub mod Opening
+pub mod Ending

@@ -1,11 +1,11 @@
 -- What has been read, from what the tokens add one after another.
 use Rattle.std.specs.Prelude.{ℕ, Bool, List, [], ◌∷◌, ◌++◌}
 use Rattle.liberty_groups.specs.Tokens.{Lexeme, said_by}
-use Rattle.liberty_groups.specs.Modes.{Frame, add_attribute, closed, joined, root_of}
-use Rattle.liberty_groups.specs.Groups.{Group, no_group}
+use Rattle.liberty_groups.specs.Modes.{Frame, add_attribute, closed, joined}
+use Rattle.liberty_groups.specs.Groups.{no_group}
 use Rattle.liberty_groups.specs.declared.scan.Kind.{Kind}
 use Rattle.liberty_groups.specs.declared.events.Event.{Event}
-use Rattle.liberty_groups.specs.declared.events.Event.TheVariants.{Name, Part, Piece, Attribute, OpenLibrary, Open, Close}
+use Rattle.liberty_groups.specs.declared.events.Event.TheVariants.{Part, Piece, Attribute, OpenLibrary, Open, Close}
 
 -- the statement that has begun, and the groups that have not ended, the innermost first
 pub record Built : Type 0 where
@@ -22,25 +22,17 @@ with_frames frames = record { name = []; parts = []; frames = frames }
 abbrev pub begun_frame : Built → Frame
 begun_frame b = record { name = b.name; args = b.parts; attributes = []; groups = no_group }
 
+-- a statement of this name begins
+abbrev pub begun_as : List ℕ → Built → Built
+begun_as name b = record { name = name; parts = []; frames = b.frames }
+
 abbrev pub behind : Built → Event → Built
-behind b (Name text) = record { name = text; parts = []; frames = b.frames }
 behind b (Part text) = record { name = b.name; parts = b.parts ++ text ∷ []; frames = b.frames }
 behind b (Piece text) = record { name = b.name; parts = joined b.parts text; frames = b.frames }
 behind b Attribute = with_frames (add_attribute b.name b.parts b.frames)
 behind b OpenLibrary = with_frames (begun_frame b ∷ [])
 behind b Open = with_frames (begun_frame b ∷ b.frames)
 behind b Close = with_frames (closed b.frames).frames
-
-abbrev pub built_on : Built → List Event → Built
-built_on b [] = b
-built_on b (event ∷ events) = built_on (behind b event) events
-
-abbrev pub built : List Event → Built
-built events = built_on nothing_built events
-
--- the tree of the events of a whole file
-abbrev pub tree_of : List Event → Group
-tree_of events = root_of (built events).frames
 
 -- a token of a kind and of some bytes
 abbrev pub lexeme : Kind → List ℕ → Bool → ℕ → Lexeme

@@ -9,3 +9,7 @@ pub mod Steps
 pub mod Building
 pub mod ReaderStates
 pub mod Answers
+pub mod Tables
+pub mod TableRows
+pub mod Opened
+pub mod Built

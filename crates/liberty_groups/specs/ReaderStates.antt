@@ -1,7 +1,8 @@
 -- What the reader stands for.
 use Rattle.std.specs.Prelude.{◌≡◌, Bool, true, false, length, Option, Some, None, Result, Ok, Err}
 use Rattle.liberty_groups.specs.Modes.{State, settled}
-use Rattle.liberty_groups.specs.Building.{Built, built}
+use Rattle.liberty_groups.specs.Building.{Built}
+use Rattle.liberty_groups.specs.Built.{built_of}
 use Rattle.liberty_groups.specs.declared.modes.Mode.{Mode}
 use Rattle.liberty_groups.specs.Groups.{Group}
 use Rattle.liberty_groups.specs.declared.faults.Cause.{Cause}
@@ -12,11 +13,11 @@ abbrev pub at_mode : Mode → Built → State
 at_mode mode b = record { mode = mode; name = b.name; parts = b.parts; frames = b.frames }
 
 abbrev pub state_of : Reader → State
-state_of reader = at_mode reader.mode (built reader.events.items)
+state_of reader = at_mode reader.mode (built_of reader.builder)
 
 -- it counts the groups that have not ended
 abbrev pub IsSound : Reader → Type 0
-IsSound reader = reader.depth ≡ length (built reader.events.items).frames
+IsSound reader = reader.depth ≡ length (built_of reader.builder).frames
 
 abbrev pub settled_if : Bool → State → State
 settled_if true s = settled s

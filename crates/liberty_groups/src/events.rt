@@ -1,12 +1,9 @@
-//! What tokens add to the tree, in the order of the file.
+//! What tokens add to the statement that has begun, and to the tree.
 use edge_io::Text;
 
 /// What a token adds.
 #[derive(Debug, Drop)]
 pub enum Event {
-    /// The name of a statement, or `library`.
-    Name(Text),
-
     /// An argument.
     Part(Text),
 

@@ -1,8 +1,8 @@
 //! Reads a Liberty file.
-ghost use Rattle.std.specs.Prelude.{◌||◌, ◌≡◌, ◌<◌, ◌≤◌, ◌^◌, List, ℕ, length, IfOk};
-ghost use Rattle.liberty_groups.specs.Tokens.{is_line_end, line_at};
+ghost use Rattle.std.specs.Prelude.{◌||◌, ◌≡◌, ◌<◌, ◌≤◌, ◌^◌, length, IfOk};
+ghost use Rattle.liberty_groups.specs.Tokens.{line_at};
 ghost use Rattle.liberty_groups.specs.Groups.{Group};
-ghost use Rattle.liberty_groups.specs.Building.{tree_of};
+ghost use Rattle.liberty_groups.specs.Tables.{tree_of};
 ghost use Rattle.liberty_groups.specs.Causes.{IsFault};
 ghost use Rattle.liberty_groups.specs.Answers.{SaysTree, IfSyntax, Gives};
 
@@ -51,6 +51,7 @@ fn fault_at(bytes: &[u8], place: usize, token: u64, cause: Cause) -> ParseEnd
 pub fn parse(alloc: Global, bytes: &[u8]) -> Result<GroupTree, ParseEnd>
     requires { length bytes.now < 2 ^ 32 }
     ensures ok { IfOk result (λ tree. SaysTree bytes.now (tree_of tree)) }
+    ensures root { IfOk result (λ tree. 0 < length tree.rows) }
     ensures fault { IfSyntax result (IsFault bytes.now) }
     ensures only { (tree : Group) → SaysTree bytes.now tree → Gives tree_of tree result }
 {
@@ -78,7 +79,8 @@ pub fn parse(alloc: Global, bytes: &[u8]) -> Result<GroupTree, ParseEnd>
         }
     }
     match reader.finish() {
-        Some(events) => Ok(GroupTree { events }),
-        None => Err(fault_at(bytes, bytes.len(), number, Cause::EndInside)),
+        Ok(Some(tree)) => Ok(tree),
+        Err(_) => Err(ParseEnd::OutOfMemory),
+        Ok(None) => Err(fault_at(bytes, bytes.len(), number, Cause::EndInside)),
     }
 }

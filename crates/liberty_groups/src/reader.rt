@@ -1,18 +1,22 @@
 //! The reader: takes one token after another, whole or not at all.
-ghost use Rattle.std.specs.Prelude.{◌++◌, ◌∷◌, ◌≡◌, ◌<◌, ◌^◌, ℕ, length, IfOk, OnOk};
+ghost use Rattle.std.specs.Prelude.{◌≡◌, ◌<◌, ◌^◌, ℕ, length, IfOk, IfSome, OnOk};
 ghost use Rattle.std.specs.Option.{option_map};
-ghost use Rattle.liberty_groups.specs.Modes.{first_state, closed, with_piece, step_in, finish};
+ghost use Rattle.liberty_groups.specs.Modes.{first_state, closed, step_in, finish};
 ghost use Rattle.liberty_groups.specs.Steps.{settles, applied};
 ghost use Rattle.liberty_groups.specs.Tokens.{said_by};
-ghost use Rattle.liberty_groups.specs.Building.{built, behind, lexeme, tree_of};
+ghost use Rattle.liberty_groups.specs.Building.{begun_as, behind, lexeme};
+ghost use Rattle.liberty_groups.specs.Built.{built_of, IsBuilt};
+ghost use Rattle.liberty_groups.specs.Tables.{tree_of};
 ghost use Rattle.liberty_groups.specs.ReaderStates.{state_of, at_mode, settled_if, IsSound, Steps, Finishes};
 
+use crate::builder::Builder;
 use crate::events::Event;
 use crate::faults::Cause;
 use crate::modes::{Mode, Step};
 use crate::scan::Kind;
 use crate::texts::said;
-use edge_io::{OutOfMemory, Text};
+use crate::tree::GroupTree;
+use edge_io::OutOfMemory;
 use std::alloc::Global;
 
 /// How many groups may stand in one another, the library being the first.
@@ -25,17 +29,7 @@ pub struct Reader {
 
     /// How many groups have not ended.
     pub depth: usize,
-    pub events: Vec<Event>,
-}
-
-/// A value and a further piece of it.
-fn joined(before: Text, piece: &Text) -> Result<Text, OutOfMemory>
-    ensures { IfOk result (λ value. value ≡ before ++ 32 ∷ piece.now) }
-{
-    let mut value = before;
-    value.push_all(b" ")?;
-    value.push_all(piece.bytes())?;
-    Ok(value)
+    pub builder: Builder,
 }
 
 impl Reader {
@@ -43,51 +37,50 @@ impl Reader {
     pub(crate) fn new(alloc: Global) -> Reader
         ensures state { state_of result ≡ first_state }
         ensures sound { IsSound result }
+        ensures built { IsBuilt result.builder }
     {
         Reader {
             mode: Mode::Start,
             depth: 0,
-            events: Vec::new(alloc),
+            builder: Builder::new(alloc),
         }
     }
 
     /// Adds an event; behind it something else is waited for, and so many groups have not ended.
     fn add(&mut self, event: Event, mode: Mode, depth: usize) -> Result<(), OutOfMemory>
-        ensures state { OnOk result (state_of self.new ≡ at_mode mode (behind (built self.old.events.items) event)) }
+        requires built { IsBuilt self.old.builder }
+        ensures state { OnOk result (state_of self.new ≡ at_mode mode (behind (built_of self.old.builder) event)) }
         ensures depth { OnOk result (self.new.depth ≡ depth) }
+        ensures built { OnOk result (IsBuilt self.new.builder) }
     {
-        match self.events.push(event) {
-            Ok(_) => {}
-            Err(_) => return Err(OutOfMemory),
-        }
+        self.builder.take(event)?;
         self.mode = mode;
         self.depth = depth;
         Ok(())
     }
 
-    /// Adds a piece of a value: the first, or behind a space what goes on with those before it.
-    fn piece(&mut self, text: Text) -> Result<(), OutOfMemory>
-        ensures state { OnOk result (state_of self.new ≡ with_piece text (state_of self.old)) }
+    /// Begins a statement of the name that a token says. Names are words, which say themselves.
+    fn begin(&mut self, alloc: Global, kind: Kind, bytes: &[u8]) -> Result<(), OutOfMemory>
+        requires bytes { length bytes.now < 2 ^ 32 }
+        requires built { IsBuilt self.old.builder }
+        ensures built { OnOk result (built_of self.new.builder ≡ begun_as (said_by kind bytes.now) (built_of self.old.builder)) }
         ensures depth { OnOk result (self.new.depth ≡ self.old.depth) }
+        ensures sound { OnOk result (IsBuilt self.new.builder) }
     {
-        match self.events.pop() {
-            Some(Event::Piece(before)) => {
-                let value = joined(before, &text)?;
-                self.add(Event::Piece(value), Mode::Value, self.depth)
-            }
-            Some(other) => {
-                self.add(other, self.mode, self.depth)?;
-                self.add(Event::Piece(text), Mode::Value, self.depth)
-            }
-            None => self.add(Event::Piece(text), Mode::Value, self.depth),
+        if matches!(kind, Kind::Word) {
+            return self.builder.begin(bytes);
         }
+        let text = said(alloc, kind, bytes)?;
+        self.builder.begin(text.bytes())
     }
 
     /// Ends the innermost group.
     fn close(&mut self) -> Result<(), OutOfMemory>
-        requires { IsSound self.old }
-        ensures state { OnOk result (state_of self.new ≡ closed (built self.old.events.items).frames) }
+        requires sound { IsSound self.old }
+        requires built { IsBuilt self.old.builder }
+        ensures state { OnOk result (state_of self.new ≡ closed (built_of self.old.builder).frames) }
         ensures sound { OnOk result (IsSound self.new) }
+        ensures built { OnOk result (IsBuilt self.new.builder) }
     {
         if self.depth > 1 {
             self.add(Event::Close, Mode::Body, self.depth - 1)
@@ -106,16 +99,18 @@ impl Reader {
     ) -> Result<Option<Cause>, OutOfMemory>
         requires bytes { length bytes.now < 2 ^ 32 }
         requires sound { IsSound self.old }
+        requires built { IsBuilt self.old.builder }
         requires depth { self.old.depth < 2 ^ 32 }
         ensures state { IfOk result (Steps (applied step (state_of self.old) (said_by kind bytes.now)) (state_of self.new)) }
         ensures sound { OnOk result (IsSound self.new) }
+        ensures built { OnOk result (IsBuilt self.new.builder) }
     {
         match step {
             Step::Refuse(cause) => return Ok(Some(cause)),
             Step::Go(mode) => self.mode = mode,
             Step::Begin(mode) => {
-                let text = said(alloc, kind, bytes)?;
-                self.add(Event::Name(text), mode, self.depth)?;
+                self.begin(alloc, kind, bytes)?;
+                self.mode = mode;
             }
             Step::Part(mode) => {
                 let text = said(alloc, kind, bytes)?;
@@ -123,7 +118,7 @@ impl Reader {
             }
             Step::Piece => {
                 let text = said(alloc, kind, bytes)?;
-                self.piece(text)?;
+                self.add(Event::Piece(text), Mode::Value, self.depth)?;
             }
             Step::OpenLibrary => self.add(Event::OpenLibrary, Mode::Body, 1)?,
             Step::Open => self.add(Event::Open, Mode::Body, self.depth + 1)?,
@@ -134,9 +129,11 @@ impl Reader {
 
     /// Ends an attribute, if the token shows that it has ended.
     fn settle(&mut self, kind: Kind, fresh: bool) -> Result<(), OutOfMemory>
-        requires { IsSound self.old }
+        requires sound { IsSound self.old }
+        requires built { IsBuilt self.old.builder }
         ensures state { OnOk result (state_of self.new ≡ settled_if (settles self.old.mode kind fresh) (state_of self.old)) }
         ensures sound { OnOk result (IsSound self.new) }
+        ensures built { OnOk result (IsBuilt self.new.builder) }
         ensures depth { OnOk result (self.new.depth ≡ self.old.depth) }
     {
         if self.mode.settles(kind, fresh) {
@@ -157,9 +154,11 @@ impl Reader {
     ) -> Result<Option<Cause>, OutOfMemory>
         requires bytes { length bytes.now < 2 ^ 32 }
         requires sound { IsSound self.old }
+        requires built { IsBuilt self.old.builder }
         requires depth { self.old.depth < 2 ^ 32 }
         ensures state { (start : ℕ) → IfOk result (Steps (step_in 16 self.old.mode (state_of self.old) (lexeme kind bytes.now fresh start)) (state_of self.new)) }
         ensures sound { OnOk result (IsSound self.new) }
+        ensures built { OnOk result (IsBuilt self.new.builder) }
     {
         self.settle(kind, fresh)?;
         let step = self.mode.next(self.depth >= DEPTH_LIMIT, kind, bytes);
@@ -167,12 +166,17 @@ impl Reader {
     }
 
     /// What has been read, where the file may end.
-    pub(crate) fn finish(self) -> Option<Vec<Event>>
-        ensures { Finishes (finish (state_of self)) (option_map (λ events. tree_of events.items) result) }
+    pub(crate) fn finish(self) -> Result<Option<GroupTree>, OutOfMemory>
+        requires built { IsBuilt self.builder }
+        ensures tree { IfOk result (λ tree. Finishes (finish (state_of self)) (option_map tree_of tree)) }
+        ensures root { IfOk result (λ tree. IfSome tree (λ some. 0 < length some.rows)) }
     {
         match self.mode {
-            Mode::End => Some(self.events),
-            _ => None,
+            Mode::End => {
+                let tree = self.builder.finish()?;
+                Ok(Some(tree))
+            }
+            _ => Ok(None),
         }
     }
 }

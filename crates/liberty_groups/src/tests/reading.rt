@@ -1,15 +1,17 @@
 //! Reads the files of both tables.
-ghost use Rattle.std.specs.Prelude.{◌<◌, ◌^◌, length};
+ghost use Rattle.std.specs.Prelude.{◌<◌, length};
+ghost use Rattle.liberty_groups.specs.Tables.{IsGroup};
 
-use super::accepted_files::ACCEPTED;
 use super::refused_files::REFUSED;
-use crate::events::Event;
+use super::tree_tables::{KEYS, TREES};
 use crate::faults::{ParseEnd, SyntaxFault};
 use crate::parsing::parse;
-use std::alloc::{AllocError, Global};
+use crate::rows::GroupId;
+use crate::tree::GroupTree;
+use std::alloc::AllocError;
 use std::test::Fail;
 
-/// A line for an event.
+/// A line for what is said.
 fn put(text: &mut Vec<u8>, mark: u8, said: &[u8]) -> Result<(), AllocError> {
     if !text.is_empty() {
         text.push(b'\n')?;
@@ -19,29 +21,65 @@ fn put(text: &mut Vec<u8>, mark: u8, said: &[u8]) -> Result<(), AllocError> {
     Ok(())
 }
 
-/// What the tokens of a file add, a line each.
-fn told(alloc: Global, events: &[Event]) -> Result<Vec<u8>, AllocError> {
-    let mut text = Vec::new(alloc);
-    for event in events {
-        match event {
-            Event::Name(said) => put(&mut text, b'=', said.bytes())?,
-            Event::Part(said) => put(&mut text, b'(', said.bytes())?,
-            Event::Piece(said) => put(&mut text, b':', said.bytes())?,
-            Event::Attribute => put(&mut text, b';', b"")?,
-            Event::OpenLibrary | Event::Open => put(&mut text, b'{', b"")?,
-            Event::Close => put(&mut text, b'}', b"")?,
-        }
+/// The lines of the last attribute of a name.
+fn tell_attribute(
+    text: &mut Vec<u8>,
+    tree: &GroupTree,
+    g: GroupId,
+    key: &[u8],
+) -> Result<(), AllocError>
+    requires { IsGroup tree.now g.0 }
+{
+    let Some(a) = tree.attribute(g, key) else {
+        return Ok(());
+    };
+    put(text, b'#', key)?;
+    for i in 0..tree.value_count(a) {
+        put(text, b':', tree.value(a, i).bytes())?;
     }
-    Ok(text)
+    Ok(())
+}
+
+/// The lines of a group.
+fn tell_group(text: &mut Vec<u8>, tree: &GroupTree, g: GroupId) -> Result<(), AllocError>
+    requires { IsGroup tree.now g.0 }
+{
+    put(text, b'=', tree.name(g).bytes())?;
+    for i in 0..tree.arg_count(g) {
+        put(text, b'(', tree.arg(g, i).bytes())?;
+    }
+    for i in 0..tree.child_count(g) {
+        put(
+            text,
+            b'>',
+            &[b'0'.wrapping_add((tree.child(g, i).0 % 128) as u8)],
+        )?;
+    }
+    for key in &KEYS {
+        tell_attribute(text, tree, g, key)?;
+    }
+    Ok(())
+}
+
+/// The lines of all groups, in the order of their numbers.
+fn tell_tree(text: &mut Vec<u8>, tree: &GroupTree) -> Result<(), AllocError>
+    requires { 0 < length tree.now.rows }
+{
+    let last = tree.root().0;
+    for number in 0..last {
+        tell_group(text, tree, GroupId(number))?;
+    }
+    tell_group(text, tree, GroupId(last))
 }
 
 #[test]
-fn reads_the_accepted_files(rt: HostRuntime) -> Result<(), Fail> {
-    for row in &ACCEPTED {
+fn tells_the_tables_of_trees(rt: HostRuntime) -> Result<(), Fail> {
+    for row in &TREES {
         assert!(rt; row.0.len() < 1 << 20);
         match parse(rt.alloc(), row.0) {
             Ok(tree) => {
-                let text = told(rt.alloc(), tree.events.as_slice())?;
+                let mut text = Vec::new(rt.alloc());
+                tell_tree(&mut text, &tree)?;
                 assert_eq!(rt; text.as_slice(), row.1);
             }
             Err(_) => assert!(rt; false),

@@ -1,9 +1,10 @@
 -- One token more, or what parts two.
 use Rattle.std.proofs.Common.{◌≡◌, ℕ, ◌+◌, List, take, Option, Ok, Err, sym, ap, ◌∙◌, subst, arith}
-use Rattle.liberty_groups.specs.Modes.{State, step_in}
+use Rattle.liberty_groups.specs.Modes.{State, step_in, finish}
 use Rattle.std.specs.Prelude.{⊤}
-use Rattle.liberty_groups.specs.Building.{tree_of}
-use Rattle.liberty_groups.specs.ReaderStates.{state_of, Steps}
+use Rattle.std.specs.Option.{option_map}
+use Rattle.liberty_groups.specs.Tables.{Tables, tree_of}
+use Rattle.liberty_groups.specs.ReaderStates.{state_of, Steps, Finishes}
 use Rattle.liberty_groups.specs.declared.faults.Cause.{Cause}
 use Rattle.liberty_groups.specs.declared.faults.Cause.TheVariants.{EndInside}
 use Rattle.liberty_groups.proofs.Deepening.{later}
@@ -18,6 +19,7 @@ loop-alloc-preserved-in-Skip c =
       read = subst (λ fresh. ReadTo c.args.bytes.now (start + c.in-Skip.count) fresh c.loop-alloc.number (state_of c.loop-alloc.reader)) (sym c.either-fresh.ensures)
           (skipped _ _ c.in-Skip.count c.in-Skip.breaks c.loop-alloc.invariant.read split (sym c.in-Skip.ensures.value) c.in-Skip.ensures.within.1);
       sound = c.loop-alloc.invariant.sound;
+      built = c.loop-alloc.invariant.built;
       deep = c.loop-alloc.invariant.deep;
     }
 
@@ -58,24 +60,30 @@ loop-alloc-preserved c =
     record {
       read = taken _ _ c.in-Take.count c.in-Take.kind now c.loop-alloc.invariant.read split (sym c.in-Take.ensures.value) c.in-Take.ensures.within.0 c.in-Take.ensures.within.1 moves;
       sound = c.in-Ok-None.ensures.sound;
+      built = c.in-Ok-None.ensures.built;
       deep = (later state now (record { number = c.loop-alloc.number; text = _ }) c.loop-alloc.invariant.deep moves).1;
     }
 
-pub returns-in-Some-clause-ok : goal.returns-in-Some-clause-ok
-returns-in-Some-clause-ok c =
-    ends_well (tree_of c.in-Some.events.items) c.loop-alloc.invariant.read (sym c.split_at.ensures.back ∙ no_bytes c.split_at.result.1.now c.in_default.len_below) c.in-Some.ensures
+pub returns-in-Ok-Some-finish-clause-ok : goal.returns-in-Ok-Some-finish-clause-ok
+returns-in-Ok-Some-finish-clause-ok c =
+    let ends = subst (λ (o : Option Tables). Finishes (finish (state_of c.loop-alloc.reader)) (option_map tree_of o)) c.in-Ok-Some-finish.field-0-is c.in-Ok-Some-finish.ensures.tree in
+    ends_well (tree_of c.in-Ok-Some-finish.tree) c.loop-alloc.invariant.read (sym c.split_at.ensures.back ∙ no_bytes c.split_at.result.1.now c.in_default.len_below) ends
 
-pub returns-in-Some-clause-only : goal.returns-in-Some-clause-only
-returns-in-Some-clause-only c = λ tree says.
-    one_tree c.args.bytes.now (tree_of c.in-Some.events.items) tree
-    (ends_well (tree_of c.in-Some.events.items) c.loop-alloc.invariant.read (sym c.split_at.ensures.back ∙ no_bytes c.split_at.result.1.now c.in_default.len_below) c.in-Some.ensures) says
+pub returns-in-Ok-Some-finish-clause-only : goal.returns-in-Ok-Some-finish-clause-only
+returns-in-Ok-Some-finish-clause-only c =
+    let ends = subst (λ (o : Option Tables). Finishes (finish (state_of c.loop-alloc.reader)) (option_map tree_of o)) c.in-Ok-Some-finish.field-0-is c.in-Ok-Some-finish.ensures.tree in
+    λ tree says.
+    one_tree c.args.bytes.now (tree_of c.in-Ok-Some-finish.tree) tree
+    (ends_well (tree_of c.in-Ok-Some-finish.tree) c.loop-alloc.invariant.read (sym c.split_at.ensures.back ∙ no_bytes c.split_at.result.1.now c.in_default.len_below) ends) says
 
-pub returns-in-None-clause-fault : goal.returns-in-None-clause-fault
-returns-in-None-clause-fault c =
-    let fault = ends_inside EndInside c.loop-alloc.invariant.read (sym c.split_at.ensures.back ∙ no_bytes c.split_at.result.1.now c.in_default.len_below) c.in-None.ensures in
-    fault_answer ⊤ c.args.bytes.now c.fault_at-in-None.result _ c.fault_at-in-None.ensures fault
+pub returns-in-Ok-None-finish-clause-fault : goal.returns-in-Ok-None-finish-clause-fault
+returns-in-Ok-None-finish-clause-fault c =
+    let ends = subst (λ (o : Option Tables). Finishes (finish (state_of c.loop-alloc.reader)) (option_map tree_of o)) c.in-Ok-None-finish.field-0-is c.in-Ok-None-finish.ensures.tree in
+    let fault = ends_inside EndInside c.loop-alloc.invariant.read (sym c.split_at.ensures.back ∙ no_bytes c.split_at.result.1.now c.in_default.len_below) ends in
+    fault_answer ⊤ c.args.bytes.now c.fault_at-in-Ok-None-finish.result _ c.fault_at-in-Ok-None-finish.ensures fault
 
-pub returns-in-None-clause-only : goal.returns-in-None-clause-only
-returns-in-None-clause-only c =
-    let fault = ends_inside EndInside c.loop-alloc.invariant.read (sym c.split_at.ensures.back ∙ no_bytes c.split_at.result.1.now c.in_default.len_below) c.in-None.ensures in
-    fault_only tree_of c.args.bytes.now c.fault_at-in-None.result _ fault
+pub returns-in-Ok-None-finish-clause-only : goal.returns-in-Ok-None-finish-clause-only
+returns-in-Ok-None-finish-clause-only c =
+    let ends = subst (λ (o : Option Tables). Finishes (finish (state_of c.loop-alloc.reader)) (option_map tree_of o)) c.in-Ok-None-finish.field-0-is c.in-Ok-None-finish.ensures.tree in
+    let fault = ends_inside EndInside c.loop-alloc.invariant.read (sym c.split_at.ensures.back ∙ no_bytes c.split_at.result.1.now c.in_default.len_below) ends in
+    fault_only tree_of c.args.bytes.now c.fault_at-in-Ok-None-finish.result _ fault
