@@ -1,0 +1,7 @@
+use Rattle.std.proofs.Common.{sym}
+use Rattle.spef_nets.proofs.RowLemmas.{rewritten}
+use Rattle.spef_nets.proofs.draft.Draft.into_section.Goals as goal
+
+-- src/draft.rt
+pub invariant_of-result : goal.invariant_of-result
+invariant_of-result g c = rewritten g.C.CornerSet.COUNT _ c.into_nodes.result.items c.args.written (sym c.into_nodes.ensures) c.requires

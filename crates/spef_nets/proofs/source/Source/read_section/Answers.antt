@@ -1,0 +1,27 @@
+use Rattle.std.proofs.Common.{sym, subst}
+use Rattle.spef_text.specs.Entries.{section_at}
+use Rattle.spef_nets.specs.NetElements.{NetElements}
+use Rattle.spef_nets.specs.Sections.{IsNet}
+use Rattle.spef_nets.specs.DraftOf.{drafted}
+use Rattle.spef_nets.specs.Drafts.{corners_of}
+use Rattle.spef_nets.proofs.Referring.{joined_grown, grows_more}
+use Rattle.spef_nets.proofs.ResStepping.{whole_draft, is_net, is_faultless}
+use Rattle.spef_nets.proofs.source.Source.read_section.Goals as goal
+
+-- src/section_reading.rt
+pub read_ress-requires-clause-joints : goal.read_ress-requires-clause-joints
+read_ress-requires-clause-joints g c =
+    joined_grown c.args.self.now.file.now (drafted c.begin.new.draft).refs.words (drafted c.read_caps.new.draft).refs.words (section_at c.args.self.now.file.now.reading.sections c.args.s).ress c.in_ok-joints.joints.items c.deref.result.now
+    (grows_more (drafted c.begin.new.draft).refs.words (drafted c.read_conns.new.draft).refs.words (drafted c.read_caps.new.draft).refs.words c.in_ok-read_conns.ensures.grows c.in_ok-read_caps.ensures.grows)
+    c.deref.ensures.value c.in_ok-joints.ensures.joints
+
+pub into_section-requires : goal.into_section-requires
+into_section-requires g c = whole_draft (corners_of g.C.CornerSet.COUNT g.C.CornerSet.number_of g.C.CornerSet.member_of c.args.self.now.pick) c.args.self.now.file.now c.args.self.now.head.now c.args.s (drafted c.read_ress.new.draft) c.in_ok-read_ress.ensures.upto
+
+pub returns-clause-ok : goal.returns-clause-ok
+returns-clause-ok g c =
+    subst (λ (n : NetElements). IsNet (corners_of g.C.CornerSet.COUNT g.C.CornerSet.number_of g.C.CornerSet.member_of c.args.self.now.pick) c.args.self.now.file.now c.args.self.now.head.now (section_at c.args.self.now.file.now.reading.sections c.args.s) n) (sym c.into_section.ensures)
+    (is_net (corners_of g.C.CornerSet.COUNT g.C.CornerSet.number_of g.C.CornerSet.member_of c.args.self.now.pick) c.args.self.now.file.now c.args.self.now.head.now c.args.s (drafted c.read_ress.new.draft) c.in_ok-read_ress.ensures.upto c.cap_count.result c.cap_count.ensures)
+
+pub returns-clause-faultless : goal.returns-clause-faultless
+returns-clause-faultless g c = is_faultless (corners_of g.C.CornerSet.COUNT g.C.CornerSet.number_of g.C.CornerSet.member_of c.args.self.now.pick) c.args.self.now.file.now c.args.self.now.head.now c.args.s (drafted c.read_ress.new.draft) c.in_ok-read_ress.ensures.upto

@@ -1,0 +1,13 @@
+pub mod Values
+pub mod Nodes
+pub mod Elements
+pub mod NetElements
+pub mod Sections
+pub mod Faults
+pub mod NameHash
+pub mod Refs
+pub mod NodeKeys
+pub mod RefsOf
+pub mod Drafts
+pub mod DraftOf
+pub mod ShortLiterals

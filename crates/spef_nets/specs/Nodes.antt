@@ -1,0 +1,87 @@
+-- The nodes of a section of a SPEF file (IEEE 1481): what a reference names, which nodes are one, and which belong to the section.
+use Rattle.std.specs.Prelude.{ℕ, Bool, true, false, not, ◌||◌, if◌then◌else◌, List, [], ◌∷◌, map, filter, Option, Some, None, option_map, option_to_list}
+use Rattle.std.specs.List.{flat_map, list_any}
+use Rattle.std.specs.Str.{bytes_eq}
+use Rattle.name_table.specs.SpefNames.{node_name}
+use Rattle.name_table.specs.declared.spef_names.NodeName.{NodeName}
+use Rattle.spef_text.specs.Entries.{Section}
+use Rattle.spef_text.specs.SpefFiles.{SpefText}
+use Rattle.spef_text.specs.Heads.{text_of, digits_of}
+use Rattle.spef_text.specs.References.{marks_of, is_starred, index_end, digits_in, mapped_node}
+use Rattle.spef_text.specs.declared.entries.MapEntry.{MapEntry}
+
+-- the name that the map has for an index with these digits
+abbrev pub name_in : SpefText → List MapEntry → List ℕ → Option (List ℕ)
+name_in file [] digits = None
+name_in file (entry ∷ later) digits = if bytes_eq (digits_of file entry) digits then Some (text_of file entry.name) else name_in file later digits
+
+-- the node of an index, if the map has it
+abbrev pub indexed_node : SpefText → Bool → List ℕ → Option NodeName
+indexed_node file cut word =
+    option_map (λ name. mapped_node (marks_of file) cut name word (index_end file.reading.head.marks.delimiter word))
+    (name_in file file.reading.head.map (digits_in file.reading.head.marks.delimiter word))
+
+-- what a word names: nothing where its index is not in the map
+unfoldable pub named : SpefText → Bool → List ℕ → Option NodeName
+named file cut word = if is_starred word then indexed_node file cut word else Some (node_name (marks_of file) cut word)
+
+-- the node that a token names, which is cut into head and tail
+abbrev pub node_at : SpefText → ℕ → Option NodeName
+node_at file token = named file true (text_of file token)
+
+-- the net that a token names, whose name is not cut
+abbrev pub net_at : SpefText → ℕ → Option (List ℕ)
+net_at file token = option_map (λ node. node.head) (named file false (text_of file token))
+
+abbrev pub same_tail : Option (List ℕ) → Option (List ℕ) → Bool
+same_tail None None = true
+same_tail None (Some other) = false
+same_tail (Some one) None = false
+same_tail (Some one) (Some other) = bytes_eq one other
+
+-- what makes a node the one that it is
+pub record Key : Type 0 where
+  pub head : List ℕ
+  pub tail : Option (List ℕ)
+
+abbrev pub key_of : NodeName → Key
+key_of node = record { head = node.head; tail = node.tail }
+
+unfoldable pub same_key : Key → Key → Bool
+same_key one other = if bytes_eq one.head other.head then same_tail one.tail other.tail else false
+
+-- the same head and the same tail are the same node, however they are written
+abbrev pub same_node : NodeName → NodeName → Bool
+same_node one other = same_key (key_of one) (key_of other)
+
+abbrev pub among : Key → List Key → Bool
+among key keys = list_any (same_key key) keys
+
+abbrev pub is_among : NodeName → List NodeName → Bool
+is_among node nodes = among (key_of node) (map key_of nodes)
+
+-- each node once, at its first place
+abbrev pub first_places : List NodeName → List NodeName
+first_places [] = []
+first_places (node ∷ later) = node ∷ filter (λ other. not (same_node node other)) (first_places later)
+
+-- what tokens name; one whose index is not in the map names nothing
+abbrev pub nodes_at : SpefText → List ℕ → List NodeName
+nodes_at file tokens = flat_map (λ token. option_to_list (node_at file token)) tokens
+
+-- the nodes of a section's connections, and of its resistors
+abbrev pub listed_nodes : SpefText → Section → List NodeName
+listed_nodes file section = nodes_at file (map (λ conn. conn.node) section.conns)
+
+abbrev pub joined_nodes : SpefText → Section → List NodeName
+joined_nodes file section = nodes_at file (flat_map (λ res. res.first ∷ res.second ∷ []) section.ress)
+
+-- the node has the net's name as its head, with a tail or without
+abbrev pub has_head : Option (List ℕ) → NodeName → Bool
+has_head None node = false
+has_head (Some net) node = bytes_eq net node.head
+
+-- A node belongs to a section where it is listed as a connection, stands in a resistor, or has the net's name as its head.
+unfoldable pub belongs : SpefText → Section → NodeName → Bool
+belongs file section node =
+    is_among node (listed_nodes file section) || (is_among node (joined_nodes file section) || has_head (net_at file section.net) node)

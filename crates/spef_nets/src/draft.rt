@@ -1,0 +1,176 @@
+//! The elements of a section that have been read.
+ghost use Rattle.std.specs.Prelude.{◌≡◌, ◌<◌, [], length, OnOk};
+ghost use Rattle.spef_nets.specs.NetElements.{AreWhole};
+ghost use Rattle.spef_nets.specs.Refs.{ArePlaced};
+ghost use Rattle.spef_nets.specs.RefsOf.{refs_of};
+ghost use Rattle.spef_nets.specs.Drafts.{Drafted, corners_of, AddsRow, no_draft, written_net, FaradsOf, OhmsOf, PutsConn, PutsCap, PutsRes};
+ghost use Rattle.spef_nets.specs.DraftOf.{drafted};
+
+use crate::amounts::Grains;
+use crate::parts::{Ends, Listed};
+use crate::pushing::push;
+use crate::referred::Referred;
+use crate::section::Section;
+use corner_set::{CornerSet, Pick};
+use delay_units::{Farads, Ohms};
+use edge_io::{OutOfMemory, Text};
+use spef_text::Conn;
+use std::alloc::Global;
+use std::marker::PhantomData;
+
+/// The elements that have been read of the section of a net.
+#[derive(Drop)]
+pub struct Draft<'t> {
+    pub net: Text,
+    pub refs: Referred<'t>,
+    conns: Vec<Listed>,
+    loads: Vec<Farads>,
+    caps: Vec<usize>,
+    farads: Vec<Farads>,
+    joints: Vec<Ends>,
+    ohms: Vec<Ohms>,
+}
+
+// Puts the values of a row at the end, one for each corner.
+fn push_farads<C: CornerSet>(
+    values: &mut Vec<Farads>,
+    grains: Grains,
+    pick: Pick,
+) -> Result<(), OutOfMemory>
+    ensures { OnOk result (AddsRow (corners_of C.COUNT C.number_of C.member_of pick) values.old.items values.new.items (FaradsOf grains)) }
+{
+    for number in 0..C::COUNT {
+        match C::nth(number) {
+            Some(corner) => push(values, Farads(grains.of(C::member(corner, pick))))?,
+            None => {}
+        }
+    }
+    Ok(())
+}
+
+fn push_ohms<C: CornerSet>(
+    values: &mut Vec<Ohms>,
+    grains: Grains,
+    pick: Pick,
+) -> Result<(), OutOfMemory>
+    ensures { OnOk result (AddsRow (corners_of C.COUNT C.number_of C.member_of pick) values.old.items values.new.items (OhmsOf grains)) }
+{
+    for number in 0..C::COUNT {
+        match C::nth(number) {
+            Some(corner) => push(values, Ohms(grains.of(C::member(corner, pick))))?,
+            None => {}
+        }
+    }
+    Ok(())
+}
+
+impl<'t> Draft<'t> {
+    /// No element. It takes no memory.
+    pub fn new(alloc: Global, net: Text) -> Draft<'t>
+        ensures { drafted result ≡ no_draft net }
+    {
+        Draft {
+            net,
+            refs: Referred::new(alloc),
+            conns: Vec::new(alloc),
+            loads: Vec::new(alloc),
+            caps: Vec::new(alloc),
+            farads: Vec::new(alloc),
+            joints: Vec::new(alloc),
+            ohms: Vec::new(alloc),
+        }
+    }
+
+    /// Puts a connection at the end, whose node has this spelling and no number yet.
+    pub fn put_conn<C: CornerSet>(
+        &mut self,
+        spelling: usize,
+        conn: &Conn,
+        load: Grains,
+        pick: Pick,
+    ) -> Result<(), OutOfMemory>
+        requires within { spelling < length (refs_of self.old.refs).places }
+        requires named { spelling < length (refs_of self.old.refs).names }
+        requires placed { ArePlaced (refs_of self.old.refs) }
+        ensures { OnOk result (PutsConn (corners_of C.COUNT C.number_of C.member_of pick) (drafted self.old) (drafted self.new) spelling conn.now load) }
+    {
+        let node = self.refs.number(spelling)?;
+        let listed = Listed {
+            node,
+            port: conn.port,
+            direction: conn.direction,
+        };
+        push(&mut self.conns, listed)?;
+        push_farads::<C>(&mut self.loads, load, pick)?;
+        Ok(())
+    }
+
+    /// Puts a capacitance to ground at the end.
+    pub fn put_cap<C: CornerSet>(
+        &mut self,
+        spelling: usize,
+        value: Grains,
+        pick: Pick,
+    ) -> Result<(), OutOfMemory>
+        requires within { spelling < length (refs_of self.old.refs).places }
+        requires named { spelling < length (refs_of self.old.refs).names }
+        requires placed { ArePlaced (refs_of self.old.refs) }
+        ensures { OnOk result (PutsCap (corners_of C.COUNT C.number_of C.member_of pick) (drafted self.old) (drafted self.new) spelling value) }
+    {
+        let node = self.refs.number(spelling)?;
+        push(&mut self.caps, node)?;
+        push_farads::<C>(&mut self.farads, value, pick)?;
+        Ok(())
+    }
+
+    /// Puts a resistor at the end.
+    pub fn put_res<C: CornerSet>(
+        &mut self,
+        first: usize,
+        second: usize,
+        value: Grains,
+        pick: Pick,
+    ) -> Result<(), OutOfMemory>
+        requires first { first < length (refs_of self.old.refs).places }
+        requires first_named { first < length (refs_of self.old.refs).names }
+        requires second { second < length (refs_of self.old.refs).places }
+        requires second_named { second < length (refs_of self.old.refs).names }
+        requires placed { ArePlaced (refs_of self.old.refs) }
+        ensures { OnOk result (PutsRes (corners_of C.COUNT C.number_of C.member_of pick) (drafted self.old) (drafted self.new) first second value) }
+    {
+        let a = self.refs.number(first)?;
+        let b = self.refs.number(second)?;
+        push(&mut self.joints, Ends { a, b })?;
+        push_ohms::<C>(&mut self.ohms, value, pick)?;
+        Ok(())
+    }
+
+    /// The net with these elements, of which so many capacitances are written.
+    pub fn into_section<C: CornerSet>(self, written: usize) -> Section<C>
+        requires { AreWhole C.COUNT (drafted self).net }
+        ensures { result ≡ written_net (drafted self.entry).net written }
+    {
+        let Draft {
+            net,
+            refs,
+            conns,
+            loads,
+            caps,
+            farads,
+            joints,
+            ohms,
+        } = self;
+        Section {
+            net,
+            nodes: refs.into_nodes(),
+            conns,
+            loads,
+            caps,
+            farads,
+            joints,
+            ohms,
+            written,
+            corners: PhantomData,
+        }
+    }
+}

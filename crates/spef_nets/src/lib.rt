@@ -1,0 +1,30 @@
+//! The nets of a SPEF file (IEEE 1481): for each section its nodes, its connections, its capacitances with coupling grounded
+//! where it belongs, and its resistors, at each corner.
+#![tactic(auto)]
+
+mod amounts;
+mod draft;
+mod ends;
+mod laws;
+mod marks;
+mod name_hash;
+mod node_table;
+mod parts;
+mod pushing;
+mod reading;
+mod referred;
+mod section;
+mod section_reading;
+mod sections;
+mod short_literals;
+mod source;
+mod spellings;
+#[cfg(test)]
+mod tests;
+
+pub use ends::SectionEnd;
+pub use laws::{computed_names, first_is_least, one_section_end};
+pub use parts::{Listed, Resistor};
+pub use reading::read_sections;
+pub use section::Section;
+pub use sections::Sections;

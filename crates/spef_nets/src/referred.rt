@@ -1,0 +1,183 @@
+//! The nodes that a section refers to, and which of them belong to it.
+ghost use Rattle.std.specs.Prelude.{◌≡◌, ◌<◌, false, [], ◌∷◌, ◌++◌, length, slice_get, Some, None, Contains, IfOk, OnOk, IfSome, IfNone, option_to_list};
+ghost use Rattle.spef_nets.specs.Refs.{no_refs, ArePlaced, IsPut, Belongs, Joins, Lists, Numbers};
+ghost use Rattle.spef_nets.specs.RefsOf.{refs_of};
+ghost use Rattle.spef_nets.specs.Drafts.{BelongsBy};
+
+use crate::marks::Mark;
+use crate::node_table::NodeTable;
+use crate::pushing::push;
+use crate::spellings::Spellings;
+use edge_io::{OutOfMemory, Text};
+use name_table::NodeName;
+use std::alloc::Global;
+
+/// The spellings that stand in a section, and the nodes that they name, also those that do not belong to it.
+#[derive(Drop)]
+pub struct Referred<'t> {
+    words: Spellings<'t>,
+    // of each spelling the place of its node, and its name until an element stands at it
+    places: Vec<usize>,
+    names: Vec<Option<NodeName>>,
+    table: NodeTable,
+    // of each node
+    marks: Vec<Mark>,
+    // the nodes with a number
+    nodes: Vec<NodeName>,
+}
+
+impl<'t> Referred<'t> {
+    /// No spelling yet. It takes no memory.
+    pub fn new(alloc: Global) -> Referred<'t>
+        ensures { refs_of result ≡ no_refs }
+    {
+        Referred {
+            words: Spellings::new(alloc),
+            places: Vec::new(alloc),
+            names: Vec::new(alloc),
+            table: NodeTable::new(alloc),
+            marks: Vec::new(alloc),
+            nodes: Vec::new(alloc),
+        }
+    }
+
+    /// The number of a spelling that stood before.
+    pub fn find(&self, word: &[u8]) -> Option<usize>
+        ensures found { IfSome result (λ number. slice_get (refs_of self.now).words number ≡ Some word.now) }
+        ensures absent { IfNone result (¬ Contains (refs_of self.now).words word.now) }
+    {
+        self.words.find(word)
+    }
+
+    /// Puts a spelling at the end that did not stand before, and what it names.
+    pub fn put(&mut self, word: &'t [u8], node: NodeName, net: &Text) -> Result<(), OutOfMemory>
+        requires absent { ¬ Contains (refs_of self.old).words word.now }
+        requires marked { length (refs_of self.old).marks ≡ length (refs_of self.old).keys }
+        ensures { OnOk result (IsPut net.now (refs_of self.old) (refs_of self.new) word.now node) }
+    {
+        let place = self.table.intern(&node)?;
+        let belongs = net.bytes() == node.head.bytes();
+        mark_new(&mut self.marks, place, belongs)?;
+        push(&mut self.places, place)?;
+        push(&mut self.names, Some(node))?;
+        self.words.add(word)?;
+        Ok(())
+    }
+
+    /// How many spellings there are.
+    pub fn len(&self) -> usize
+        ensures { result ≡ length (refs_of self.now).places }
+    {
+        self.places.len()
+    }
+
+    /// Whether a node belongs to the section.
+    pub fn belongs(&self, spelling: usize) -> bool
+        requires within { spelling < length (refs_of self.now).places }
+        requires placed { ArePlaced (refs_of self.now) }
+        ensures { Belongs (refs_of self.now) spelling result }
+    {
+        let place = self.places[spelling];
+        self.marks[place].belongs
+    }
+
+    /// The same of a node whose index may be missing in the map.
+    pub fn belongs_if_known(&self, spelling: Option<usize>) -> bool
+        requires within { IfSome spelling (λ word. word < length (refs_of self.now).places) }
+        requires placed { ArePlaced (refs_of self.now) }
+        ensures { BelongsBy (refs_of self.now) spelling result }
+    {
+        match spelling {
+            Some(spelling) => self.belongs(spelling),
+            None => false,
+        }
+    }
+
+    /// Says of a node that it stands in a resistor.
+    pub fn join(&mut self, spelling: usize)
+        requires within { spelling < length (refs_of self.old).places }
+        requires placed { ArePlaced (refs_of self.old) }
+        ensures { Joins (refs_of self.old) (refs_of self.new) spelling }
+    {
+        let place = self.places[spelling];
+        let mark = self.marks[place];
+        self.marks[place] = Mark {
+            listed: mark.listed,
+            belongs: true,
+            number: mark.number,
+        };
+    }
+
+    /// Says of a node that it is listed as a connection, and tells whether it was so before.
+    pub fn list(&mut self, spelling: usize) -> bool
+        requires within { spelling < length (refs_of self.old).places }
+        requires placed { ArePlaced (refs_of self.old) }
+        ensures { Lists (refs_of self.old) (refs_of self.new) spelling result }
+    {
+        let place = self.places[spelling];
+        let mark = self.marks[place];
+        self.marks[place] = Mark {
+            listed: true,
+            belongs: true,
+            number: mark.number,
+        };
+        mark.listed
+    }
+
+    /// The number of a node in the section: its own, and else that of a new last one, with this spelling.
+    pub fn number(&mut self, spelling: usize) -> Result<usize, OutOfMemory>
+        requires within { spelling < length (refs_of self.old).places }
+        requires named { spelling < length (refs_of self.old).names }
+        requires placed { ArePlaced (refs_of self.old) }
+        ensures { IfOk result (Numbers (refs_of self.old) (refs_of self.new) spelling) }
+    {
+        let place = self.places[spelling];
+        let mark = self.marks[place];
+        match mark.number {
+            Some(number) => Ok(number),
+            None => {
+                let number = self.nodes.len();
+                let name = self.names[spelling].take();
+                push_name(&mut self.nodes, name)?;
+                self.marks[place] = Mark {
+                    listed: mark.listed,
+                    belongs: mark.belongs,
+                    number: Some(number),
+                };
+                Ok(number)
+            }
+        }
+    }
+
+    /// The nodes with a number, in its order.
+    pub fn into_nodes(self) -> Vec<NodeName>
+        ensures { result.items ≡ (refs_of self.entry).nodes }
+    {
+        self.nodes
+    }
+}
+
+// Marks a node that was put at a new last place.
+fn mark_new(marks: &mut Vec<Mark>, place: usize, belongs: bool) -> Result<(), OutOfMemory>
+    ensures added { place ≡ length marks.old.items → OnOk result (marks.new.items ≡ marks.old.items ++ record { listed = false; belongs = belongs; number = None } ∷ []) }
+    ensures held { place < length marks.old.items → OnOk result (marks.new.items ≡ marks.old.items) }
+{
+    if place == marks.len() {
+        let mark = Mark {
+            listed: false,
+            belongs,
+            number: None,
+        };
+        push(marks, mark)?;
+    }
+    Ok(())
+}
+
+fn push_name(nodes: &mut Vec<NodeName>, name: Option<NodeName>) -> Result<(), OutOfMemory>
+    ensures { OnOk result (nodes.new.items ≡ nodes.old.items ++ option_to_list name) }
+{
+    if let Some(node) = name {
+        push(nodes, node)?;
+    }
+    Ok(())
+}

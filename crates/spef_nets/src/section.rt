@@ -1,0 +1,182 @@
+//! What a file says of one net.
+ghost use Rattle.std.specs.Prelude.{◌≡◌, ◌+◌, ◌<◌, ◌≤◌, [], length, slice_get, Some};
+ghost use Rattle.corner_set.specs.Places.{value_at};
+ghost use Rattle.spef_nets.specs.NetElements.{NetElements, most_farads, most_ohms};
+
+use crate::parts::{Ends, Listed, Resistor};
+use corner_set::CornerSet;
+use delay_units::{Farads, Ohms};
+use edge_io::{Steps, Text};
+use name_table::NodeName;
+use std::alloc::Global;
+use std::marker::{Model, PhantomData};
+use std::sync::ledger::Ledger;
+
+/// The elements of one net: its nodes, numbered from 0 by first place, its connections, its capacitances to ground and its
+/// resistors. Contracts see these.
+pub struct Section<C: CornerSet> {
+    pub(crate) net: Text,
+    pub(crate) nodes: Vec<NodeName>,
+    pub(crate) conns: Vec<Listed>,
+    // values stand row after row, and in each row by corner
+    pub(crate) loads: Vec<Farads>,
+    pub(crate) caps: Vec<usize>,
+    pub(crate) farads: Vec<Farads>,
+    pub(crate) joints: Vec<Ends>,
+    pub(crate) ohms: Vec<Ohms>,
+    pub(crate) written: usize,
+    pub(crate) corners: PhantomData<C>,
+}
+
+// A derived one would ask for `C: Drop`.
+impl<C: CornerSet> Drop for Section<C> {
+    fn drop(self) {
+        let Section {
+            net: _,
+            nodes: _,
+            conns: _,
+            loads: _,
+            caps: _,
+            farads: _,
+            joints: _,
+            ohms: _,
+            written: _,
+            corners: _,
+        } = self;
+    }
+}
+
+impl<C: CornerSet> Model for Section<C> {
+    ghost use Rattle.spef_nets.specs.NetElements.{NetElements, AreWhole};
+
+    ghost Value = { NetElements };
+
+    ghost view = { λ s. record { net = s.net; nodes = s.nodes.items; conns = s.conns.items; loads = s.loads.items; caps = s.caps.items; farads = s.farads.items; joints = s.joints.items; ohms = s.ohms.items; written = s.written } };
+
+    ghost invariant = { λ s. AreWhole C.COUNT (record { net = s.net; nodes = s.nodes.items; conns = s.conns.items; loads = s.loads.items; caps = s.caps.items; farads = s.farads.items; joints = s.joints.items; ohms = s.ohms.items; written = s.written }) };
+}
+
+impl<C: CornerSet> Section<C> {
+    /// A net with no element. It takes no memory.
+    pub fn empty(alloc: Global, net: Text) -> Section<C>
+        ensures { result ≡ record { net = net; nodes = []; conns = []; loads = []; caps = []; farads = []; joints = []; ohms = []; written = 0 } }
+    {
+        Section {
+            net,
+            nodes: Vec::new(alloc),
+            conns: Vec::new(alloc),
+            loads: Vec::new(alloc),
+            caps: Vec::new(alloc),
+            farads: Vec::new(alloc),
+            joints: Vec::new(alloc),
+            ohms: Vec::new(alloc),
+            written: 0,
+            corners: PhantomData,
+        }
+    }
+
+    /// The net's name.
+    pub fn net(&self) -> &Text
+        ensures { result.now ≡ self.now.net }
+    {
+        &self.net
+    }
+
+    /// How many nodes the net has.
+    pub fn node_count(&self) -> usize
+        ensures { result ≡ length self.now.nodes }
+    {
+        self.nodes.len()
+    }
+
+    /// A node by its number.
+    pub fn node(&self, i: usize) -> &NodeName
+        requires { i < length self.now.nodes }
+        ensures { slice_get self.now.nodes i ≡ Some result.now }
+    {
+        &self.nodes[i]
+    }
+
+    /// How many connections the net has.
+    pub fn conn_count(&self) -> usize
+        ensures { result ≡ length self.now.conns }
+    {
+        self.conns.len()
+    }
+
+    /// A connection, in the file's order. Each stands at another node.
+    pub fn conn(&self, i: usize) -> Listed
+        requires { i < length self.now.conns }
+        ensures conn { slice_get self.now.conns i ≡ Some result }
+        ensures node { result.node < length self.now.nodes }
+    {
+        self.conns[i]
+    }
+
+    /// The load of a connection at a corner, 0 where the file gives none.
+    pub fn conn_load(&self, i: usize, corner: C::Index) -> Farads
+        requires { i < length self.now.conns }
+        ensures load { value_at C.COUNT self.now.loads i (C.number_of corner) ≡ Some result }
+        ensures most { result.0 ≤ most_farads }
+    {
+        self.loads[i * C::COUNT + C::number(corner)]
+    }
+
+    /// How many capacitances the section has as it is written, a coupling as one.
+    pub fn written_caps(&self) -> usize
+        ensures { result ≡ self.now.written }
+    {
+        self.written
+    }
+
+    /// How many capacitances to ground there are, a coupling counted at each of its places that belongs.
+    pub fn cap_count(&self) -> usize
+        ensures { result ≡ length self.now.caps }
+    {
+        self.caps.len()
+    }
+
+    /// A capacitance to ground at a corner: its node and its value. It is one step.
+    pub fn cap<L: Ledger>(
+        &self,
+        i: usize,
+        corner: C::Index,
+        steps: &mut Steps<L>,
+    ) -> (usize, Farads)
+        requires { i < length self.now.caps }
+        ensures node { slice_get self.now.caps i ≡ Some result.0 }
+        ensures within { result.0 < length self.now.nodes }
+        ensures value { value_at C.COUNT self.now.farads i (C.number_of corner) ≡ Some result.1 }
+        ensures most { result.1.0 ≤ most_farads }
+        ensures step { steps.new ≡ steps.old + 1 }
+    {
+        steps.tick();
+        (self.caps[i], self.farads[i * C::COUNT + C::number(corner)])
+    }
+
+    /// How many resistors there are.
+    pub fn res_count(&self) -> usize
+        ensures { result ≡ length self.now.joints }
+    {
+        self.joints.len()
+    }
+
+    /// A resistor at a corner, in the file's order. It is one step.
+    pub fn res<L: Ledger>(&self, i: usize, corner: C::Index, steps: &mut Steps<L>) -> Resistor
+        requires { i < length self.now.joints }
+        ensures nodes { slice_get self.now.joints i ≡ Some (record { a = result.a; b = result.b }) }
+        ensures a_within { result.a < length self.now.nodes }
+        ensures b_within { result.b < length self.now.nodes }
+        ensures value { value_at C.COUNT self.now.ohms i (C.number_of corner) ≡ Some result.ohms }
+        ensures most { result.ohms.0 ≤ most_ohms }
+        ensures step { steps.new ≡ steps.old + 1 }
+    {
+        steps.tick();
+        let Ends { a, b } = self.joints[i];
+        Resistor {
+            a,
+            b,
+            ohms: self.ohms[i * C::COUNT + C::number(corner)],
+        }
+    }
+}

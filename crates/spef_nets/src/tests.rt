@@ -1,0 +1,267 @@
+//! What the sections of small files say. The expected refusals are those of another reader; the net was worked by hand.
+ghost use Rattle.std.specs.Prelude.{◌≡◌, ◌<◌, ◌^◌, length};
+
+use crate::{Section, SectionEnd, Sections, read_sections};
+use corner_set::{Pick, Single};
+use edge_io::Steps;
+use spef_text::{parse, read_head};
+use std::alloc::Global;
+use std::marker::Brand;
+use std::sync::ledger::{Blank, Ledger};
+use std::test::Fail;
+
+fn ends(alloc: Global, bytes: &[u8], pick: Pick) -> Option<Result<Sections<Single>, SectionEnd>>
+    requires { length bytes.now < 2 ^ 30 }
+{
+    let Ok(file) = parse(alloc, bytes) else {
+        return None;
+    };
+    let Ok(head) = read_head(alloc, &file) else {
+        return None;
+    };
+    Some(read_sections::<Single>(alloc, &file, &head, pick))
+}
+
+#[test]
+fn a_foreign_coupling_is_told_at_its_first_node(rt: HostRuntime) -> Result<(), Fail> {
+    let bytes = b"*SPEF *C_UNIT 1 PF *R_UNIT 1 OHM *D_NET x 1 *CAP 1 p:1 q:1 0.4 *END";
+    let Some(Err(end)) = ends(rt.alloc(), bytes.as_slice(), Pick::Typ) else {
+        assert!(rt; false);
+        return Ok(());
+    };
+    match end {
+        SectionEnd::ForeignCoupling { net, token } => {
+            assert_eq!(rt; token, 13);
+            assert!(rt; net.bytes() == b"x".as_slice());
+        }
+        _other => assert!(rt; false),
+    }
+    Ok(())
+}
+
+/// The token of a refusal, and which it is of those at one token.
+fn fault(alloc: Global, bytes: &[u8]) -> Option<(u64, u8)>
+    requires { length bytes.now < 2 ^ 30 }
+{
+    match ends(alloc, bytes, Pick::Typ)? {
+        Ok(_) => None,
+        Err(SectionEnd::UnknownIndex { token }) => Some((token, 0)),
+        Err(SectionEnd::BadNumber { token }) => Some((token, 1)),
+        Err(SectionEnd::ValueTooLarge { token }) => Some((token, 2)),
+        Err(SectionEnd::RepeatedNet { net: _, token }) => Some((token, 3)),
+        Err(SectionEnd::ForeignCoupling { net: _, token }) => Some((token, 4)),
+        Err(SectionEnd::OutOfMemory) => Some((0, 5)),
+    }
+}
+
+/// A file, and what is told of it: nothing, or a token and which fault.
+const ENDS: [(&[u8], Option<(u64, u8)>); 14] = [
+    (
+        b"*SPEF *C_UNIT 1 PF *R_UNIT 1 OHM *NAME_MAP *1 n *D_NET n 1 *CAP 1 n 0.1111111111111111111111111111111 *END",
+        Some((17, 1)),
+    ),
+    (
+        b"*SPEF *C_UNIT 1 PF *R_UNIT 1 OHM *NAME_MAP *1 n *D_NET n 1 *CAP 1 n 1000.000001 *END",
+        Some((17, 2)),
+    ),
+    (
+        b"*SPEF *C_UNIT 1 PF *R_UNIT 1 OHM *NAME_MAP *1 n *D_NET n 1 *CAP 1 n 1000 *END",
+        None,
+    ),
+    (
+        b"*SPEF *C_UNIT 1 PF *R_UNIT 1 OHM *NAME_MAP *1 n *D_NET n 1 *END *D_NET *1 1 *END",
+        Some((16, 3)),
+    ),
+    (
+        b"*SPEF *C_UNIT 1 PF *R_UNIT 1 OHM *NAME_MAP *1 n *D_NET *2 1 *CAP 1 n -1 *END",
+        Some((12, 0)),
+    ),
+    (
+        b"*SPEF *C_UNIT 1 PF *R_UNIT 1 OHM *NAME_MAP *1 n *D_NET *1 1 *CAP 1 a:1 b:1 1 2 n:1 1:-1:1e99 *RES 1 a:1 *3 1 *END",
+        Some((21, 1)),
+    ),
+    (
+        b"*SPEF *C_UNIT 1 PF *R_UNIT 1 OHM *NAME_MAP *1 n *D_NET *1 1 *CAP 1 b:1 c:1 1 *RES 1 a:1 *3 1 *END",
+        Some((16, 4)),
+    ),
+    (
+        b"*SPEF *C_UNIT 1 PF *R_UNIT 1 OHM *NAME_MAP *1 n *D_NET *1 1 *CAP 1 *3:1 c:1 1 *END",
+        Some((16, 0)),
+    ),
+    (
+        b"*SPEF *C_UNIT 1 PF *R_UNIT 1 OHM *NAME_MAP *1 n *D_NET *1 1 *CAP 1 c:1 *3:1 1 *END",
+        Some((16, 4)),
+    ),
+    (
+        b"*SPEF *C_UNIT 1 PF *R_UNIT 1 OHM *NAME_MAP *1 n *D_NET *1 1 *CAP 1 n:1 *3:1 1 *END",
+        Some((17, 0)),
+    ),
+    (
+        b"*SPEF *C_UNIT 1 PF *R_UNIT 1 OHM *NAME_MAP *1 n *D_NET *1 -5e999 *CONN *N *3 *I a:1 I *I a:1 O *L -1 *END",
+        None,
+    ),
+    (
+        b"*SPEF *C_UNIT 1 PF *R_UNIT 1 OHM *NAME_MAP *1 n *D_NET *1 1 *CONN *I a:1 I *L -1 *L 1 *END",
+        None,
+    ),
+    (
+        b"*SPEF *C_UNIT 1 PF *R_UNIT 1 OHM *NAME_MAP *1 n *D_NET *1 1 *RES 1 a:1 b:1 100000000.0000004:1:1 *END",
+        None,
+    ),
+    (
+        b"*SPEF *C_UNIT 1 PF *R_UNIT 1 OHM *NAME_MAP *1 n *D_NET *1 1 *RES 1 a:1 b:1 100000000.0000005:1:-1 *END",
+        Some((18, 1)),
+    ),
+];
+
+#[test]
+fn faults_are_told_by_the_least_token(rt: HostRuntime) -> Result<(), Fail> {
+    for row in &ENDS {
+        assert!(rt; row.0.len() < 1 << 20);
+        assert!(rt; fault(rt.alloc(), row.0) == row.1);
+    }
+    Ok(())
+}
+
+/// A net with one connection as it is read at the corner of a run: the spelling of its first node in SDF, its capacitances by
+/// node, its resistance and the connection's load in grains.
+struct Read {
+    bytes: &'static [u8],
+    pick: Pick,
+    first: &'static [u8],
+    caps: [(usize, u64); 2],
+    ohms: u64,
+    load: u64,
+}
+
+/// The last net of each of these files. The values were worked by hand.
+const READ: [Read; 8] = [
+    // A coupling by its far node, which does not belong, and one to ground. The second line of a connection does not count.
+    Read {
+        bytes: b"*SPEF *C_UNIT 1 PF *R_UNIT 1 OHM *D_NET x 1 *CONN *I x:1 O *L 1:2:3 *I x:1 I *L 1e200 *CAP 1 y:1 x:1 0.5 2 x:1 1 *RES 1 x:1 x:2 7 *END",
+        pick: Pick::Typ,
+        first: b"x/1",
+        caps: [(0, 500_000_000), (0, 1_000_000_000)],
+        ohms: 7_000_000,
+        load: 2_000_000_000,
+    },
+    // The same coupling as the other net has it, by its near node.
+    Read {
+        bytes: b"*SPEF *C_UNIT 1 PF *R_UNIT 1 OHM *D_NET x 1 *CAP 1 y:1 x:1 0.5 *END \
+*D_NET y 1 *CONN *P y:1 I *CAP 1 y:1 x:1 0.5 2 y:2 1 *RES 1 y:1 y:2 7 *END",
+        pick: Pick::Typ,
+        first: b"y/1",
+        caps: [(0, 500_000_000), (1, 1_000_000_000)],
+        ohms: 7_000_000,
+        load: 0,
+    },
+    // A coupling both of whose nodes belong; the units in other letters, and 1.5 of them.
+    Read {
+        bytes: b"*SPEF *C_UNIT 1.5 FF *R_UNIT 1 KOHM *D_NET x 1 *CONN *I x:1 O *CAP 1 x:1 x:2 2 *RES 1 x:1 x:2 7 *END",
+        pick: Pick::Typ,
+        first: b"x/1",
+        caps: [(0, 3_000_000), (1, 3_000_000)],
+        ohms: 7_000_000_000,
+        load: 0,
+    },
+    // Each member of a triple.
+    Read {
+        bytes: b"*SPEF *C_UNIT 1 FF *R_UNIT 1 OHM *D_NET x 1 *CONN *I x:1 O *CAP 1 x:1 1:2:3 2 x:1 4 *RES 1 x:1 x:2 5:6:7 *END",
+        pick: Pick::Min,
+        first: b"x/1",
+        caps: [(0, 1_000_000), (0, 4_000_000)],
+        ohms: 5_000_000,
+        load: 0,
+    },
+    Read {
+        bytes: b"*SPEF *C_UNIT 1 FF *R_UNIT 1 OHM *D_NET x 1 *CONN *I x:1 O *CAP 1 x:1 1:2:3 2 x:1 4 *RES 1 x:1 x:2 5:6:7 *END",
+        pick: Pick::Typ,
+        first: b"x/1",
+        caps: [(0, 2_000_000), (0, 4_000_000)],
+        ohms: 6_000_000,
+        load: 0,
+    },
+    Read {
+        bytes: b"*SPEF *C_UNIT 1 FF *R_UNIT 1 OHM *D_NET x 1 *CONN *I x:1 O *CAP 1 x:1 1:2:3 2 x:1 4 *RES 1 x:1 x:2 5:6:7 *END",
+        pick: Pick::Max,
+        first: b"x/1",
+        caps: [(0, 3_000_000), (0, 4_000_000)],
+        ohms: 7_000_000,
+        load: 0,
+    },
+    // A net and a node by an index and as they are spelled; an index that is no name's stands in no place that is read.
+    Read {
+        bytes: b"*SPEF *C_UNIT 1 FF *R_UNIT 1 OHM *NAME_MAP *1 a/n *D_NET *1 1 *CONN *N *9 *I *1:1 O *CAP 1 *1:1 1 2 a/n:1 2 *RES 1 a/n:1 *1:2 7 *END",
+        pick: Pick::Typ,
+        first: b"a/n/1",
+        caps: [(0, 1_000_000), (0, 2_000_000)],
+        ohms: 7_000_000,
+        load: 0,
+    },
+    // One node in two spellings: that of its first place counts, though the resistors are looked at before.
+    Read {
+        bytes: b"*SPEF *C_UNIT 1 FF *R_UNIT 1 OHM *D_NET x 1 *CONN *I a\\/b:Z O *CAP 1 a/b:Z 1 2 x:1 2 *RES 1 a/b:Z x:1 7 *END",
+        pick: Pick::Typ,
+        first: b"a\\/b/Z",
+        caps: [(0, 1_000_000), (1, 2_000_000)],
+        ohms: 7_000_000,
+        load: 0,
+    },
+];
+
+/// Whether a net is like that.
+fn is_like<L: Ledger>(
+    net: &Section<Single>,
+    caps: &[(usize, u64); 2],
+    ohms: u64,
+    load: u64,
+    blank: Blank,
+) -> bool
+    requires name { blank.name ≡ L.name }
+    requires parts { blank.parts ≡ L.parts }
+    requires some_part { 0 < blank.parts }
+{
+    let mut steps = Steps::<L>::new(blank);
+    if net.conn_count() != 1 || net.cap_count() != 2 || net.res_count() != 1 {
+        return false;
+    }
+    let one = net.cap(0, (), &mut steps);
+    let two = net.cap(1, (), &mut steps);
+    let joint = net.res(0, (), &mut steps);
+    one.0 == caps[0].0
+        && one.1.0 == caps[0].1
+        && two.0 == caps[1].0
+        && two.1.0 == caps[1].1
+        && joint.ohms.0 == ohms
+        && net.conn_load(0, ()).0 == load
+}
+
+/// Whether a net is as a row says.
+fn is_read(net: &Section<Single>, row: &Read) -> bool {
+    begins_with(net, row.first) && has_values(net, &row.caps, row.ohms, row.load)
+}
+
+fn has_values(net: &Section<Single>, caps: &[(usize, u64); 2], ohms: u64, load: u64) -> bool {
+    is_like::<Brand>(net, caps, ohms, load, Blank::new(1))
+}
+
+/// Whether the first node of a net is spelled so in SDF.
+fn begins_with(net: &Section<Single>, first: &[u8]) -> bool {
+    net.node_count() > 0 && net.node(0).sdf.bytes() == first
+}
+
+#[test]
+fn nets_are_read(rt: HostRuntime) -> Result<(), Fail> {
+    for row in &READ {
+        assert!(rt; row.bytes.len() < 1 << 20);
+        let Some(Ok(sections)) = ends(rt.alloc(), row.bytes, row.pick) else {
+            assert!(rt; false);
+            return Ok(());
+        };
+        let count = sections.len();
+        assert!(rt; count > 0);
+        let net = sections.get(count - 1);
+        assert!(rt; is_read(net, row));
+    }
+    Ok(())
+}
