@@ -1,0 +1,8 @@
+use Rattle.std.proofs.Common.{arith, sym}
+use Rattle.rc_tree.proofs.Numbers.{names_more}
+use Rattle.rc_tree.proofs.numbering.intern_all.Goals as goal
+
+-- src/numbering.rt
+pub loop-name-preserved : goal.loop-name-preserved
+loop-name-preserved c =
+    names_more c.args.names.now c.args.table.now c.loop-name.table c.intern.new.self c.loop-name.name-index c.name-item.result (omega (arith, c.loop-name-test.true)) (sym c.name-item.is) c.loop-name.invariant c.in_ok-intern.ensures.nodes

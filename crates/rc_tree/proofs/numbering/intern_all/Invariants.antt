@@ -1,0 +1,7 @@
+use Rattle.std.proofs.Common.{◌≡◌, map, take}
+use Rattle.rc_tree.specs.Nodes.{node_of, with_nodes}
+use Rattle.rc_tree.proofs.numbering.intern_all.Given as goal
+
+-- the names so far
+abbrev pub invariant-loop-name : goal.invariant-loop-name
+invariant-loop-name l = l.table ≡ with_nodes l.fn.table (map node_of (take l.name-index l.names))

@@ -1,0 +1,8 @@
+use Rattle.rc_tree.proofs.Numbers.{numbering_step}
+use Rattle.rc_tree.proofs.numbering.number_section.Goals as goal
+
+-- src/numbering.rt
+pub loop-node-preserved : goal.loop-node-preserved
+loop-node-preserved g c =
+    numbering_step c.args.section.now.nodes c.args.table.now c.loop-node.table c.intern.new.self c.loop-node.spots.items c.push.new.values.items c.loop-node.node _ c.node.result.now
+    c.node.ensures c.in_ok-number.ensures.number c.in_ok-number.ensures.nodes c.in_ok-push.ensures c.loop-node.invariant

@@ -1,0 +1,25 @@
+use Rattle.std.proofs.Common.{◌∙◌, length, subst}
+use Rattle.rc_tree.specs.Layouts.{layout_of}
+use Rattle.rc_tree.proofs.Filled.{CornerFacts, filled_corner, has_row}
+use Rattle.rc_tree.proofs.planting.fill_corner.Goals as goal
+
+-- src/planting.rt
+pub returns-clause-filled : goal.returns-clause-filled
+returns-clause-filled g c =
+    let count = g.C.CornerSet.COUNT in
+    let number = g.C.CornerSet.number_of c.args.corner in
+    let n = length c.args.layout.now.parents.items in
+    filled_corner count c.args.section.now c.args.pins.now (layout_of c.args.layout.now) c.fill_ohms.new.ohms c.fill_farads.new.farads c.fill_loads.new.farads number c.requires.layout
+    (subst (λ s. CornerFacts count c.args.section.now c.args.pins.now n c.args.layout.now.vias.items c.args.layout.now.spots.items s c.fill_ohms.new.ohms c.fill_farads.new.farads c.fill_loads.new.farads number) c.deref-3.ensures.value
+    (subst (λ s. CornerFacts count c.args.section.now c.args.pins.now n c.args.layout.now.vias.items s c.deref-3.result.now c.fill_ohms.new.ohms c.fill_farads.new.farads c.fill_loads.new.farads number) c.deref-2.ensures.value
+    (subst (λ v. CornerFacts count c.args.section.now c.args.pins.now n v c.deref-2.result.now c.deref-3.result.now c.fill_ohms.new.ohms c.fill_farads.new.farads c.fill_loads.new.farads number) c.deref.ensures.value
+    (record {
+      root = c.fill_ohms.ensures.root ∙ c.requires.no_ohms 0;
+      links = c.fill_ohms.ensures.links;
+      small = c.fill_ohms.ensures.small;
+      placed = λ row below. c.fill_farads.ensures.nodes row (has_row count n _ row c.requires.farads_rows below);
+      loaded = λ row below. c.fill_loads.ensures.nodes row (has_row count n _ row (c.fill_farads.ensures.others.size ∙ c.requires.farads_rows) below);
+      within = c.fill_farads.ensures.within;
+      each = c.fill_farads.ensures.each;
+      loads = c.fill_loads.ensures.each;
+    }))))

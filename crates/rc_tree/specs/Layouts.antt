@@ -1,0 +1,6 @@
+-- A layout as lists.
+use Rattle.rc_tree.specs.declared.layout.NodeLayout.{NodeLayout}
+use Rattle.rc_tree.specs.Filling.{Layout}
+
+abbrev pub layout_of : NodeLayout → Layout
+layout_of layout = record { parents = layout.parents.items; vias = layout.vias.items; spots = layout.spots.items; sinks = layout.sinks.items }

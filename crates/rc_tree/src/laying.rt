@@ -1,0 +1,56 @@
+//! Where the nodes of a section and the sinks stand in the order of a search.
+ghost use Rattle.std.specs.Prelude.{◌≡◌, ℕ, ◌+◌, ◌-◌, ◌<◌, ◌≤◌, length, slice_index, slice_index_or, MatchOption, IfOk};
+ghost use Rattle.rc_tree.specs.Arenas.{most_elements};
+
+use crate::lists::push;
+use crate::node_ids::NodeId;
+use edge_io::OutOfMemory;
+use std::alloc::Global;
+
+/// The place of the first zero, if there is one.
+pub fn first_zero(values: &[usize]) -> Option<usize>
+    ensures { MatchOption result ((k : ℕ) → k < length values.now → 0 < slice_index values.now k)
+        (λ place. (place < length values.now) × (slice_index values.now place ≡ 0) × ((k : ℕ) → k < place → 0 < slice_index values.now k)) }
+{
+    for place in 0..values.len() {
+        if values[place] == 0 {
+            return Some(place);
+        }
+    }
+    None
+}
+
+/// The places of nodes, from one more than each.
+pub fn places_of(
+    alloc: Global,
+    nodes: &[usize],
+    numbers: &[usize],
+) -> Result<Vec<usize>, OutOfMemory>
+    requires { (k : ℕ) → k < length nodes.now → slice_index nodes.now k < length numbers.now }
+    ensures size { IfOk result (λ places. length places.items ≡ length nodes.now) }
+    ensures places { IfOk result (λ places. (k : ℕ) → k < length nodes.now → slice_index places.items k ≡ slice_index numbers.now (slice_index nodes.now k) - 1) }
+{
+    let mut places = Vec::with_capacity(alloc, nodes.len())?;
+    for k in 0..nodes.len() {
+        push(&mut places, numbers[nodes[k]].saturating_sub(1))?;
+    }
+    Ok(places)
+}
+
+/// The places of the first nodes after the driver's, from one more than each.
+pub fn sinks_of(alloc: Global, many: usize, numbers: &[usize]) -> Result<Vec<NodeId>, OutOfMemory>
+    requires within { many < length numbers.now }
+    requires few { (k : ℕ) → k < length numbers.now → slice_index numbers.now k ≤ most_elements + 1 }
+    ensures size { IfOk result (λ sinks. length sinks.items ≡ many) }
+    ensures sinks { IfOk result (λ sinks. (k : ℕ) → k < many → (slice_index_or sinks.items k (record { 0 = 0 })).0 ≡ slice_index numbers.now (k + 1) - 1) }
+{
+    let mut sinks = Vec::with_capacity(alloc, many)?;
+    for k in 0..many {
+        let place = numbers[k + 1].saturating_sub(1);
+        match sinks.push(NodeId(place as u32)) {
+            Ok(()) => {}
+            Err(_) => return Err(OutOfMemory),
+        }
+    }
+    Ok(sinks)
+}

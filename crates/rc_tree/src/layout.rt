@@ -1,0 +1,19 @@
+//! Where everything of a net stands in its tree.
+
+use crate::node_ids::NodeId;
+
+/// The nodes of a tree, and where the nodes of the section and the sinks stand in it.
+#[derive(Drop)]
+pub struct NodeLayout {
+    /// The parent of each node; 0 for the first.
+    pub parents: Vec<usize>,
+
+    /// The resistor of the section that links each node to its parent; 0 for the first.
+    pub vias: Vec<usize>,
+
+    /// The place of each node of the section.
+    pub spots: Vec<usize>,
+
+    /// The place of each sink.
+    pub sinks: Vec<NodeId>,
+}

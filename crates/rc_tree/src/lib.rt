@@ -1,0 +1,35 @@
+//! RC trees: the elements of a net as resistors and capacitances between nodes, and the tree that they form.
+#![tactic(auto)]
+
+mod branches;
+mod building;
+mod ends;
+mod explored;
+mod filling;
+mod found;
+mod laws;
+mod laying;
+mod layout;
+mod lists;
+mod lone;
+mod names;
+mod node_ids;
+mod node_keys;
+mod node_table;
+mod numbering;
+mod pins;
+mod planting;
+mod scratch;
+mod searching;
+#[cfg(test)]
+mod tests;
+mod threads;
+mod tree;
+
+pub use building::build;
+pub use ends::TreeEnd;
+pub use laws::{one_elmore, one_shape, two_passes};
+pub use node_ids::NodeId;
+pub use pins::PinLoads;
+pub use scratch::Scratch;
+pub use tree::RcTree;

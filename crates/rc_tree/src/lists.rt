@@ -1,0 +1,26 @@
+//! Lists of numbers.
+ghost use Rattle.std.specs.Prelude.{◌≡◌, ◌++◌, ◌∷◌, [], replicate, IfOk, OnOk};
+
+use edge_io::OutOfMemory;
+use std::alloc::Global;
+
+/// So many zeros.
+pub fn zeros(alloc: Global, many: usize) -> Result<Vec<usize>, OutOfMemory>
+    ensures { IfOk result (λ values. values.items ≡ replicate many 0) }
+{
+    let mut values = Vec::with_capacity(alloc, many)?;
+    for _ in 0..many {
+        push(&mut values, 0)?;
+    }
+    Ok(values)
+}
+
+/// Puts a number at the end.
+pub fn push(values: &mut Vec<usize>, value: usize) -> Result<(), OutOfMemory>
+    ensures { OnOk result (values.new.items ≡ values.old.items ++ value ∷ []) }
+{
+    match values.push(value) {
+        Ok(()) => Ok(()),
+        Err(_) => Err(OutOfMemory),
+    }
+}

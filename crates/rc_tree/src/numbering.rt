@@ -1,0 +1,103 @@
+//! The numbers of a net's nodes: the driver's is 0, then come the sinks, then the other nodes of the section.
+ghost use Rattle.std.specs.Prelude.{◌≡◌, ◌+◌, ◌<◌, ◌≤◌, length, map, slice_get, slice_index, Some, All, Contains, MatchOption, IfOk, OnOk};
+ghost use Rattle.rc_tree.specs.Nodes.{node_of, with_nodes};
+ghost use Rattle.rc_tree.specs.Pins.{pin_nodes};
+ghost use Rattle.rc_tree.specs.Numbering.{AreSpots, AreEnds};
+ghost use Rattle.rc_tree.specs.SectionNets.{AreListed, IsFirstStrange};
+
+use crate::lists::push;
+use crate::names::copy_name;
+use crate::node_table::NodeTable;
+use crate::pins::PinLoads;
+use corner_set::CornerSet;
+use edge_io::{OutOfMemory, Steps};
+use name_table::NodeName;
+use spef_nets::Section;
+use std::alloc::Global;
+use std::sync::ledger::Ledger;
+
+/// The ends of a net's resistors, by the numbers of its nodes.
+#[derive(Drop)]
+pub struct Ends {
+    pub froms: Vec<usize>,
+    pub tos: Vec<usize>,
+}
+
+/// The pins, in order.
+pub fn number_pins<C: CornerSet>(
+    alloc: Global,
+    pins: &PinLoads<C>,
+) -> Result<NodeTable, OutOfMemory>
+    ensures { IfOk result (λ table. table ≡ pin_nodes pins.now) }
+{
+    let mut table = NodeTable::new(alloc);
+    table.intern(&pins.driver)?;
+    intern_all(&mut table, pins.sinks.as_slice())?;
+    Ok(table)
+}
+
+// Puts nodes at the end, each where it is not there already.
+fn intern_all(table: &mut NodeTable, names: &[NodeName]) -> Result<(), OutOfMemory>
+    ensures { OnOk result (table.new ≡ with_nodes table.old (map node_of names.now)) }
+{
+    for name in names {
+        table.intern(name)?;
+    }
+    Ok(())
+}
+
+/// The name of the first connection that is no pin, if there is one.
+pub fn first_strange<C: CornerSet>(
+    alloc: Global,
+    table: &NodeTable,
+    section: &Section<C>,
+) -> Result<Option<NodeName>, OutOfMemory>
+    ensures { IfOk result (λ found. MatchOption found (AreListed section.now table.now) (λ name. IsFirstStrange section.now table.now name)) }
+{
+    for place in 0..section.conn_count() {
+        let name = section.node(section.conn(place).node);
+        if table.find(name)?.is_none() {
+            return Ok(Some(copy_name(alloc, name)?));
+        }
+    }
+    Ok(None)
+}
+
+/// The numbers of the section's nodes, each of which is in the table afterwards.
+pub fn number_section<C: CornerSet>(
+    alloc: Global,
+    table: &mut NodeTable,
+    section: &Section<C>,
+) -> Result<Vec<usize>, OutOfMemory>
+    ensures nodes { OnOk result (table.new ≡ with_nodes table.old (map node_of section.now.nodes)) }
+    ensures spots { IfOk result (λ spots. AreSpots section.now.nodes table.new spots.items) }
+{
+    let mut spots = Vec::with_capacity(alloc, section.node_count())?;
+    for node in 0..section.node_count() {
+        let number = table.intern(section.node(node))?;
+        push(&mut spots, number)?;
+    }
+    Ok(spots)
+}
+
+/// The ends of the resistors, from the numbers of the section's nodes: one step a resistor.
+pub fn copy_ends<C: CornerSet, L: Ledger>(
+    alloc: Global,
+    section: &Section<C>,
+    spots: &[usize],
+    corner: C::Index,
+    steps: &mut Steps<L>,
+) -> Result<Ends, OutOfMemory>
+    requires { length spots.now ≡ length section.now.nodes }
+    ensures ends { IfOk result (λ ends. AreEnds section.now spots.now ends.froms.items ends.tos.items) }
+    ensures steps { steps.new ≤ steps.old + length section.now.joints }
+{
+    let mut froms = Vec::with_capacity(alloc, section.res_count())?;
+    let mut tos = Vec::with_capacity(alloc, section.res_count())?;
+    for place in 0..section.res_count() {
+        let resistor = section.res(place, corner, steps);
+        push(&mut froms, spots[resistor.a])?;
+        push(&mut tos, spots[resistor.b])?;
+    }
+    Ok(Ends { froms, tos })
+}

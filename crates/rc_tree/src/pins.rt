@@ -1,0 +1,137 @@
+//! The pins of a net.
+ghost use Rattle.std.specs.Prelude.{◌≡◌, ◌<◌, ◌≤◌, [], ◌∷◌, ◌++◌, length, Some, All, Contains, OnOk, OnErr, slice_get};
+ghost use Rattle.corner_set.specs.Places.{HasRow, value_at};
+ghost use Rattle.rc_tree.specs.Arenas.{most_farads};
+ghost use Rattle.rc_tree.specs.Nodes.{node_of};
+ghost use Rattle.rc_tree.specs.Pins.{pin_nodes, row_of};
+
+use corner_set::{CornerSet, Grid};
+use delay_units::Farads;
+use edge_io::OutOfMemory;
+use name_table::NodeName;
+use std::alloc::Global;
+use std::marker::{Model, PhantomData};
+
+/// The driver of a net, and its sinks with their loads at each corner, in the order in which they are added. No two are one
+/// node. Contracts see these.
+pub struct PinLoads<C: CornerSet> {
+    pub(crate) driver: NodeName,
+    pub(crate) sinks: Vec<NodeName>,
+    // row after row, and in each row by corner
+    pub(crate) loads: Vec<Farads>,
+    corners: PhantomData<C>,
+}
+
+// A derived one would ask for `C: Drop`.
+impl<C: CornerSet> Drop for PinLoads<C> {
+    fn drop(self) {
+        let PinLoads {
+            driver: _,
+            sinks: _,
+            loads: _,
+            corners: _,
+        } = self;
+    }
+}
+
+impl<C: CornerSet> Model for PinLoads<C> {
+    ghost use Rattle.rc_tree.specs.Pins.{Pins, AreSound};
+
+    ghost Value = { Pins };
+
+    ghost view = { λ p. record { driver = p.driver; sinks = p.sinks.items; loads = p.loads.items } };
+
+    ghost invariant = { λ p. AreSound C.COUNT (record { driver = p.driver; sinks = p.sinks.items; loads = p.loads.items }) };
+}
+
+impl<C: CornerSet> PinLoads<C> {
+    /// A net with this driver and no sink. It takes no memory.
+    pub fn new(alloc: Global, driver: NodeName) -> PinLoads<C>
+        ensures { result ≡ record { driver = driver; sinks = []; loads = [] } }
+    {
+        PinLoads {
+            driver,
+            sinks: Vec::new(alloc),
+            loads: Vec::new(alloc),
+            corners: PhantomData,
+        }
+    }
+
+    /// Adds a sink, whose loads stand in a row of the grid. It is another node than the pins so far, and each load is at most
+    /// 10^12.
+    pub fn add(
+        &mut self,
+        sink: NodeName,
+        loads: &Grid<C, Farads>,
+        row: usize,
+    ) -> Result<(), OutOfMemory>
+        requires row { HasRow C.COUNT loads.now row }
+        requires other { ¬ Contains (pin_nodes self.old) (node_of sink) }
+        requires small { All (λ load. load.0 ≤ most_farads) (row_of C.COUNT loads.now row) }
+        ensures ok { OnOk result (self.new ≡ record { driver = self.old.driver; sinks = self.old.sinks ++ sink ∷ []; loads = self.old.loads ++ row_of C.COUNT loads.now row }) }
+        ensures err { OnErr result (self.new ≡ self.old) }
+    {
+        let values = loads.as_slice();
+        let start = row * C::COUNT;
+        push_both(
+            &mut self.sinks,
+            &mut self.loads,
+            sink,
+            &values[start..start + C::COUNT],
+        )
+    }
+}
+
+impl<C: CornerSet> PinLoads<C> {
+    /// How many sinks there are.
+    pub fn len(&self) -> usize
+        ensures { result ≡ length self.now.sinks }
+    {
+        self.sinks.len()
+    }
+
+    /// The driver.
+    pub fn driver(&self) -> &NodeName
+        ensures { result.now ≡ self.now.driver }
+    {
+        &self.driver
+    }
+
+    /// The sink that was added k-th, from 0.
+    pub fn sink(&self, k: usize) -> &NodeName
+        requires { k < length self.now.sinks }
+        ensures { slice_get self.now.sinks k ≡ Some result.now }
+    {
+        &self.sinks[k]
+    }
+
+    /// The load of a sink at a corner.
+    pub(crate) fn load(&self, sink: usize, corner: C::Index) -> Farads
+        requires { sink < length self.now.sinks }
+        ensures load { value_at C.COUNT self.now.loads sink (C.number_of corner) ≡ Some result }
+        ensures most { result.0 ≤ most_farads }
+    {
+        self.loads[sink * C::COUNT + C::number(corner)]
+    }
+}
+
+// Puts a sink and its loads at the ends, or neither.
+fn push_both(
+    sinks: &mut Vec<NodeName>,
+    loads: &mut Vec<Farads>,
+    sink: NodeName,
+    row: &[Farads],
+) -> Result<(), OutOfMemory>
+    ensures sinks { OnOk result (sinks.new.items ≡ sinks.old.items ++ sink ∷ []) }
+    ensures loads { OnOk result (loads.new.items ≡ loads.old.items ++ row.now) }
+    ensures err_sinks { OnErr result (sinks.new.items ≡ sinks.old.items) }
+    ensures err_loads { OnErr result (loads.new.items ≡ loads.old.items) }
+{
+    let held = loads.len();
+    loads.extend_from_slice(row)?;
+    if sinks.push(sink).is_ok() {
+        return Ok(());
+    }
+    loads.truncate(held);
+    Err(OutOfMemory)
+}

@@ -1,0 +1,131 @@
+//! The breadth first search from the driver's node.
+ghost use Rattle.std.specs.Prelude.{◌≡◌, ◌<◌, ◌≤◌, [], ◌∷◌, length, slice_index, slice_set, replicate, All, IfOk, OnOk};
+ghost use Rattle.rc_tree.specs.Threads.{IsThreaded};
+ghost use Rattle.rc_tree.specs.Searches.{Search, IsSearch, IsClosed, Grown, IsVisited, reached};
+ghost use Rattle.rc_tree.specs.FoundSearch.{search_of};
+
+use crate::found::Found;
+use crate::lists::{push, zeros};
+use crate::threads::{Threads, thread};
+use edge_io::OutOfMemory;
+use std::alloc::Global;
+
+/// Finds all nodes that walks over the resistors reach from node 0, in breadth first order. The resistor at a place has its
+/// ends at the nodes of that place in both lists.
+pub fn search(
+    alloc: Global,
+    froms: &[usize],
+    tos: &[usize],
+    nodes: usize,
+) -> Result<Found, OutOfMemory>
+    requires some { 0 < nodes }
+    requires same { length tos.now ≡ length froms.now }
+    requires froms { All (λ node. node < nodes) froms.now }
+    requires tos { All (λ node. node < nodes) tos.now }
+    ensures search { IfOk result (λ found. IsSearch nodes froms.now tos.now (search_of found)) }
+    ensures closed { IfOk result (λ found. IsClosed froms.now tos.now (search_of found)) }
+{
+    let at_froms = thread(alloc, froms, nodes)?;
+    let at_tos = thread(alloc, tos, nodes)?;
+    let mut found = start(alloc, froms.len(), nodes)?;
+    for place in 0..nodes {
+        visit_both(&at_froms, &at_tos, froms, tos, place, &mut found)?;
+    }
+    Ok(found)
+}
+
+// Finds what is joined to the node at a place of the order, if there is one.
+fn visit_both(
+    at_froms: &Threads,
+    at_tos: &Threads,
+    froms: &[usize],
+    tos: &[usize],
+    place: usize,
+    found: &mut Found,
+) -> Result<(), OutOfMemory>
+    requires search { IsSearch (length found.old.numbers.items) froms.now tos.now (search_of found.old) }
+    requires at_froms { IsThreaded froms.now (length found.old.numbers.items) at_froms.now.heads.items at_froms.now.nexts.items }
+    requires at_tos { IsThreaded tos.now (length found.old.numbers.items) at_tos.now.heads.items at_tos.now.nexts.items }
+    requires same { length tos.now ≡ length froms.now }
+    requires froms { All (λ node. node < length found.old.numbers.items) froms.now }
+    requires tos { All (λ node. node < length found.old.numbers.items) tos.now }
+    ensures search { OnOk result (IsSearch (length found.old.numbers.items) froms.now tos.now (search_of found.new)) }
+    ensures grown { OnOk result (Grown (search_of found.old) (search_of found.new)) }
+    ensures at_froms { OnOk result (place < length found.old.order.items → IsVisited froms.now tos.now (search_of found.new) (slice_index found.old.order.items place)) }
+    ensures past { OnOk result (length found.old.order.items ≤ place → length found.new.order.items ≡ length found.old.order.items) }
+    ensures at_tos { OnOk result (place < length found.old.order.items → IsVisited tos.now froms.now (search_of found.new) (slice_index found.old.order.items place)) }
+{
+    if found.order.len() <= place {
+        return Ok(());
+    }
+    visit(at_froms, froms, tos, place, found)?;
+    visit(at_tos, tos, froms, place, found)?;
+    Ok(())
+}
+
+// The first node alone is found.
+fn start(alloc: Global, resistors: usize, nodes: usize) -> Result<Found, OutOfMemory>
+    requires { 0 < nodes }
+    ensures order { IfOk result (λ found. found.order.items ≡ 0 ∷ []) }
+    ensures parents { IfOk result (λ found. found.parents.items ≡ 0 ∷ []) }
+    ensures vias { IfOk result (λ found. found.vias.items ≡ 0 ∷ []) }
+    ensures numbers { IfOk result (λ found. found.numbers.items ≡ slice_set (replicate nodes 0) 0 1) }
+    ensures links { IfOk result (λ found. found.links.items ≡ replicate resistors 0) }
+{
+    let mut found = Found {
+        order: Vec::with_capacity(alloc, nodes)?,
+        parents: Vec::with_capacity(alloc, nodes)?,
+        vias: Vec::with_capacity(alloc, nodes)?,
+        numbers: zeros(alloc, nodes)?,
+        links: zeros(alloc, resistors)?,
+    };
+    push(&mut found.order, 0)?;
+    push(&mut found.parents, 0)?;
+    push(&mut found.vias, 0)?;
+    found.numbers[0] = 1;
+    Ok(found)
+}
+
+// Finds what is joined to the node at a place of the order by the resistors of one threading.
+fn visit(
+    threads: &Threads,
+    near: &[usize],
+    far: &[usize],
+    place: usize,
+    found: &mut Found,
+) -> Result<(), OutOfMemory>
+    requires search { IsSearch (length found.old.numbers.items) near.now far.now (search_of found.old) }
+    requires threads { IsThreaded near.now (length found.old.numbers.items) threads.now.heads.items threads.now.nexts.items }
+    requires same { length far.now ≡ length near.now }
+    requires fars { All (λ node. node < length found.old.numbers.items) far.now }
+    requires within { place < length found.old.order.items }
+    ensures search { OnOk result (IsSearch (length found.old.numbers.items) near.now far.now (search_of found.new)) }
+    ensures grown { OnOk result (Grown (search_of found.old) (search_of found.new)) }
+    ensures visited { OnOk result (IsVisited near.now far.now (search_of found.new) (slice_index found.old.order.items place)) }
+{
+    let mut left = threads.heads[found.order[place]];
+    while left != 0 {
+        let resistor = left - 1;
+        reach(resistor, far[resistor], place, found)?;
+        left = threads.nexts[resistor];
+    }
+    Ok(())
+}
+
+// Finds a node over a resistor from the node at a place of the order, where it is not found yet.
+fn reach(resistor: usize, node: usize, place: usize, found: &mut Found) -> Result<(), OutOfMemory>
+    requires node { node < length found.old.numbers.items }
+    requires resistor { resistor < length found.old.links.items }
+    ensures { OnOk result (search_of found.new ≡ reached (search_of found.old) resistor node place) }
+{
+    if found.numbers[node] != 0 {
+        return Ok(());
+    }
+    let next = found.order.len();
+    push(&mut found.order, node)?;
+    push(&mut found.parents, place)?;
+    push(&mut found.vias, resistor)?;
+    found.numbers[node] = next + 1;
+    found.links[resistor] = next;
+    Ok(())
+}

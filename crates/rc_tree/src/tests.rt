@@ -1,0 +1,144 @@
+//! Nets of small files. The expected answers were worked by hand.
+ghost use Rattle.std.specs.Prelude.{◌≡◌, ◌<◌, ◌^◌, length, None, IfSome};
+
+use crate::{PinLoads, RcTree, TreeEnd, build};
+use corner_set::{Grid, Pick, Single};
+use delay_units::Farads;
+use edge_io::{Steps, Text};
+use name_table::NodeName;
+use spef_nets::{Section, Sections, read_sections};
+use spef_text::{parse, read_head};
+use std::alloc::Global;
+use std::marker::Brand;
+use std::sync::ledger::{Blank, Ledger};
+use std::test::Fail;
+
+/// The nets of a file.
+fn sections(alloc: Global, bytes: &[u8]) -> Option<Sections<Single>>
+    requires { length bytes.now < 2 ^ 30 }
+{
+    let Ok(file) = parse(alloc, bytes) else {
+        return None;
+    };
+    let Ok(head) = read_head(alloc, &file) else {
+        return None;
+    };
+    let Ok(sections) = read_sections::<Single>(alloc, &file, &head, Pick::Typ) else {
+        return None;
+    };
+    Some(sections)
+}
+
+/// A node without a tail.
+fn name(alloc: Global, word: &[u8]) -> Option<NodeName>
+    ensures head { IfSome result (λ name. name.head ≡ word.now) }
+    ensures tail { IfSome result (λ name. name.tail ≡ None) }
+{
+    Some(NodeName {
+        head: Text::from_bytes(alloc, word).ok()?,
+        tail: None,
+        sdf: Text::from_bytes(alloc, word).ok()?,
+    })
+}
+
+/// The driver `d`, and the sinks `s` and `t` with loads of 2 and 3 fF.
+fn pins(alloc: Global) -> Option<PinLoads<Single>>
+    ensures { IfSome result (λ pins. length pins.sinks ≡ 2) }
+{
+    let Ok(two) = Grid::<Single, Farads>::with_rows(alloc, 1, Farads(2_000_000)) else {
+        return None;
+    };
+    let Ok(three) = Grid::<Single, Farads>::with_rows(alloc, 1, Farads(3_000_000)) else {
+        return None;
+    };
+    let mut pins = PinLoads::<Single>::new(alloc, name(alloc, b"d")?);
+    let Ok(()) = pins.add(name(alloc, b"s")?, &two, 0) else {
+        return None;
+    };
+    let Ok(()) = pins.add(name(alloc, b"t")?, &three, 0) else {
+        return None;
+    };
+    Some(pins)
+}
+
+/// How the building of a net ends: 0 a tree, 1 a strange pin, 2 too large, 3 unreached, 4 a mesh, 5 no memory; and a number: of
+/// nodes, of the bytes of the name's head, or of the resistor.
+fn ending<L: Ledger>(alloc: Global, section: &Section<Single>, blank: Blank) -> (u8, usize)
+    requires name { blank.name ≡ L.name }
+    requires parts { blank.parts ≡ L.parts }
+    requires some_part { 0 < blank.parts }
+{
+    let Some(pins) = pins(alloc) else {
+        return (5, 0);
+    };
+    let mut steps = Steps::<L>::new(blank);
+    match build(alloc, section, &pins, &mut steps) {
+        Ok(tree) => (0, tree.len()),
+        Err(TreeEnd::StrangePin(name)) => (1, name.head.len()),
+        Err(TreeEnd::TooLarge) => (2, 0),
+        Err(TreeEnd::Unreached(name)) => (3, name.head.len()),
+        Err(TreeEnd::Mesh(place)) => (4, place),
+        Err(TreeEnd::OutOfMemory) => (5, 0),
+    }
+}
+
+/// How the building of the first net of a file ends; 6 where there is none.
+fn end_of(alloc: Global, bytes: &[u8]) -> (u8, usize)
+    requires { length bytes.now < 2 ^ 30 }
+{
+    let Some(sections) = sections(alloc, bytes) else {
+        return (6, 0);
+    };
+    if sections.len() == 0 {
+        return (6, 0);
+    }
+    ending::<Brand>(alloc, sections.get(0), Blank::new(1))
+}
+
+/// A section, and how it ends.
+const ENDS: [(&[u8], (u8, usize)); 9] = [
+    (
+        b"*SPEF *C_UNIT 1 FF *R_UNIT 1 OHM *D_NET n 16 *CONN *I d O *I s I *I t I *CAP 1 n:1 10 2 s 5 3 t 1 *RES 1 d n:1 100 2 n:1 s 200 3 n:1 t 50 *END",
+        (0, 4),
+    ),
+    (
+        b"*SPEF *C_UNIT 1 FF *R_UNIT 1 OHM *D_NET n 16 *CONN *I d O *I s I *CAP 1 n:1 10 *END",
+        (0, 1),
+    ),
+    (
+        b"*SPEF *C_UNIT 1 FF *R_UNIT 1 OHM *D_NET n 16 *CONN *I d O *I s I *I stranger I *CAP 1 n:1 10 *END",
+        (1, 8),
+    ),
+    (
+        b"*SPEF *C_UNIT 1 FF *R_UNIT 1 OHM *D_NET n 16 *CONN *I d O *CAP 1 n:1 10 *RES 1 d s 1 2 s t 1 *END",
+        (3, 1),
+    ),
+    (
+        b"*SPEF *C_UNIT 1 FF *R_UNIT 1 OHM *D_NET n 16 *RES 1 d s 1 2 s t 1 3 t d 1 *END",
+        (4, 1),
+    ),
+    (
+        b"*SPEF *C_UNIT 1 FF *R_UNIT 1 OHM *D_NET n 16 *RES 1 d s 1 2 d s 1 3 t d 1 *END",
+        (4, 0),
+    ),
+    (
+        b"*SPEF *C_UNIT 1 FF *R_UNIT 1 OHM *D_NET n 16 *RES 1 d s 1 2 s s 1 3 t d 0 *END",
+        (4, 1),
+    ),
+    (
+        b"*SPEF *C_UNIT 1 FF *R_UNIT 1 OHM *D_NET n 16 *RES 1 d s 0 2 s t 0 *END",
+        (0, 3),
+    ),
+    (
+        b"*SPEF *C_UNIT 1 FF *R_UNIT 1 OHM *D_NET n 16 *CAP 1 last:1 0 *RES 1 d s 0 2 s t 0 3 last:1 last:1 1 *END",
+        (3, 4),
+    ),
+];
+
+#[test]
+fn nets_end_as_they_should(rt: HostRuntime) -> Result<(), Fail> {
+    for (bytes, end) in &ENDS {
+        assert_eq!(rt; end_of(rt.alloc(), bytes), *end);
+    }
+    Ok(())
+}
