@@ -3,7 +3,7 @@ use Rattle.std.proofs.Common.{◌≡◌, Bool, true, false, not, ◌||◌, Optio
 use Rattle.std.specs.List.{find, list_any}
 use Rattle.gdc.specs.declared.words.Command.{Command}
 use Rattle.gdc.specs.declared.words.Key.{Key}
-use Rattle.gdc.specs.declared.words.Key.TheVariants.{Spef}
+use Rattle.gdc.specs.declared.words.Key.TheVariants.{Spef, Triple}
 use Rattle.gdc.specs.declared.words.Given.{Given}
 use Rattle.gdc.specs.CommandLine.{first_missing, needs_key, needed_keys, is_given, same_key}
 
@@ -18,6 +18,9 @@ none_found p (x ∷ xs) e = none_at_head (p x) x (find p xs) (list_any p xs) (no
 
 same_key_is : (a b : Key) → same_key a b ≡ true → a ≡ b
 same_key_is Spef Spef e = refl
+same_key_is Triple Triple e = refl
+same_key_is Spef Triple e = cc
+same_key_is Triple Spef e = cc
 
 stands_at_head : (here others stands : Bool) (wanted wanted_later : Bool) → (not here || others) ≡ false → (wanted ≡ true → here ≡ stands) → (others ≡ false → wanted_later ≡ true → stands ≡ true) → (wanted || wanted_later) ≡ true → stands ≡ true
 stands_at_head false others stands wanted wanted_later none first later e = cc

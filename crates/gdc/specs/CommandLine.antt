@@ -1,11 +1,13 @@
 -- The words of the command line. Word 1 is the command. The rest are pairs of a key and its value, read from the left.
-use Rattle.std.specs.Prelude.{ℕ, ◌+◌, Bool, true, false, not, Option, Some, None, Result, Ok, Err, List, [], ◌∷◌, ◌++◌, if◌then◌else◌, codes}
+use Rattle.std.specs.Prelude.{ℕ, ◌+◌, Bool, true, false, not, Option, Some, None, Result, Ok, Err, List, [], ◌∷◌, ◌++◌, if◌then◌else◌, codes, is_some, unwrap_or}
 use Rattle.std.specs.List.{find, list_any}
 use Rattle.std.specs.Str.{bytes_eq}
 use Rattle.gdc.specs.declared.words.Command.{Command}
 use Rattle.gdc.specs.declared.words.Command.TheVariants.{Wires}
 use Rattle.gdc.specs.declared.words.Key.{Key}
-use Rattle.gdc.specs.declared.words.Key.TheVariants.{Spef}
+use Rattle.corner_set.specs.declared.pick.Pick.{Pick}
+use Rattle.corner_set.specs.declared.pick.Pick.TheVariants.{Min, Typ, Max}
+use Rattle.gdc.specs.declared.words.Key.TheVariants.{Spef, Triple}
 use Rattle.gdc.specs.declared.words.Given.{Given}
 use Rattle.gdc.specs.declared.words.UsageKind.{UsageKind}
 use Rattle.gdc.specs.declared.words.UsageKind.TheVariants.{NoCommand, UnknownCommand, UnknownWord, Repeated, MissingValue, BadValue, MissingKey}
@@ -23,27 +25,46 @@ command_of word = if bytes_eq word (codes "wires") then Some Wires else None
 -- the word of a key
 abbrev pub key_word : Key → List ℕ
 key_word Spef = codes "--spef"
+key_word Triple = codes "--triple"
 
 -- the key that a word names
 abbrev pub key_of : List ℕ → Option Key
-key_of word = if bytes_eq word (codes "--spef") then Some Spef else None
+key_of word =
+    if bytes_eq word (codes "--spef") then Some Spef
+    else if bytes_eq word (codes "--triple") then Some Triple
+    else None
 
 -- two keys are one key
 abbrev pub same_key : Key → Key → Bool
 same_key Spef Spef = true
+same_key Triple Triple = true
+same_key _ _ = false
 
 -- a command takes a key
 abbrev pub takes_key : Command → Key → Bool
 takes_key Wires Spef = true
+takes_key Wires Triple = true
 
 -- the keys that a command needs, in the order in which a missing one is named
 abbrev pub needed_keys : Command → List Key
 needed_keys Wires = Spef ∷ []
 
--- a value has the form that its key wants, which for a file's name is a text that is not empty
+-- the member of a triple that a word names
+abbrev pub pick_of : List ℕ → Option Pick
+pick_of word =
+    if bytes_eq word (codes "min") then Some Min
+    else if bytes_eq word (codes "typ") then Some Typ
+    else if bytes_eq word (codes "max") then Some Max
+    else None
+
+abbrev pub is_filled : List ℕ → Bool
+is_filled [] = false
+is_filled (b ∷ bytes) = true
+
+-- a value has the form that its key wants: a file's name is a text that is not empty, and a member of a triple has its word
 abbrev pub is_value : Key → List ℕ → Bool
-is_value Spef [] = false
-is_value Spef (b ∷ bytes) = true
+is_value Spef value = is_filled value
+is_value Triple value = is_some (pick_of value)
 
 -- a key stands among these
 abbrev pub is_given : List Given → Key → Bool
@@ -120,3 +141,11 @@ value_in (Some g) = g.value
 -- the value of a key that stands
 abbrev pub value_of : List Given → Key → List ℕ
 value_of given key = value_in (find (λ g. same_key g.key key) given)
+
+-- the member of a triple that counts: the typical one where no other is asked for
+abbrev pub pick_in : Option Given → Pick
+pick_in None = Typ
+pick_in (Some g) = unwrap_or (pick_of g.value) Typ
+
+abbrev pub pick_from : List Given → Pick
+pick_from given = pick_in (find (λ g. same_key g.key Triple) given)

@@ -4,7 +4,7 @@ use Rattle.gdc.specs.declared.words.UsageKind.{UsageKind}
 use Rattle.gdc.specs.declared.words.UsageKind.TheVariants.{NoCommand, UnknownCommand, UnknownWord, Repeated, MissingValue, BadValue, Mixed, MissingKey}
 use Rattle.gdc.specs.declared.outcome.Outcome.{Outcome}
 use Rattle.gdc.specs.declared.outcome.Outcome.TheVariants.{Done, Refused, Usage, ReadFault, WriteFault, OutOfMemory}
-use Rattle.gdc.specs.RefusalText.{key_text, head_text, field_text}
+use Rattle.gdc.specs.RefusalText.{key_text, refusal_line}
 
 -- the words of a fault of the command line
 abbrev pub kind_text : UsageKind → List ℕ
@@ -25,7 +25,7 @@ usage_line kind place None = codes "gdc: usage at word " ++ (decimal place ++ (c
 -- the line of an answer, which is nothing where the run is done
 abbrev pub line_of : Outcome → List ℕ
 line_of Done = []
-line_of (Refused refusal) = codes "gdc: " ++ (head_text refusal ++ (field_text refusal ++ 10 ∷ []))
+line_of (Refused refusal) = refusal_line refusal
 line_of (Usage fault) = usage_line fault.kind fault.place fault.key
 line_of (ReadFault key) = codes "gdc: read fault " ++ (key_text key ++ 10 ∷ [])
 line_of WriteFault = codes "gdc: write fault" ++ 10 ∷ []

@@ -1,30 +1,108 @@
 -- The words that a refusal is printed with.
-use Rattle.std.specs.Prelude.{ℕ, List, ◌++◌, codes}
+use Rattle.std.specs.Prelude.{ℕ, List, [], ◌∷◌, ◌++◌, Option, Some, None, codes, decimal}
+use Rattle.name_table.specs.declared.spef_names.NodeName.{NodeName}
 use Rattle.gdc.specs.declared.refusal.FileKey.{FileKey}
 use Rattle.gdc.specs.declared.refusal.FileKey.TheVariants.{Spef}
 use Rattle.gdc.specs.declared.refusal.LimitKind.{LimitKind}
-use Rattle.gdc.specs.declared.refusal.LimitKind.TheVariants.{File}
+use Rattle.gdc.specs.declared.refusal.LimitKind.TheVariants.{File, Net}
+use Rattle.gdc.specs.declared.refusal.NumberKind.{NumberKind}
+use Rattle.gdc.specs.declared.refusal.NumberKind.TheVariants.{BadUnit, BadNumber, ValueTooLarge}
+use Rattle.gdc.specs.declared.refusal.IndexKind.{IndexKind}
+use Rattle.gdc.specs.declared.refusal.IndexKind.TheVariants.{Unknown, Repeated}
 use Rattle.gdc.specs.declared.refusal.Refusal.{Refusal}
-use Rattle.gdc.specs.declared.refusal.Refusal.TheVariants.{Limit, NotBuilt}
+use Rattle.gdc.specs.declared.refusal.Refusal.TheVariants.{SpefSyntax, SpefForm, SpefNumber, NameIndex, RepeatedNet, Unreached, Mesh, ForeignCoupling, Limit, NoDriver, ManyDrivers}
 
 -- the key of a file
 abbrev pub key_text : FileKey → List ℕ
 key_text Spef = codes "--spef"
 
--- what names the place of a limit
-abbrev pub limit_text : LimitKind → List ℕ
-limit_text (File key) = key_text key
+-- the words for a limit, and what names the place where it is passed
+abbrev pub limit_head : LimitKind → List ℕ
+limit_head (File key) = codes "E50 limit file "
+limit_head (Net net) = codes "E50 limit net "
+
+abbrev pub limit_field : LimitKind → List ℕ
+limit_field (File key) = key_text key
+limit_field (Net net) = net
+
+-- what is wrong with a number
+abbrev pub number_text : NumberKind → List ℕ
+number_text BadUnit = codes "bad unit"
+number_text BadNumber = codes "bad number"
+number_text ValueTooLarge = codes "value too large"
+
+-- what is wrong with an index
+abbrev pub index_text : IndexKind → List ℕ
+index_text Unknown = codes "unknown"
+index_text Repeated = codes "repeated"
 
 -- the number and the name of a refusal
 abbrev pub head_text : Refusal → List ℕ
-head_text (Limit (File key)) = codes "E50 limit file "
-head_text (NotBuilt word) = codes "E69 not built "
+head_text (SpefSyntax token) = codes "E04 spef syntax"
+head_text (SpefForm word token) = codes "E05 spef form "
+head_text (SpefNumber kind token) = codes "E30 spef number "
+head_text (NameIndex kind token) = codes "E31 name index "
+head_text (RepeatedNet net) = codes "E32 repeated net "
+head_text (Unreached net node) = codes "E35 unreached node "
+head_text (Mesh net resistor) = codes "E36 mesh "
+head_text (ForeignCoupling net token) = codes "E37 foreign coupling "
+head_text (Limit kind) = limit_head kind
+head_text (NoDriver net) = codes "E60 no driver "
+head_text (ManyDrivers net) = codes "E61 several drivers "
 
--- what a refusal names
+-- what a refusal names first
 abbrev pub field_text : Refusal → List ℕ
-field_text (Limit kind) = limit_text kind
-field_text (NotBuilt word) = word
+field_text (SpefSyntax token) = []
+field_text (SpefForm word token) = word
+field_text (SpefNumber kind token) = number_text kind
+field_text (NameIndex kind token) = index_text kind
+field_text (RepeatedNet net) = net
+field_text (Unreached net node) = net
+field_text (Mesh net resistor) = net
+field_text (ForeignCoupling net token) = net
+field_text (Limit kind) = limit_field kind
+field_text (NoDriver net) = net
+field_text (ManyDrivers net) = net
 
--- the words of a refusal
-abbrev pub refusal_text : Refusal → List ℕ
-refusal_text refusal = head_text refusal ++ field_text refusal
+-- the token that a refusal names
+abbrev pub token_in : Refusal → Option ℕ
+token_in (SpefSyntax token) = Some token
+token_in (SpefForm word token) = Some token
+token_in (SpefNumber kind token) = Some token
+token_in (NameIndex kind token) = Some token
+token_in (RepeatedNet net) = None
+token_in (Unreached net node) = None
+token_in (Mesh net resistor) = None
+token_in (ForeignCoupling net token) = Some token
+token_in (Limit kind) = None
+token_in (NoDriver net) = None
+token_in (ManyDrivers net) = None
+
+-- the node that a refusal names
+abbrev pub node_in : Refusal → Option NodeName
+node_in (SpefSyntax token) = None
+node_in (SpefForm word token) = None
+node_in (SpefNumber kind token) = None
+node_in (NameIndex kind token) = None
+node_in (RepeatedNet net) = None
+node_in (Unreached net node) = Some node
+node_in (Mesh net resistor) = None
+node_in (ForeignCoupling net token) = None
+node_in (Limit kind) = None
+node_in (NoDriver net) = None
+node_in (ManyDrivers net) = None
+
+-- a node is printed as its head, and where it has a tail as `:` and the tail after it
+abbrev pub node_text : List ℕ → Option (List ℕ) → List ℕ
+node_text head None = head ++ 10 ∷ []
+node_text head (Some tail) = head ++ (codes ":" ++ (tail ++ 10 ∷ []))
+
+-- what ends the line of a refusal: its token, or its node, or nothing more
+abbrev pub line_end : Option ℕ → Option NodeName → List ℕ
+line_end (Some token) _ = codes " token " ++ (decimal token ++ 10 ∷ [])
+line_end None (Some at) = codes " " ++ node_text at.head at.tail
+line_end None None = 10 ∷ []
+
+-- the line of a refusal
+abbrev pub refusal_line : Refusal → List ℕ
+refusal_line refusal = (codes "gdc: " ++ (head_text refusal ++ field_text refusal)) ++ line_end (token_in refusal) (node_in refusal)

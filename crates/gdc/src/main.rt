@@ -8,14 +8,12 @@
 ghost use Rattle.std.specs.Prelude.{◌≡◌, ◌<◌};
 
 mod command_line;
-mod laws;
 mod lines;
-mod name_hash;
+mod net_pins;
+mod net_rows;
 mod outcome;
 mod refusal;
-mod star_net;
-mod star_text;
-mod star_wires;
+mod spef_phases;
 #[cfg(test)]
 mod tests;
 mod top;

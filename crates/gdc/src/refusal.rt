@@ -1,8 +1,10 @@
 //! The refusals of the program: what is wrong with an input that was read.
 ghost use Rattle.std.specs.Prelude.{◌≡◌};
-ghost use Rattle.gdc.specs.RefusalText.{key_text, limit_text, head_text, field_text};
+ghost use Rattle.std.specs.Option.{option_copied};
+ghost use Rattle.gdc.specs.RefusalText.{key_text, limit_head, limit_field, number_text, index_text, head_text, field_text, token_in, node_in};
 
 use edge_io::Text;
+use name_table::NodeName;
 
 /// Names a file of the command line by its key.
 #[derive(Clone, Copy, Debug, PartialEq, Eq)]
@@ -12,20 +14,59 @@ pub enum FileKey {
 }
 
 /// A limit that an input passes.
-#[derive(Clone, Copy, Debug, PartialEq, Eq)]
+#[derive(Debug, Drop)]
 pub enum LimitKind {
     /// The bytes of a file, of which at most 2^28 are read.
     File(FileKey),
+    /// The elements of a net of this name, which has at most 2^19 resistors, and at most 2^19 capacitances and pins.
+    Net(Text),
 }
 
-/// Why an input is refused.
+/// What is wrong with a number of a SPEF file.
+#[derive(Clone, Copy, Debug, PartialEq, Eq)]
+pub enum NumberKind {
+    /// The number or the word of a unit.
+    BadUnit,
+    /// A number of more than 30 significant digits, with an exponent past 99 in size, or below 0.
+    BadNumber,
+    /// A capacitance over 1 nF, or a resistance over 10^8 ohm.
+    ValueTooLarge,
+}
+
+/// What is wrong with an index of a SPEF file's name map.
+#[derive(Clone, Copy, Debug, PartialEq, Eq)]
+pub enum IndexKind {
+    /// It is not in the map.
+    Unknown,
+    /// It is in the map already.
+    Repeated,
+}
+
+/// Why an input is refused. Tokens count from 1, and are those of the file, comments and blanks left out.
 #[derive(Debug, Drop)]
 pub enum Refusal {
+    /// E04: no SPEF file begins with the tokens up to this one, or the file ends in front of it.
+    SpefSyntax { token: u64 },
+    /// E05: the same, where the token is a word for a form of SPEF that is not read.
+    SpefForm { word: Text, token: u64 },
+    /// E30: a unit or a value is no good.
+    SpefNumber { kind: NumberKind, token: u64 },
+    /// E31: an index is no good.
+    NameIndex { kind: IndexKind, token: u64 },
+    /// E32: a net has two sections.
+    RepeatedNet { net: Text },
+    /// E35: no resistors lead from the driver of a net to this node of it.
+    Unreached { net: Text, node: NodeName },
+    /// E36: the resistors of a net close a loop; the one at this place, from 0, cuts no node off.
+    Mesh { net: Text, resistor: usize },
+    /// E37: neither node of a coupling in a net's section belongs to the net.
+    ForeignCoupling { net: Text, token: u64 },
     /// E50: an input passes a limit.
     Limit(LimitKind),
-    /// E69: a form that is not built yet. The word is `form` where the file is not of the form of star
-    /// nets, and else the first net that breaks a rule of the star.
-    NotBuilt { word: Text },
+    /// E60: no connection drives a net.
+    NoDriver { net: Text },
+    /// E61: several connections drive a net.
+    ManyDrivers { net: Text },
 }
 
 impl FileKey {
@@ -40,12 +81,45 @@ impl FileKey {
 }
 
 impl LimitKind {
-    /// What names the place where the limit is passed.
+    fn head(&self) -> &'static [u8]
+        ensures { result.now ≡ limit_head self.now }
+    {
+        match self {
+            LimitKind::File(_) => b"E50 limit file ",
+            LimitKind::Net(_) => b"E50 limit net ",
+        }
+    }
+
+    // What names the place where the limit is passed.
     fn field(&self) -> &[u8]
-        ensures { result.now ≡ limit_text self.now }
+        ensures { result.now ≡ limit_field self.now }
     {
         match self {
             LimitKind::File(key) => key.word(),
+            LimitKind::Net(net) => net.bytes(),
+        }
+    }
+}
+
+impl NumberKind {
+    fn text(self) -> &'static [u8]
+        ensures { result.now ≡ number_text self }
+    {
+        match self {
+            NumberKind::BadUnit => b"bad unit",
+            NumberKind::BadNumber => b"bad number",
+            NumberKind::ValueTooLarge => b"value too large",
+        }
+    }
+}
+
+impl IndexKind {
+    fn text(self) -> &'static [u8]
+        ensures { result.now ≡ index_text self }
+    {
+        match self {
+            IndexKind::Unknown => b"unknown",
+            IndexKind::Repeated => b"repeated",
         }
     }
 }
@@ -56,18 +130,74 @@ impl Refusal {
         ensures { result.now ≡ head_text self.now }
     {
         match self {
-            Refusal::Limit(_) => b"E50 limit file ",
-            Refusal::NotBuilt { .. } => b"E69 not built ",
+            Refusal::SpefSyntax { .. } => b"E04 spef syntax",
+            Refusal::SpefForm { .. } => b"E05 spef form ",
+            Refusal::SpefNumber { .. } => b"E30 spef number ",
+            Refusal::NameIndex { .. } => b"E31 name index ",
+            Refusal::RepeatedNet { .. } => b"E32 repeated net ",
+            Refusal::Unreached { .. } => b"E35 unreached node ",
+            Refusal::Mesh { .. } => b"E36 mesh ",
+            Refusal::ForeignCoupling { .. } => b"E37 foreign coupling ",
+            Refusal::Limit(kind) => kind.head(),
+            Refusal::NoDriver { .. } => b"E60 no driver ",
+            Refusal::ManyDrivers { .. } => b"E61 several drivers ",
         }
     }
 
-    /// What the line names: a file's key, or a net.
+    /// What the line names first: a word, a kind, a file's key, or a net.
     pub fn field(&self) -> &[u8]
         ensures { result.now ≡ field_text self.now }
     {
         match self {
+            Refusal::SpefSyntax { .. } => b"",
+            Refusal::SpefForm { word, .. } => word.bytes(),
+            Refusal::SpefNumber { kind, .. } => kind.text(),
+            Refusal::NameIndex { kind, .. } => kind.text(),
+            Refusal::RepeatedNet { net } => net.bytes(),
+            Refusal::Unreached { net, .. } => net.bytes(),
+            Refusal::Mesh { net, .. } => net.bytes(),
+            Refusal::ForeignCoupling { net, .. } => net.bytes(),
             Refusal::Limit(kind) => kind.field(),
-            Refusal::NotBuilt { word } => word.bytes(),
+            Refusal::NoDriver { net } => net.bytes(),
+            Refusal::ManyDrivers { net } => net.bytes(),
+        }
+    }
+
+    /// The token that the line names, if it names one.
+    pub fn token(&self) -> Option<u64>
+        ensures { result ≡ token_in self.now }
+    {
+        match self {
+            Refusal::SpefSyntax { token } => Some(*token),
+            Refusal::SpefForm { token, .. } => Some(*token),
+            Refusal::SpefNumber { token, .. } => Some(*token),
+            Refusal::NameIndex { token, .. } => Some(*token),
+            Refusal::RepeatedNet { .. } => None,
+            Refusal::Unreached { .. } => None,
+            Refusal::Mesh { .. } => None,
+            Refusal::ForeignCoupling { token, .. } => Some(*token),
+            Refusal::Limit(_) => None,
+            Refusal::NoDriver { .. } => None,
+            Refusal::ManyDrivers { .. } => None,
+        }
+    }
+
+    /// The node that the line names, if it names one.
+    pub fn node(&self) -> Option<&NodeName>
+        ensures { option_copied result ≡ node_in self.now }
+    {
+        match self {
+            Refusal::SpefSyntax { .. } => None,
+            Refusal::SpefForm { .. } => None,
+            Refusal::SpefNumber { .. } => None,
+            Refusal::NameIndex { .. } => None,
+            Refusal::RepeatedNet { .. } => None,
+            Refusal::Unreached { node, .. } => Some(node),
+            Refusal::Mesh { .. } => None,
+            Refusal::ForeignCoupling { .. } => None,
+            Refusal::Limit(_) => None,
+            Refusal::NoDriver { .. } => None,
+            Refusal::ManyDrivers { .. } => None,
         }
     }
 }

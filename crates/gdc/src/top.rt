@@ -56,19 +56,30 @@ impl From<PhaseEnd<Refusal, FileKey>> for End {
 }
 
 /// The rows that the words ask for.
-fn decide<H: Shelf>(alloc: Global, words: &Words, shelf: &mut H) -> Result<Rows<Single>, End>
+fn decide<H: Shelf, L: Ledger>(
+    alloc: Global,
+    words: &Words,
+    shelf: &mut H,
+    steps: &mut Steps<L>,
+) -> Result<Rows<Single>, End>
     ensures follows { FollowsTop words.now (H.held shelf.old) result }
     ensures fault { MeansEnd words.now (H.held shelf.old) (H.faults shelf.old) (H.faults shelf.new) (H.opens shelf.old) (H.opens shelf.new) result }
 {
     let asked = read_words(alloc, words)?;
     let rows = match asked.command() {
-        Command::Wires => wires(alloc, shelf, asked.needed(Key::Spef))?,
+        Command::Wires => wires(alloc, shelf, asked.needed(Key::Spef), asked.pick(), steps)?,
     };
     Ok(rows)
 }
 
 /// Decides, and writes the text where there are rows.
-fn answer<H: Shelf, O: Sink>(alloc: Global, words: &Words, shelf: &mut H, out: &mut O) -> Outcome
+fn answer<H: Shelf, O: Sink, L: Ledger>(
+    alloc: Global,
+    words: &Words,
+    shelf: &mut H,
+    out: &mut O,
+    steps: &mut Steps<L>,
+) -> Outcome
     ensures done { OnDone result (GivesText words.now (H.held shelf.old)
         (λ text. O.written out.new ≡ appended (O.written out.old) text)) }
     ensures refused { IfRefused result
@@ -81,7 +92,7 @@ fn answer<H: Shelf, O: Sink>(alloc: Global, words: &Words, shelf: &mut H, out: &
         (λ text. AppendsFrontOf text (O.written out.old) (O.written out.new))) }
     ensures untouched { UnlessWritten result (O.written out.new ≡ O.written out.old) }
 {
-    match decide(alloc, words, shelf) {
+    match decide(alloc, words, shelf, steps) {
         Err(End::Usage(fault)) => Outcome::Usage(fault),
         Err(End::Phase(PhaseEnd::Refused(refusal))) => Outcome::Refused(refusal),
         Err(End::Phase(PhaseEnd::ReadFault(key))) => Outcome::ReadFault(key),
@@ -98,14 +109,14 @@ fn answer<H: Shelf, O: Sink>(alloc: Global, words: &Words, shelf: &mut H, out: &
 /// and for every answer but `Done` one line to `err`.
 ///
 /// Nothing is written to `out` before the verdict is reached. Where `err` fails, a front of the line is
-/// written and the answer stays. `steps` counts the reads of nets, of which there are none yet.
+/// written and the answer stays. `steps` counts the reads of nets and trees.
 pub fn run<H: Shelf, O: Sink, E: Sink, L: Ledger>(
     alloc: Global,
     words: &Words,
     shelf: &mut H,
     out: &mut O,
     err: &mut E,
-    _steps: &mut Steps<L>,
+    steps: &mut Steps<L>,
 ) -> Outcome
     // Done: the verdict gives rows, and their text stands behind what `out` held.
     ensures done { OnDone result (GivesText words.now (H.held shelf.old)
@@ -138,7 +149,7 @@ pub fn run<H: Shelf, O: Sink, E: Sink, L: Ledger>(
     // The answer's line stands behind what `err` held.
     ensures said { Says result (E.written err.old) (E.written err.new) (E.faults err.old) (E.faults err.new) }
 {
-    let outcome = answer(alloc, words, shelf, out);
+    let outcome = answer(alloc, words, shelf, out, steps);
     // The answer stays where its line could not be written.
     let _ = say(&outcome, err);
     outcome

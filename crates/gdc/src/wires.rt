@@ -5,25 +5,29 @@ ghost use Rattle.edge_io.specs.Holding.{TellsMissing};
 ghost use Rattle.verdict_phases.specs.Phases.{Follows, OnReadFault};
 ghost use Rattle.gdc.specs.Verdict.{WiresGives};
 
+use crate::net_rows::draw_design;
 use crate::refusal::{FileKey, LimitKind, Refusal};
-use crate::star_wires::star_wires;
-use corner_set::Single;
-use edge_io::{Shelf, Text};
+use crate::spef_phases::read_design;
+use corner_set::{Pick, Single};
+use edge_io::{Shelf, Steps, Text};
 use sdf_writer::Rows;
 use std::alloc::Global;
+use std::sync::ledger::Ledger;
 use verdict_phases::{PhaseEnd, read_phase};
 
 /// How many bytes of a file are read at the most: 2^28.
 pub const FILE_LIMIT: usize = 268_435_456;
 
-/// The rows of the wires of the SPEF file of that name.
-#[tactic(auto, using(crate::specs::Verdict::at_reading, crate::specs::Verdict::at_wires, crate::specs::Verdict::through))]
-pub fn wires<H: Shelf>(
+/// The rows of the wires of the SPEF file of that name, where this member of each triple counts.
+#[tactic(auto, using(crate::specs::Verdict::at_reading, crate::specs::Verdict::at_spef, crate::specs::Verdict::at_nets, crate::specs::Verdict::with_rows))]
+pub fn wires<H: Shelf, L: Ledger>(
     alloc: Global,
     shelf: &mut H,
     name: &Text,
+    pick: Pick,
+    steps: &mut Steps<L>,
 ) -> Result<Rows<Single>, PhaseEnd<Refusal, FileKey>>
-    ensures follows { Follows (WiresGives (H.held shelf.old) name.now) result }
+    ensures follows { Follows (WiresGives (H.held shelf.old) pick name.now) result }
     ensures fault { OnReadFault result
         (Rose (H.faults shelf.old) (H.faults shelf.new) ⊎ TellsMissing (H.held shelf.old) name.now) }
     ensures later { H.faults shelf.old ≤ H.faults shelf.new }
@@ -32,6 +36,7 @@ pub fn wires<H: Shelf>(
 {
     let too_long = Refusal::Limit(LimitKind::File(FileKey::Spef));
     let text = read_phase(alloc, shelf, name, FILE_LIMIT, FileKey::Spef, too_long)?;
-    let rows = star_wires(alloc, text.bytes())?;
+    let design = read_design(alloc, text, pick)?;
+    let rows = draw_design(alloc, design, steps)?;
     Ok(rows)
 }

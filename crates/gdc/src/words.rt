@@ -2,8 +2,9 @@
 ghost use Rattle.std.specs.Prelude.{◌≡◌, ℕ, ◌+◌, ◌<◌, List, [], ◌∷◌, ◌++◌, OnOk, OnErr, MatchResult, IsTrue, Option, option_copied, Some, Ok, Err};
 ghost use Rattle.gdc.specs.WordsEnds.{FaultsWith};
 ghost use Rattle.std.specs.List.{find};
-ghost use Rattle.gdc.specs.CommandLine.{same_key, command_of, key_of, key_word, takes_key, needed_keys, needs_key, is_value, is_given, first_missing, fault_at, new_key, good_value, pairs_from, request_for, request_of, value_of};
+ghost use Rattle.gdc.specs.CommandLine.{same_key, command_of, key_of, key_word, takes_key, needed_keys, needs_key, is_value, is_given, first_missing, fault_at, new_key, good_value, pairs_from, request_for, request_of, value_of, pick_of, pick_in, pick_from};
 
+use corner_set::Pick;
 use edge_io::{OutOfMemory, Text};
 use std::alloc::{AllocFailed, Global};
 use std::marker::Model;
@@ -20,6 +21,8 @@ pub enum Command {
 pub enum Key {
     /// `--spef`: the name of a SPEF file.
     Spef,
+    /// `--triple`: the member of a triple of a SPEF file that counts, `min`, `typ` or `max`.
+    Triple,
 }
 
 /// A key that stands, and its value.
@@ -81,6 +84,21 @@ impl From<OutOfMemory> for WordsEnd {
     }
 }
 
+/// The member of a triple that a word names.
+fn pick_of(word: &[u8]) -> Option<Pick>
+    ensures { result ≡ pick_of word.now }
+{
+    if word == b"min".as_slice() {
+        Some(Pick::Min)
+    } else if word == b"typ".as_slice() {
+        Some(Pick::Typ)
+    } else if word == b"max".as_slice() {
+        Some(Pick::Max)
+    } else {
+        None
+    }
+}
+
 /// The command that a word names.
 fn command_of(word: &[u8]) -> Option<Command>
     ensures { result ≡ command_of word.now }
@@ -99,6 +117,8 @@ impl Key {
     {
         if word == b"--spef".as_slice() {
             Some(Key::Spef)
+        } else if word == b"--triple".as_slice() {
+            Some(Key::Triple)
         } else {
             None
         }
@@ -110,6 +130,7 @@ impl Key {
     {
         match self {
             Key::Spef => b"--spef",
+            Key::Triple => b"--triple",
         }
     }
 
@@ -119,6 +140,7 @@ impl Key {
     {
         match self {
             Key::Spef => !value.is_empty(),
+            Key::Triple => pick_of(value).is_some(),
         }
     }
 }
@@ -130,6 +152,7 @@ impl Command {
     {
         match (self, key) {
             (Command::Wires, Key::Spef) => true,
+            (Command::Wires, Key::Triple) => true,
         }
     }
 }
@@ -311,6 +334,14 @@ impl Asked {
             Some(pair) => &pair.value,
             None => unreachable!(),
         }
+    }
+
+    /// The member of a triple that counts: the typical one where the words ask for no other.
+    pub fn pick(&self) -> Pick
+        ensures { result ≡ pick_from self.now.given }
+    {
+        let asked = pair_of(&self.given, Key::Triple).and_then(|pair| pick_of(pair.value.bytes()));
+        asked.unwrap_or(Pick::Typ)
     }
 }
 

@@ -60,7 +60,16 @@ fn each_fault_of_the_words_has_its_line(rt: HostRuntime) -> Result<(), Fail> {
         none,
         b"gdc: usage at word 3: bad value\n",
     )?;
-    let plan = Plan::of(b"wires\n", b"");
+    let plan = Plan::of(b"wires\n--triple\nmid\n", b"");
+    expects(
+        &rt,
+        alloc,
+        &plan,
+        2,
+        none,
+        b"gdc: usage at word 3: bad value\n",
+    )?;
+    let plan = Plan::of(b"wires\n--triple\nmin\n", b"");
     expects(&rt, alloc, &plan, 2, none, b"gdc: usage: missing --spef\n")?;
     Ok(())
 }

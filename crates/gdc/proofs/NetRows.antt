@@ -1,0 +1,97 @@
+-- The rows of a net, and of several nets one after another.
+use Rattle.std.proofs.Common.{◌≡◌, ℕ, suc, ◌+◌, ◌<◌, List, [], ◌∷◌, ◌++◌, length, map, take, Some, Result, Ok, Err, refl, sym, ◌∙◌, ap, subst, arith, drop, Contains}
+use Rattle.std.proofs.lemmas.List.{length-map}
+use Rattle.std.specs.List.{slice_get, slice_index_or, AllZip}
+use Rattle.delay_units.specs.declared.Femto.{Femto}
+use Rattle.name_table.specs.declared.spef_names.NodeName.{NodeName}
+use Rattle.sdf_writer.specs.SdfText.{WireRow, SdfRows}
+use Rattle.spef_nets.specs.NetElements.{NetElements}
+use Rattle.spef_nets.specs.declared.parts.Listed.{Listed}
+use Rattle.rc_tree.specs.Arenas.{Arena}
+use Rattle.rc_tree.specs.Elmore.{IsElmore}
+use Rattle.rc_tree.specs.NetElements.{NetElements as ElementsOf}
+use Rattle.rc_tree.specs.RcTree.{IsTree}
+use Rattle.rc_tree.specs.Nodes.{Node, node_of}
+use Rattle.rc_tree.specs.Pins.{Pins}
+use Rattle.rc_tree.specs.SectionNets.{net_elements, on_net, sink_node}
+use Rattle.rc_tree.specs.Builds.{IsTreeOf, IsFit}
+use Rattle.rc_tree.specs.SectionNets.{AreListed, IsFirstStrange}
+use Rattle.rc_tree.specs.Pins.{pin_nodes}
+use Rattle.gdc.specs.AnnotationRows.{Wire, IsWireDelay, IsAnnotationRow, AreAnnotationRows}
+use Rattle.gdc.specs.WireNets.{HasDriver, pins_of, wires_of, NetGives, is_tree, NetsGive, and_net, refused}
+use Rattle.gdc.specs.NetRows.{IsTreeRow, AddsRows, DrawsNet, OnRefusal}
+use Rattle.verdict_phases.specs.declared.ends.PureEnd.{PureEnd}
+use Rattle.verdict_phases.specs.declared.ends.PureEnd.TheVariants as pure
+use Rattle.gdc.specs.declared.refusal.Refusal.{Refusal}
+use Rattle.gdc.proofs.Places.{some_is, within, index_is, map_get, zipped, front_more, parts_at}
+
+abbrev pub failed : PureEnd Refusal → Result (Unit {0}) (PureEnd Refusal)
+failed end = Err end
+
+-- a connection that is no pin is none where all are pins
+pub none_strange : (net : NetElements) (pins : Pins) (name : NodeName) → AreListed net (pin_nodes pins) → IsFirstStrange net (pin_nodes pins) name → ⊥
+none_strange net pins name listed strange =
+    let here = listed strange.place strange.conn (within net.conns strange.place strange.conn strange.here) in
+    let is : slice_index_or net.conns strange.place strange.conn ≡ strange.conn = index_is net.conns strange.place strange.conn strange.conn strange.here in
+    let stands : slice_get net.nodes strange.conn.node ≡ Some here.0 = subst (λ (c : Listed). slice_get net.nodes c.node ≡ Some here.0) is here.1 in
+    let same : here.0 ≡ name = some_is here.0 name (sym stands ∙ strange.named) in
+    strange.strange (subst (λ n. Contains (pin_nodes pins) (node_of n)) same here.2)
+
+-- the delay of a wire's row, once it is alone in it
+sole_delay : (wire : Wire) (net : ElementsOf Node) (times : List Femto) (time : Femto) → wire.corners ≡ net ∷ [] → times ≡ time ∷ [] → IsWireDelay wire.at net time → AllZip (IsWireDelay wire.at) wire.corners times
+sole_delay wire net times time corners sole is =
+    subst (λ c. AllZip (IsWireDelay wire.at) c times) (sym corners) (subst (AllZip (IsWireDelay wire.at) (net ∷ [])) (sym sole) (is, tt))
+
+-- the row of a sink in the tree of a net annotates its wire
+annotates : (net : NetElements) (pins : Pins) (arena : Arena) (sink : ℕ) (name : NodeName) (row : WireRow) → IsTreeOf 1 net pins arena → slice_get pins.sinks sink ≡ Some name → IsTreeRow pins arena sink row
+    → IsAnnotationRow (record { driver = pins.driver; sink = name; at = on_net net pins (node_of name); corners = net_elements 1 net pins 0 ∷ [] }) row
+annotates net pins arena sink name row tree named drawn =
+    let same : drawn.name ≡ name = some_is drawn.name name (sym drawn.named ∙ named) in
+    let node : sink_node pins sink ≡ node_of name = ap node_of (index_is pins.sinks sink name pins.driver named) in
+    let below : sink < length pins.sinks = within pins.sinks sink name named in
+    let some : 0 < 1 = omega arith in
+    let delays = tree.delays 0 sink some below drawn.elmore in
+    let counted : IsElmore (net_elements 1 net pins 0) (on_net net pins (node_of name)) drawn.elmore = subst (λ n. IsElmore (net_elements 1 net pins 0) (on_net net pins n) drawn.elmore) node (delays.0 drawn.counted) in
+    record {
+      from = drawn.from;
+      to = drawn.to ∙ ap (λ n. n.sdf) same;
+      delay = sole_delay (record { driver = pins.driver; sink = name; at = on_net net pins (node_of name); corners = net_elements 1 net pins 0 ∷ [] }) (net_elements 1 net pins 0) row.delay drawn.delay refl drawn.sole (drawn.elmore, counted, drawn.rounded);
+    }
+
+-- the rows of all sinks are those of the net
+pub net_drawn : (net : NetElements) (driver : Listed) (pins : Pins) (arena : Arena) (old new : SdfRows) → HasDriver net driver → pins ≡ pins_of net driver → IsTreeOf 1 net pins arena → AddsRows pins arena (length pins.sinks) old new → DrawsNet net old new
+net_drawn net driver pins arena old new sole are tree added = record {
+  rows = added.rows;
+  is = added.is;
+  given = is_tree driver added.rows sole (subst (IsFit net) are tree.fit) (subst (λ p. IsTree (net_elements 1 net p 0)) are (tree.tree 0 (omega arith))) (subst (λ p. AreAnnotationRows (wires_of net p) added.rows) are annotated);
+}
+  where
+    wire_to : NodeName → Wire
+    wire_to sink = record { driver = pins.driver; sink = sink; at = on_net net pins (node_of sink); corners = net_elements 1 net pins 0 ∷ [] }
+
+    annotated : AreAnnotationRows (wires_of net pins) added.rows
+    annotated = zipped IsAnnotationRow (map wire_to pins.sinks) added.rows (length-map pins.sinks wire_to ∙ sym added.counted)
+        (λ k wire row at stands.
+        let sink = map_get wire_to pins.sinks k wire at in
+        subst (λ w. IsAnnotationRow w row) sink.2 (annotates net pins arena k sink.0 row tree sink.1 (added.drawn k row stands)))
+
+-- one net more was drawn
+pub nets_more : (nets : List NetElements) (place : ℕ) (net : NetElements) (old new : SdfRows) → slice_get nets place ≡ Some net → NetsGive (take place nets) (Ok old.wires) → DrawsNet net old new → NetsGive (take (place + 1) nets) (Ok new.wires)
+nets_more nets place net old new stands before drawn =
+    subst (λ n. NetsGive n (Ok new.wires)) (sym (front_more nets place net stands))
+    (subst (λ w. NetsGive (take place nets ++ net ∷ []) (Ok w)) (sym (ap (λ r. r.wires) drawn.is)) (and_net before drawn.given))
+
+-- a net was refused, after others that were drawn
+pub nets_refused : (nets : List NetElements) (place : ℕ) (net : NetElements) (rows : List WireRow) (refusal : Refusal) → slice_get nets place ≡ Some net → NetsGive (take place nets) (Ok rows) → NetGives net (Err refusal) → NetsGive nets (Err refusal)
+nets_refused nets place net rows refusal stands before refuses =
+    subst (λ n. NetsGive n (Err refusal)) (sym (parts_at nets place net stands)) (refused (drop (suc place) nets) before refuses)
+
+-- the rows of a net leave the design's name
+pub same_design : (net : NetElements) (old new : SdfRows) → DrawsNet net old new → new.design ≡ old.design
+same_design net old new drawn = ap (λ r. r.design) drawn.is
+
+-- a refusal at a net is one of all nets
+pub refused_all : (nets : List NetElements) (place : ℕ) (net : NetElements) (rows : List WireRow) (end : PureEnd Refusal) → slice_get nets place ≡ Some net → NetsGive (take place nets) (Ok rows)
+    → OnRefusal (failed end) (λ refusal. NetGives net (Err refusal)) → OnRefusal (failed end) (λ refusal. NetsGive nets (Err refusal))
+refused_all nets place net rows (pure.Refused refusal) stands before refuses = nets_refused nets place net rows refusal stands before refuses
+refused_all nets place net rows pure.OutOfMemory stands before refuses = tt

@@ -1,6 +1,0 @@
-use Rattle.std.proofs.Common.{◌≡◌, take, fold}
-use Rattle.gdc.specs.NameHash.{step}
-use Rattle.gdc.proofs.name_hash.NameHasherHasher.write.Given as goal
-
-abbrev pub invariant-loop-byte : goal.invariant-loop-byte
-invariant-loop-byte l = l.state ≡ fold step l.fn.self.state (take l.byte-index l.bytes)

@@ -1,0 +1,74 @@
+-- The nets of a file, in its order: each gives a row for each of its wires, or is refused.
+use Rattle.std.specs.Prelude.{◌≡◌, ℕ, ◌==◌, Bool, not, if◌then◌else◌, List, [], ◌∷◌, ◌++◌, filter, map, slice_index_or, None, Result, Ok, Err}
+use Rattle.std.specs.List.{flat_map, enumerate_from}
+use Rattle.name_table.specs.declared.spef_names.NodeName.{NodeName}
+use Rattle.sdf_writer.specs.SdfText.{WireRow, SdfRows}
+use Rattle.spef_nets.specs.NetElements.{NetElements}
+use Rattle.spef_nets.specs.declared.parts.Listed.{Listed}
+use Rattle.rc_tree.specs.Nodes.{node_of}
+use Rattle.rc_tree.specs.Pins.{Pins, row_of}
+use Rattle.rc_tree.specs.RcTree.{IsTree}
+use Rattle.rc_tree.specs.SectionNets.{net_elements, on_net}
+use Rattle.rc_tree.specs.Builds.{IsFit, IsTreeEnd}
+use Rattle.rc_tree.specs.declared.ends.TreeEnd.TheVariants as tree
+use Rattle.gdc.specs.AnnotationRows.{Wire, AreAnnotationRows}
+use Rattle.gdc.specs.declared.spef_phases.DesignNets.{DesignNets}
+use Rattle.gdc.specs.declared.refusal.LimitKind.TheVariants.{Net}
+use Rattle.gdc.specs.declared.refusal.Refusal.{Refusal}
+use Rattle.gdc.specs.declared.refusal.Refusal.TheVariants.{Unreached, Mesh, Limit, NoDriver, ManyDrivers}
+
+-- an output of an instance drives its net, and so does an input of the design
+abbrev pub drives : Listed → Bool
+drives conn = if conn.port then conn.direction == 73 else conn.direction == 79
+
+abbrev pub no_name : NodeName
+no_name = record { head = []; tail = None; sdf = [] }
+
+-- the name of a connection's node
+abbrev pub name_at : NetElements → Listed → NodeName
+name_at net conn = slice_index_or net.nodes conn.node no_name
+
+-- the connections that do not drive, with their places
+abbrev pub sinks_of : NetElements → List (ℕ × Listed)
+sinks_of net = filter (λ at. not (drives at.1)) (enumerate_from 0 net.conns)
+
+-- the pins of a net with this driver: all other connections are sinks, with their loads
+abbrev pub pins_of : NetElements → Listed → Pins
+pins_of net driver = record {
+  driver = name_at net driver;
+  sinks = map (λ at. name_at net at.1) (sinks_of net);
+  loads = flat_map (λ at. row_of 1 net.loads at.0) (sinks_of net);
+}
+
+-- the wires of a net with these pins, one for each sink, at one corner
+abbrev pub wires_of : NetElements → Pins → List Wire
+wires_of net pins = map (λ sink. record { driver = pins.driver; sink = sink; at = on_net net pins (node_of sink); corners = net_elements 1 net pins 0 ∷ [] }) pins.sinks
+
+-- one connection alone drives the net
+abbrev pub HasDriver : NetElements → Listed → Type 0
+HasDriver net driver = filter drives net.conns ≡ driver ∷ []
+
+-- A net with these pins has no tree: it is too large, or a node of it is not reached, or its resistors close a loop.
+pub data IsNoTree (net : NetElements) (pins : Pins) : Refusal → Type 0 where
+  too_large : IsTreeEnd 1 net pins tree.TooLarge → IsNoTree net pins (Limit (Net net.net))
+  unreached : (node : NodeName) → IsTreeEnd 1 net pins (tree.Unreached node) → IsNoTree net pins (Unreached net.net node)
+  mesh : (resistor : ℕ) → IsTreeEnd 1 net pins (tree.Mesh resistor) → IsNoTree net pins (Mesh net.net resistor)
+
+-- A net gives the rows of its wires, or is refused: no connection drives it, or several do, or it has no tree.
+pub data NetGives (net : NetElements) : Result (List WireRow) Refusal → Type 0 where
+  no_driver : filter drives net.conns ≡ [] → NetGives net (Err (NoDriver net.net))
+  many_drivers : (one other : Listed) (others : List Listed) → filter drives net.conns ≡ one ∷ other ∷ others → NetGives net (Err (ManyDrivers net.net))
+  no_tree : (driver : Listed) (refusal : Refusal) → HasDriver net driver → IsNoTree net (pins_of net driver) refusal → NetGives net (Err refusal)
+  is_tree : (driver : Listed) (rows : List WireRow) → HasDriver net driver → IsFit net (pins_of net driver) → IsTree (net_elements 1 net (pins_of net driver) 0)
+      → AreAnnotationRows (wires_of net (pins_of net driver)) rows → NetGives net (Ok rows)
+
+-- the nets, up to the first that is refused
+pub data NetsGive : List NetElements → Result (List WireRow) Refusal → Type 0 where
+  no_net : NetsGive [] (Ok [])
+  and_net : {nets : List NetElements} {rows more : List WireRow} {net : NetElements} → NetsGive nets (Ok rows) → NetGives net (Ok more) → NetsGive (nets ++ net ∷ []) (Ok (rows ++ more))
+  refused : {nets : List NetElements} {rows : List WireRow} {net : NetElements} {refusal : Refusal} (later : List NetElements) → NetsGive nets (Ok rows) → NetGives net (Err refusal) → NetsGive (nets ++ net ∷ later) (Err refusal)
+
+-- the rows of a design's nets
+abbrev pub RowsOf : DesignNets → Result SdfRows Refusal → Type 0
+RowsOf design (Ok rows) = (rows.design ≡ design.design) × NetsGive design.nets (Ok rows.wires)
+RowsOf design (Err refusal) = NetsGive design.nets (Err refusal)
