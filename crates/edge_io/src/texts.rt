@@ -34,6 +34,13 @@ impl Text {
         Ok(Text { bytes })
     }
 
+    /// These bytes, without a copy.
+    pub fn from_vec(bytes: Vec<u8>) -> Text
+        ensures { result ≡ bytes.items }
+    {
+        Text { bytes }
+    }
+
     /// Puts the bytes at the end.
     pub fn push_all(&mut self, bytes: &[u8]) -> Result<(), OutOfMemory>
         ensures ok { OnOk result (self.new ≡ self.old ++ bytes.now) }

@@ -2,4 +2,5 @@ pub mod Cutting
 pub mod Keys
 pub mod Reading
 pub mod Spelling
+pub mod Staying
 pub mod Writing

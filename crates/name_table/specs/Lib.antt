@@ -2,4 +2,5 @@ pub mod Characters
 pub mod Names
 pub mod SdfNames
 pub mod SpefNames
+pub mod Staying
 pub mod WellSpelled

@@ -8,7 +8,7 @@ use edge_io::{OutOfMemory, Text};
 use std::alloc::Global;
 
 // A letter, a digit or `_`.
-fn is_plain(byte: u8) -> bool
+pub(crate) fn is_plain(byte: u8) -> bool
     ensures { result ≡ is_plain byte }
 {
     byte.is_ascii_alphanumeric() || byte == b'_'

@@ -1,10 +1,12 @@
 //! Names of SPEF (IEEE 1481-1999).
 ghost use Rattle.std.specs.Prelude.{◌≡◌, ◌+◌, ◌<◌, ◌++◌, ◌∷◌, Bool, ℕ, List, Option, Some, None, take, drop, length, IfOk, IfSome, IfNone, OnOk, OnErr};
+ghost use Rattle.std.specs.List.{list_all};
 ghost use Rattle.name_table.specs.Characters.{bare, characters};
 ghost use Rattle.name_table.specs.SdfNames.{slash, canonical};
 ghost use Rattle.name_table.specs.SpefNames.{sdf_of, meaning, text_of, spelling_of, cut_last, halves_at, whole_node, cut_node, node_name, joined};
+ghost use Rattle.name_table.specs.Staying.{stays, stays_as};
 
-use crate::sdf_names::{push, push_spelled};
+use crate::sdf_names::{is_plain, push, push_spelled};
 use edge_io::{OutOfMemory, Text};
 use std::alloc::Global;
 
@@ -51,10 +53,21 @@ pub fn read_spef_node(
 fn whole_node(alloc: Global, word: &[u8], marks: &SpefMarks) -> Result<NodeName, OutOfMemory>
     ensures { IfOk result (λ node. node ≡ whole_node marks.now (characters word.now)) }
 {
+    if all_stay(marks, word) {
+        stayed_whole(alloc, word)
+    } else {
+        spelled_whole(alloc, word, marks)
+    }
+}
+
+// The same, byte by byte.
+fn spelled_whole(alloc: Global, word: &[u8], marks: &SpefMarks) -> Result<NodeName, OutOfMemory>
+    ensures { IfOk result (λ node. node ≡ whole_node marks.now (characters word.now)) }
+{
     let head = text_of(alloc, word, marks)?;
     let mut sdf = Vec::with_capacity(alloc, word.len())?;
     push_spelling(&mut sdf, word, marks)?;
-    let sdf = Text::from_bytes(alloc, sdf.as_slice())?;
+    let sdf = Text::from_vec(sdf);
     Ok(NodeName {
         head,
         tail: None,
@@ -71,18 +84,89 @@ fn cut_node(
 ) -> Result<NodeName, OutOfMemory>
     ensures { IfOk result (λ node. node ≡ cut_node marks.now (characters front.now) (characters back.now)) }
 {
+    if all_stay(marks, front) && all_stay(marks, back) {
+        stayed_halves(alloc, front, back)
+    } else {
+        spelled_halves(alloc, front, back, marks)
+    }
+}
+
+// The same, byte by byte.
+fn spelled_halves(
+    alloc: Global,
+    front: &[u8],
+    back: &[u8],
+    marks: &SpefMarks,
+) -> Result<NodeName, OutOfMemory>
+    ensures { IfOk result (λ node. node ≡ cut_node marks.now (characters front.now) (characters back.now)) }
+{
     let head = text_of(alloc, front, marks)?;
     let tail = text_of(alloc, back, marks)?;
     let mut sdf = Vec::with_capacity(alloc, front.len())?;
     push_spelling(&mut sdf, front, marks)?;
     push(&mut sdf, b'/')?;
     push_spelling(&mut sdf, back, marks)?;
-    let sdf = Text::from_bytes(alloc, sdf.as_slice())?;
+    let sdf = Text::from_vec(sdf);
     Ok(NodeName {
         head,
         tail: Some(tail),
         sdf,
     })
+}
+
+// A name that stands as it is, in the text and in SDF. Most names do, and are copied faster whole than byte by byte.
+fn stayed_whole(alloc: Global, word: &[u8]) -> Result<NodeName, OutOfMemory>
+    ensures { IfOk result (λ node. node ≡ record { head = word.now; tail = None; sdf = word.now }) }
+{
+    let head = Text::from_bytes(alloc, word)?;
+    let sdf = Text::from_bytes(alloc, word)?;
+    Ok(NodeName {
+        head,
+        tail: None,
+        sdf,
+    })
+}
+
+// The same of a name that is cut into these two.
+fn stayed_halves(alloc: Global, front: &[u8], back: &[u8]) -> Result<NodeName, OutOfMemory>
+    ensures { IfOk result (λ node. node ≡ record { head = front.now; tail = Some back.now; sdf = front.now ++ slash ∷ back.now }) }
+{
+    let head = Text::from_bytes(alloc, front)?;
+    let tail = Text::from_bytes(alloc, back)?;
+    let room = front.len().saturating_add(back.len()).saturating_add(1);
+    let mut sdf = Vec::with_capacity(alloc, room)?;
+    sdf.extend_from_slice(front)?;
+    push(&mut sdf, b'/')?;
+    sdf.extend_from_slice(back)?;
+    Ok(NodeName {
+        head,
+        tail: Some(tail),
+        sdf: Text::from_vec(sdf),
+    })
+}
+
+// Whether each byte of a word stands as it is.
+fn all_stay(marks: &SpefMarks, word: &[u8]) -> bool
+    ensures { result ≡ list_all (stays marks.now) word.now }
+{
+    word.iter().all(|byte| stays(marks, *byte))
+}
+
+// Whether a byte stands as it is, in the text and in SDF.
+fn stays(marks: &SpefMarks, byte: u8) -> bool
+    ensures { result ≡ stays marks.now byte }
+{
+    byte != b'\\' && stays_as(meaning(marks, byte), byte)
+}
+
+// The same of a byte that is no backslash, and may be a mark.
+fn stays_as(mark: Option<u8>, byte: u8) -> bool
+    ensures { result ≡ stays_as mark byte }
+{
+    match mark {
+        None => is_plain(byte),
+        Some(mark) => mark == byte,
+    }
 }
 
 // The place of the last unescaped delimiter, where the name is to be cut and has one.
@@ -134,7 +218,7 @@ fn text_of(alloc: Global, word: &[u8], marks: &SpefMarks) -> Result<Text, OutOfM
             push(&mut text, meaning(marks, byte).unwrap_or(byte))?;
         }
     }
-    Text::from_bytes(alloc, text.as_slice())
+    Ok(Text::from_vec(text))
 }
 
 // Puts the spelling of a name in SDF at the end.
