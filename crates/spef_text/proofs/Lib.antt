@@ -1,3 +1,4 @@
+pub mod Beginnings
 pub mod Breaking
 pub mod Cutting
 pub mod Keywords

@@ -1,6 +1,7 @@
 -- The places in a literal, as the reader keeps them, and what follows each of them by the kind of byte.
-use Rattle.std.specs.Prelude.{Option, Some, None}
-use Rattle.delay_units.specs.Parts.{Place, at_start, past_sign, in_whole, past_point, in_fraction, past_mark, past_exponent_sign, in_exponent}
+use Rattle.std.specs.Prelude.{ℕ, Bool, false, ◌||◌, ◌==◌, List, [], ◌∷◌, Option, Some, None}
+use Rattle.std.specs.Char.{is_ascii_digit}
+use Rattle.delay_units.specs.Parts.{Place, at_start, past_sign, in_whole, past_point, in_fraction, past_mark, past_exponent_sign, in_exponent, is_sign}
 use Rattle.spef_text.specs.declared.places.Place.{Place as Kept}
 use Rattle.spef_text.specs.declared.places.Place.TheVariants.{Start, Sign, Whole, Point, Fraction, Mark, ExponentSign, Exponent}
 
@@ -39,3 +40,8 @@ abbrev pub place_after_mark : Place → Option Place
 place_after_mark in_whole = Some past_mark
 place_after_mark in_fraction = Some past_mark
 place_after_mark _ = None
+
+-- a text that begins with a digit, a point or a sign
+abbrev pub begins_as_literal : List ℕ → Bool
+begins_as_literal [] = false
+begins_as_literal (first ∷ rest) = is_ascii_digit first || (first == 46 || is_sign first)

@@ -7,7 +7,7 @@ ghost use Rattle.spef_text.specs.Tokens.{is_broken, is_nothing};
 ghost use Rattle.spef_text.specs.Classes.{is_other, is_loose, marks, is_mark, is_two_marks, is_colon, is_literal, are_two_literals, is_value_parted, is_value, is_id, is_index, is_tail, is_indexed, is_name, is_map_name, is_ref, is_direction, index_digits, same_index, holds_of, is_top, is_tight, word_of};
 
 use crate::broken::is_broken;
-use crate::places::is_literal;
+use crate::places::{begins_as_literal, is_literal};
 use crate::words::word_of;
 
 /// A token that is no keyword of the head, as what stands behind `*DATE`.
@@ -97,9 +97,17 @@ fn are_two_literals(text: &[u8]) -> bool
     }
 }
 
-/// A literal, or three with colons between them.
-#[tactic(auto, unfolding(crate::specs::Classes::is_value))]
+/// A literal, or three with colons between them. Most names are none by their first byte.
+#[tactic(auto, using(crate::proofs::Beginnings::no_value))]
 pub fn is_value(text: &[u8]) -> bool
+    ensures { result ≡ is_value text.now }
+{
+    begins_as_literal(text) && is_any_value(text)
+}
+
+/// The same, whatever stands first.
+#[tactic(auto, unfolding(crate::specs::Classes::is_value))]
+fn is_any_value(text: &[u8]) -> bool
     ensures { result ≡ is_value text.now }
 {
     match colon_place(text) {

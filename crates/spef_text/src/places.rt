@@ -2,7 +2,7 @@
 ghost use Rattle.std.specs.Prelude.{◌≡◌, option_map};
 ghost use Rattle.delay_units.specs.Parts.{is_sign, is_mark, may_end, place_after};
 ghost use Rattle.spef_text.specs.Classes.{is_literal};
-ghost use Rattle.spef_text.specs.LiteralPlaces.{place_of, place_after_digit, place_after_point, place_after_sign, place_after_mark};
+ghost use Rattle.spef_text.specs.LiteralPlaces.{begins_as_literal, place_of, place_after_digit, place_after_point, place_after_sign, place_after_mark};
 
 /// A place in a literal, by what stands before it.
 #[derive(Clone, Copy, PartialEq, Eq, Debug)]
@@ -105,6 +105,17 @@ impl Place {
         ensures { result ≡ may_end (place_of self) }
     {
         matches!(self, Place::Whole | Place::Fraction | Place::Exponent)
+    }
+}
+
+/// Whether a text begins as a literal may, with a digit, a point or a sign.
+#[inline]
+pub fn begins_as_literal(text: &[u8]) -> bool
+    ensures { result ≡ begins_as_literal text.now }
+{
+    match text {
+        [] => false,
+        [first, ..] => first.is_ascii_digit() || (*first == b'.' || is_sign(*first)),
     }
 }
 

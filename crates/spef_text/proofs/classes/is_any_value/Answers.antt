@@ -1,7 +1,7 @@
 -- Behind the first literal of three.
 use Rattle.std.proofs.Common.{sym, ◌∙◌}
 use Rattle.spef_text.proofs.Parting.{behind_colon, value_parted}
-use Rattle.spef_text.proofs.classes.is_value.Goals as goal
+use Rattle.spef_text.proofs.classes.is_any_value.Goals as goal
 
 pub returns-then-is_literal : goal.returns-then-is_literal
 returns-then-is_literal c =
