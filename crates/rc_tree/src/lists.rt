@@ -9,13 +9,12 @@ pub fn zeros(alloc: Global, many: usize) -> Result<Vec<usize>, OutOfMemory>
     ensures { IfOk result (λ values. values.items ≡ replicate many 0) }
 {
     let mut values = Vec::with_capacity(alloc, many)?;
-    for _ in 0..many {
-        push(&mut values, 0)?;
-    }
+    values.resize(many, 0)?;
     Ok(values)
 }
 
 /// Puts a number at the end.
+#[inline]
 pub fn push(values: &mut Vec<usize>, value: usize) -> Result<(), OutOfMemory>
     ensures { OnOk result (values.new.items ≡ values.old.items ++ value ∷ []) }
 {

@@ -1,5 +1,5 @@
 //! The elements of a section that have been read.
-ghost use Rattle.std.specs.Prelude.{◌≡◌, ◌<◌, [], length, OnOk};
+ghost use Rattle.std.specs.Prelude.{◌≡◌, ◌<◌, [], length, IfOk, OnOk};
 ghost use Rattle.spef_nets.specs.NetElements.{AreWhole};
 ghost use Rattle.spef_nets.specs.Refs.{ArePlaced};
 ghost use Rattle.spef_nets.specs.RefsOf.{refs_of};
@@ -65,20 +65,26 @@ fn push_ohms<C: CornerSet>(
 }
 
 impl<'t> Draft<'t> {
-    /// No element. It takes no memory.
-    pub fn new(alloc: Global, net: Text) -> Draft<'t>
-        ensures { drafted result ≡ no_draft net }
+    /// No element, with room for so many connections, capacitances and resistors.
+    pub fn with_room<C: CornerSet>(
+        alloc: Global,
+        net: Text,
+        conns: usize,
+        caps: usize,
+        ress: usize,
+    ) -> Result<Draft<'t>, OutOfMemory>
+        ensures { IfOk result (λ draft. drafted draft ≡ no_draft net) }
     {
-        Draft {
+        Ok(Draft {
             net,
             refs: Referred::new(alloc),
-            conns: Vec::new(alloc),
-            loads: Vec::new(alloc),
-            caps: Vec::new(alloc),
-            farads: Vec::new(alloc),
-            joints: Vec::new(alloc),
-            ohms: Vec::new(alloc),
-        }
+            conns: Vec::with_capacity(alloc, conns)?,
+            loads: Vec::with_capacity(alloc, conns.saturating_mul(C::COUNT))?,
+            caps: Vec::with_capacity(alloc, caps)?,
+            farads: Vec::with_capacity(alloc, caps.saturating_mul(C::COUNT))?,
+            joints: Vec::with_capacity(alloc, ress)?,
+            ohms: Vec::with_capacity(alloc, ress.saturating_mul(C::COUNT))?,
+        })
     }
 
     /// Puts a connection at the end, whose node has this spelling and no number yet.

@@ -77,7 +77,7 @@ impl<'r, 'f> Source<'r, 'f> {
         ensures count { IfOk result (λ joints. length joints.items ≡ length (section_at self.now.file.now.reading.sections s).ress) }
         ensures nodes { OnOk result ((refs_of refs.new).nodes ≡ (refs_of refs.old).nodes) }
     {
-        let mut joints = Vec::new(self.alloc);
+        let mut joints = Vec::with_capacity(self.alloc, self.file.res_count(s))?;
         for i in 0..self.file.res_count(s) {
             let res = self.file.res(s, i);
             let first = self.joined_at(refs, net, res.first)?;
@@ -319,11 +319,14 @@ impl<'r, 'f> Source<'r, 'f> {
         ensures faultless { OnOk result (IsFaultless self.now.file.now self.now.head.now s (section_at self.now.file.now.reading.sections s)) }
         ensures err { IfErr result (IsStop self.now.file.now self.now.head.now s) }
     {
-        let mut draft = Draft::new(self.alloc, net);
+        let conns = self.file.conn_count(s);
+        let caps = self.file.cap_count(s);
+        let ress = self.file.res_count(s);
+        let mut draft = Draft::with_room::<C>(self.alloc, net, conns, caps, ress)?;
         let joints = self.begin::<C>(s, &mut draft)?;
         self.read_conns::<C>(s, &mut draft)?;
         self.read_caps::<C>(s, &mut draft)?;
         self.read_ress::<C>(s, &mut draft, &joints)?;
-        Ok(draft.into_section(self.file.cap_count(s)))
+        Ok(draft.into_section(caps))
     }
 }

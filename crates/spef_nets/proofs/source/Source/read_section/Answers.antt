@@ -21,7 +21,7 @@ into_section-requires g c = whole_draft (corners_of g.C.CornerSet.COUNT g.C.Corn
 pub returns-clause-ok : goal.returns-clause-ok
 returns-clause-ok g c =
     subst (λ (n : NetElements). IsNet (corners_of g.C.CornerSet.COUNT g.C.CornerSet.number_of g.C.CornerSet.member_of c.args.self.now.pick) c.args.self.now.file.now c.args.self.now.head.now (section_at c.args.self.now.file.now.reading.sections c.args.s) n) (sym c.into_section.ensures)
-    (is_net (corners_of g.C.CornerSet.COUNT g.C.CornerSet.number_of g.C.CornerSet.member_of c.args.self.now.pick) c.args.self.now.file.now c.args.self.now.head.now c.args.s (drafted c.read_ress.new.draft) c.in_ok-read_ress.ensures.upto c.cap_count.result c.cap_count.ensures)
+    (is_net (corners_of g.C.CornerSet.COUNT g.C.CornerSet.number_of g.C.CornerSet.member_of c.args.self.now.pick) c.args.self.now.file.now c.args.self.now.head.now c.args.s (drafted c.read_ress.new.draft) c.in_ok-read_ress.ensures.upto c.cap_count-caps.result c.cap_count-caps.ensures)
 
 pub returns-clause-faultless : goal.returns-clause-faultless
 returns-clause-faultless g c = is_faultless (corners_of g.C.CornerSet.COUNT g.C.CornerSet.number_of g.C.CornerSet.member_of c.args.self.now.pick) c.args.self.now.file.now c.args.self.now.head.now c.args.s (drafted c.read_ress.new.draft) c.in_ok-read_ress.ensures.upto
