@@ -1,0 +1,16 @@
+pub mod Tokens
+pub mod Cuts
+pub mod Keywords
+pub mod Timescales
+pub mod Rows
+pub mod Sizes
+pub mod Numbers
+pub mod Grammar
+pub mod Causes
+pub mod Answers
+pub mod Lines
+pub mod Summaries
+pub mod ScalePlaces
+pub mod Steps
+pub mod Modes
+pub mod ReaderStates

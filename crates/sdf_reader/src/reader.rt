@@ -1,0 +1,303 @@
+//! The reader: takes one token after another, whole or not at all.
+ghost use Rattle.std.specs.Prelude.{◌≡◌, ℕ, ◌+◌, ◌<◌, ◌≤◌, ◌^◌, List, length, Option, IfOk, OnOk};
+ghost use Rattle.sdf_reader.specs.Rows.{within, row_in};
+ghost use Rattle.sdf_reader.specs.Numbers.{IsValue};
+ghost use Rattle.sdf_reader.specs.Sizes.{IsValueWithin};
+ghost use Rattle.sdf_reader.specs.Grammar.{instance_of};
+ghost use Rattle.sdf_reader.specs.Steps.{does};
+ghost use Rattle.sdf_reader.specs.Modes.{first_state, in_instance, begun, with_entry, with_value, with_rows, shallower, numbered_by, applied, finish, Decides};
+ghost use Rattle.sdf_reader.specs.ReaderStates.{state_of, Steps, Finishes, OnTaken};
+ghost use Rattle.sdf_reader.specs.declared.rows.Value.{Value};
+ghost use Rattle.sdf_reader.specs.declared.timescales.Timescale.{Timescale};
+
+use crate::ends::SdfCause;
+use crate::modes::{Mode, Shape, Site, Step};
+use crate::numbers::value_of;
+use crate::rows::{SdfRow, SdfRows, Value};
+use crate::scan::Kind;
+use crate::texts::meaning;
+use crate::timescales::Timescale;
+use edge_io::{OutOfMemory, Text};
+use name_table::canonical_sdf;
+use std::alloc::Global;
+use std::mem;
+
+/// A value without a number.
+const NO_VALUE: Value = Value {
+    min: None,
+    typ: None,
+    max: None,
+};
+
+/// How many values of an entry were read.
+#[derive(Clone, Copy, PartialEq, Eq, Debug)]
+pub enum Taken {
+    None,
+    One,
+    More,
+}
+
+/// What is waited for, and what has been read. It borrows nothing of the file.
+#[derive(Drop)]
+pub struct Reader {
+    pub mode: Mode,
+
+    /// How many forms are open in the one that is passed over.
+    pub depth: usize,
+    pub divider: u8,
+    pub scale: Timescale,
+
+    /// The type of the cell, and its instance: `None` where that is the word `*`, which names many.
+    pub cell: Text,
+    pub instance: Option<Text>,
+
+    /// The names of the entry, and its values.
+    pub from: Text,
+    pub to: Text,
+    pub taken: Taken,
+    pub rise: Value,
+    pub fall: Value,
+    pub rows: SdfRows,
+    pub alloc: Global,
+}
+
+impl Reader {
+    /// Before the first token.
+    pub(crate) fn new(alloc: Global) -> Reader
+        ensures { state_of result ≡ first_state }
+    {
+        Reader {
+            mode: Mode::Start,
+            depth: 0,
+            divider: b'.',
+            scale: Timescale::PLAIN,
+            cell: Text::new(alloc),
+            instance: None,
+            from: Text::new(alloc),
+            to: Text::new(alloc),
+            taken: Taken::None,
+            rise: NO_VALUE,
+            fall: NO_VALUE,
+            rows: SdfRows::new(alloc),
+            alloc,
+        }
+    }
+
+    /// Keeps the instance of the cell.
+    fn name_instance(&mut self, word: &[u8]) -> Result<(), OutOfMemory>
+        ensures state { OnOk result (state_of self.new ≡ in_instance Mode.InstanceEnd (instance_of self.old.divider word.now) (state_of self.old)) }
+    {
+        self.instance = if word == b"*".as_slice() {
+            None
+        } else {
+            let name = canonical_sdf(self.alloc, word, self.divider)?;
+            Some(name)
+        };
+        self.mode = Mode::InstanceEnd;
+        Ok(())
+    }
+
+    /// Begins an entry.
+    fn begin(&mut self, shape: Shape)
+        ensures { state_of self.new ≡ with_entry (Mode.From shape) (begun (state_of self.old).entry) (state_of self.old) }
+    {
+        self.taken = Taken::None;
+        self.rise = NO_VALUE;
+        self.fall = NO_VALUE;
+        self.mode = Mode::From(shape);
+    }
+
+    /// Keeps a value of the entry: the first is its rise, and its fall, unless there is a second. Others are not acted on.
+    fn keep(&mut self, value: Value)
+        ensures { state_of self.new ≡ with_entry self.old.mode (with_value value (state_of self.old).entry) (state_of self.old) }
+    {
+        match self.taken {
+            Taken::None => {
+                self.rise = value;
+                self.fall = value;
+                self.taken = Taken::One;
+            }
+            Taken::One => {
+                self.fall = value;
+                self.taken = Taken::More;
+            }
+            Taken::More => {}
+        }
+    }
+
+    /// The row of the entry, in a cell of this instance.
+    fn row(
+        &self,
+        shape: Shape,
+        instance: &[u8],
+        from: Text,
+        to: Text,
+    ) -> Result<SdfRow, OutOfMemory>
+        ensures { IfOk result (λ row. row ≡ row_in shape self.now.cell instance.now from to self.now.rise self.now.fall) }
+    {
+        match shape {
+            Shape::Path => {
+                let cell = Text::from_bytes(self.alloc, self.cell.bytes())?;
+                let instance = Text::from_bytes(self.alloc, instance)?;
+                Ok(SdfRow::Path {
+                    cell,
+                    instance,
+                    from,
+                    to,
+                    rise: self.rise,
+                    fall: self.fall,
+                })
+            }
+            Shape::Wire => {
+                let from = within(self.alloc, instance, from)?;
+                let to = within(self.alloc, instance, to)?;
+                Ok(SdfRow::Wire {
+                    from,
+                    to,
+                    rise: self.rise,
+                    fall: self.fall,
+                })
+            }
+        }
+    }
+
+    /// Ends the entry.
+    fn end_entry(&mut self, shape: Shape) -> Result<(), OutOfMemory>
+        requires room { length self.old.rows + 1 < 2 ^ 32 }
+        requires rise { IsValueWithin self.old.rise }
+        requires fall { IsValueWithin self.old.fall }
+        ensures state { OnOk result (state_of self.new ≡ with_rows shape (state_of self.old)) }
+    {
+        self.mode = Mode::Entries;
+        let from = mem::replace(&mut self.from, Text::new(self.alloc));
+        let to = mem::replace(&mut self.to, Text::new(self.alloc));
+        match mem::replace(&mut self.instance, None) {
+            None => {}
+            Some(instance) => {
+                let row = self.row(shape, instance.bytes(), from, to)?;
+                self.rows.push(row)?;
+                self.instance = Some(instance);
+            }
+        }
+        Ok(())
+    }
+
+    /// Ends a form inside the one that is passed over, or that one.
+    fn shallower(&mut self, site: Site)
+        ensures { state_of self.new ≡ shallower self.old.depth site (state_of self.old) }
+    {
+        if self.depth > 0 {
+            self.depth -= 1;
+        } else {
+            self.mode = site.mode();
+        }
+    }
+
+    /// Keeps the number of a value, if it is one.
+    fn number(&mut self, shape: Shape, word: &[u8]) -> Option<SdfCause>
+        ensures state { (number : Timescale → List ℕ → Option Value) → Decides IsValue number → Steps (numbered_by shape (number self.old.scale word.now) (state_of self.old)) (state_of self.new) result }
+        ensures depth { self.new.depth ≡ self.old.depth }
+    {
+        match value_of(self.scale, word) {
+            None => Some(SdfCause::BadNumber),
+            Some(value) => {
+                self.keep(value);
+                self.mode = Mode::NumberEnd(shape);
+                None
+            }
+        }
+    }
+
+    /// Does what a step says that a token of these bytes makes, or says why the token is refused.
+    fn step(&mut self, step: Step, bytes: &[u8]) -> Result<Option<SdfCause>, OutOfMemory>
+        requires depth { self.old.depth < 2 ^ 42 }
+        requires room { length self.old.rows + 1 < 2 ^ 32 }
+        requires rise { IsValueWithin self.old.rise }
+        requires fall { IsValueWithin self.old.fall }
+        ensures state { (number : Timescale → List ℕ → Option Value) → Decides IsValue number → IfOk result (Steps (applied number step (state_of self.old) bytes.now) (state_of self.new)) }
+        ensures depth { OnOk result (self.new.depth ≤ self.old.depth + 256) }
+    {
+        match step {
+            Step::Refuse(cause) => return Ok(Some(cause)),
+            Step::Go(mode) => self.mode = mode,
+            Step::Divide(byte) => {
+                self.divider = byte;
+                self.mode = Mode::HeadEnd;
+            }
+            Step::Rescale(scale, mode) => {
+                self.scale = scale;
+                self.mode = mode;
+            }
+            Step::SetType => {
+                self.cell = meaning(self.alloc, bytes)?;
+                self.mode = Mode::TypeEnd;
+            }
+            Step::Instance => self.name_instance(bytes)?,
+            Step::NoInstance => {
+                self.instance = Some(Text::new(self.alloc));
+                self.mode = Mode::Specs;
+            }
+            Step::Begin(shape) => self.begin(shape),
+            Step::From(shape) => {
+                self.from = canonical_sdf(self.alloc, bytes, self.divider)?;
+                self.mode = Mode::To(shape);
+            }
+            Step::To(shape) => {
+                self.to = canonical_sdf(self.alloc, bytes, self.divider)?;
+                self.mode = Mode::FirstValue(shape);
+            }
+            Step::Empty(shape) => {
+                self.keep(NO_VALUE);
+                self.mode = Mode::Values(shape);
+            }
+            Step::Number(shape) => return Ok(self.number(shape, bytes)),
+            Step::Row(shape) => self.end_entry(shape)?,
+            Step::Pass(site, depth) => {
+                self.depth = depth as usize;
+                self.mode = Mode::Over(site);
+            }
+            Step::Deeper => self.depth += 1,
+            Step::Shallower(site) => self.shallower(site),
+        }
+        Ok(None)
+    }
+
+    /// Takes the token of this kind and of these bytes, or says why it cannot stand here.
+    pub(crate) fn take(&mut self, kind: Kind, bytes: &[u8]) -> Result<Option<SdfCause>, OutOfMemory>
+        requires depth { self.old.depth < 2 ^ 42 }
+        requires room { length self.old.rows + 1 < 2 ^ 32 }
+        requires rise { IsValueWithin self.old.rise }
+        requires fall { IsValueWithin self.old.fall }
+        ensures state { (number : Timescale → List ℕ → Option Value) → Decides IsValue number → IfOk result (Steps (applied number (does self.old.mode kind bytes.now) (state_of self.old) bytes.now) (state_of self.new)) }
+        ensures depth { OnOk result (self.new.depth ≤ self.old.depth + 256) }
+        ensures rise { OnTaken result (IsValueWithin self.new.rise) }
+        ensures fall { OnTaken result (IsValueWithin self.new.fall) }
+        ensures rows { OnTaken result (length self.new.rows ≤ length self.old.rows + 1) }
+    {
+        let step = self.mode.next(kind, bytes);
+        self.step(step, bytes)
+    }
+
+    /// What has been read, where the file may end.
+    pub(crate) fn finish(self) -> Option<SdfRows>
+        ensures { Finishes (finish (state_of self)) result }
+    {
+        match self.mode {
+            Mode::End => Some(self.rows),
+            _ => None,
+        }
+    }
+}
+
+/// A name in an instance: the instance, `/` and the name, or the name alone where the instance is empty.
+fn within(alloc: Global, instance: &[u8], name: Text) -> Result<Text, OutOfMemory>
+    ensures { IfOk result (λ text. text ≡ within instance.now name) }
+{
+    if instance.is_empty() {
+        return Ok(name);
+    }
+    let mut text = Text::from_bytes(alloc, instance)?;
+    text.push_all(b"/")?;
+    text.push_all(name.bytes())?;
+    Ok(text)
+}
