@@ -1,5 +1,5 @@
 -- How far a word and a text go, byte by byte.
-use Rattle.std.proofs.Common.{◌≡◌, ℕ, ◌+◌, ◌-◌, ◌<◌, ◌≤◌, Bool, true, false, cond, not, ◌&&◌, ◌==◌, List, [], ◌∷◌, length, drop, get_or, Option, Some, None, option_map, refl, ap, ap₂, ◌∙◌, arith}
+use Rattle.std.proofs.Common.{◌≡◌, ℕ, ◌+◌, ◌-◌, ◌<◌, ◌≤◌, Bool, true, false, cond, not, ◌&&◌, ◌==◌, List, [], ◌∷◌, length, drop, get_or, Option, Some, None, option_map, refl, ap, ap₂, ◌∙◌, subst, arith}
 use Rattle.std.proofs.lemmas.Bool.{eq-eqb, eqb-true}
 use Rattle.std.proofs.lemmas.List.{drop_more, drop_all}
 use Rattle.sdf_reader.specs.Tokens.{is_plain, word_length, text_end}
@@ -45,6 +45,10 @@ word_takes whole place h lt is more =
     let same : word_length (drop (place + 1 + 1) whole) ≡ word_length (drop (place + 2) whole) = ap (λ i. word_length (drop i whole)) e in
     let so_far = h.so_far in
     record { within = omega arith; so_far = omega arith }
+
+-- a backslash is no plain byte
+pub plain_takes_none : (byte : ℕ) → is_plain byte ≡ true → byte ≡ 92 → ⊥
+plain_takes_none byte plain e = absurd (let slash : is_plain 92 ≡ true = subst (λ (b : ℕ). is_plain b ≡ true) e plain in cc)
 
 pub word_goes_on : (whole : List ℕ) (place : ℕ) → WordSoFar whole place → place < length whole → (get_or whole place 0 ≡ 92 → ⊥) → is_plain (get_or whole place 0) ≡ true → WordSoFar whole (place + 1)
 word_goes_on whole place h lt other plain =

@@ -70,13 +70,13 @@ fn word_length(bytes: &[u8]) -> usize
     let mut place = 0;
     while place < bytes.len() {
         let byte = bytes[place];
-        if byte == b'\\' {
+        if is_plain(byte) {
+            place += 1;
+        } else if byte == b'\\' {
             if bytes.len() - place == 1 {
                 break;
             }
             place += 2;
-        } else if is_plain(byte) {
-            place += 1;
         } else {
             break;
         }
