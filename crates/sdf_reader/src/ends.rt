@@ -35,6 +35,11 @@ pub enum SdfEnd {
 }
 
 impl From<OutOfMemory> for SdfEnd {
+    ghost use Rattle.std.specs.Prelude.{◌≡◌};
+    ghost use Rattle.sdf_reader.specs.declared.ends.SdfEnd.TheVariants.{OutOfMemory};
+
+    ghost from_gives = { λ _ end. end ≡ OutOfMemory };
+
     fn from(_end: OutOfMemory) -> SdfEnd {
         SdfEnd::OutOfMemory
     }
