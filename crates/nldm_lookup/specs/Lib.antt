@@ -1,0 +1,6 @@
+pub mod Axes
+pub mod BetweenOf
+pub mod Betweens
+pub mod Interpolant
+pub mod Rows
+pub mod Tables

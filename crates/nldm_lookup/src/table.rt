@@ -1,0 +1,205 @@
+//! A table over the slew of an input and the load of an output.
+ghost use Rattle.std.specs.Prelude.{◌≡◌, ℤ, pos, ◌+ℤ◌, ◌*ℤ◌, ◌+◌, ◌*◌, ◌^◌, ◌<◌, ◌≤◌, ◌≤ℤ◌, suc, length, All, unsigned_abs, IfOk, OnOk, IfErr};
+ghost use Rattle.nldm_lookup.specs.Axes.{most};
+ghost use Rattle.nldm_lookup.specs.Betweens.{IsPast, width};
+ghost use Rattle.nldm_lookup.specs.BetweenOf.{between_of};
+ghost use Rattle.nldm_lookup.specs.Tables.{IsSmall, IsTableFault, place_in, value_at};
+ghost use Rattle.delay_units.specs.Rounding.{IsRounding};
+ghost use Rattle.nldm_lookup.specs.Interpolant.{IsInterpolant, IsOutside, attos_in, weighed};
+ghost use Rattle.nldm_lookup.specs.Rows.{IsOn, row_at};
+
+use crate::axis::Axis;
+use crate::between::Between;
+use crate::faults::{Outside, TableFault, Which};
+use crate::grain::Grain;
+use delay_units::{Atto, Farads, half_up};
+use edge_io::Steps;
+use std::alloc::Global;
+use std::marker::Model;
+use std::sync::ledger::Ledger;
+
+/// Which variable is the first of a table's template, whose index changes slowest in the list of values.
+#[derive(Clone, Copy, PartialEq, Eq, Debug)]
+pub enum Order {
+    SlewFirst,
+    LoadFirst,
+}
+
+/// A value for each point of the slew and each of the load. Contracts see the axes, the order and the list of values.
+#[derive(Drop)]
+pub struct Table {
+    slew: Axis,
+    load: Axis,
+    order: Order,
+    values: Vec<i64>,
+}
+
+impl Model for Table {
+    ghost use Rattle.nldm_lookup.specs.Tables.{TimingTable, IsTable};
+
+    ghost Value = { TimingTable };
+
+    ghost view = { λ t. record { slew = t.slew; load = t.load; order = t.order; values = t.values.items } };
+
+    ghost invariant = { λ t. IsTable (record { slew = t.slew; load = t.load; order = t.order; values = t.values.items }) };
+}
+
+// A value, or a sum of values by their weights, by one more weight.
+fn by_weight(value: i128, weight: u64) -> i128
+    requires value { unsigned_abs value ≤ most * most }
+    requires weight { weight ≤ most }
+    ensures { result ≡ value *ℤ pos weight }
+{
+    value * weight as i128
+}
+
+// The whole weight, in parts of a grain.
+fn divisor(slew: Between, load: Between, grain: Grain) -> u128
+    requires some_slew { 1 ≤ width (between_of slew) }
+    requires slew { width (between_of slew) ≤ most }
+    requires some_load { 1 ≤ width (between_of load) }
+    requires load { width (between_of load) ≤ most }
+    ensures value { result ≡ width (between_of slew) * width (between_of load) * attos_in grain }
+    ensures some { 1 ≤ result }
+    ensures small { result ≤ 10 ^ 27 }
+{
+    slew.width() * load.width() * grain.attos()
+}
+
+// A quotient of weighed values, rounded once.
+fn quotient(sum: i128, divisor: u128) -> i64
+    requires some { 1 ≤ divisor }
+    requires small { divisor ≤ 10 ^ 27 }
+    requires sum { unsigned_abs sum ≤ most * divisor }
+    requires room { unsigned_abs sum ≤ 10 ^ 36 }
+    ensures { IsRounding sum (pos divisor) result }
+{
+    half_up(sum, divisor as i128) as i64
+}
+
+impl Table {
+    /// The table of some values in attoseconds, each at most 10^12 in size, in the order of the file (Liberty, `values`).
+    pub fn new(
+        alloc: Global,
+        slew: Axis,
+        load: Axis,
+        order: Order,
+        values: &[i64],
+    ) -> Result<Table, TableFault>
+        requires { All IsSmall values.now }
+        ensures ok { IfOk result (λ table. table ≡ record { slew = slew; load = load; order = order; values = values.now }) }
+        // A wrong count is refused; so a right one is not, unless memory ran out.
+        ensures count { OnOk result (length values.now ≡ length slew * length load) }
+        ensures refused { IfErr result (IsTableFault slew load values.now) }
+    {
+        let want = slew.len() * load.len();
+        if values.len() != want {
+            return Err(TableFault::ValueCount {
+                want,
+                got: values.len(),
+            });
+        }
+        match Vec::from_slice(alloc, values) {
+            Ok(values) => Ok(Table {
+                slew,
+                load,
+                order,
+                values,
+            }),
+            Err(_) => Err(TableFault::OutOfMemory),
+        }
+    }
+
+    // The place of the value at a point of the slew and one of the load.
+    fn place_of(&self, slew: usize, load: usize) -> usize
+        requires slew { slew < length self.now.slew }
+        requires load { load < length self.now.load }
+        ensures place { result ≡ place_in self.now.order self.now slew load }
+        ensures within { result < length self.now.values }
+    {
+        match self.order {
+            Order::SlewFirst => slew * self.load.len() + load,
+            Order::LoadFirst => load * self.slew.len() + slew,
+        }
+    }
+
+    // The value there. It is one step.
+    fn value<L: Ledger>(&self, slew: usize, load: usize, steps: &mut Steps<L>) -> i128
+        requires slew { slew < length self.now.slew }
+        requires load { load < length self.now.load }
+        ensures value { result ≡ value_at self.now slew load }
+        ensures small { unsigned_abs result ≤ most }
+        ensures step { steps.new ≡ steps.old + 1 }
+    {
+        steps.tick();
+        self.values[self.place_of(slew, load)] as i128
+    }
+
+    // The values at a point of the slew, by the weights of the load's neighbours. It takes one step, or two.
+    fn row<L: Ledger>(&self, slew: usize, load: Between, steps: &mut Steps<L>) -> i128
+        requires slew { slew < length self.now.slew }
+        requires load { IsOn self.now.load (between_of load) }
+        ensures value { result ≡ row_at self.now slew (between_of load) }
+        ensures small { unsigned_abs result ≤ most * width (between_of load) }
+        ensures forward { steps.old + 1 ≤ steps.new }
+        ensures steps { steps.new ≤ steps.old + 2 }
+    {
+        let low = by_weight(self.value(slew, load.place, steps), load.low);
+        if load.high == 0 {
+            return low;
+        }
+        low + by_weight(self.value(slew, load.place + 1, steps), load.high)
+    }
+
+    // The values around, by their weights. It takes one step to four.
+    fn weighed<L: Ledger>(&self, slew: Between, load: Between, steps: &mut Steps<L>) -> i128
+        requires slew { IsOn self.now.slew (between_of slew) }
+        requires load { IsOn self.now.load (between_of load) }
+        ensures value { result ≡ weighed self.now (between_of slew) (between_of load) }
+        ensures small { unsigned_abs result ≤ most * width (between_of load) * width (between_of slew) }
+        ensures forward { steps.old + 1 ≤ steps.new }
+        ensures steps { steps.new ≤ steps.old + 4 }
+    {
+        let low = by_weight(self.row(slew.place, load, steps), slew.low);
+        if slew.high == 0 {
+            return low;
+        }
+        low + by_weight(self.row(slew.place + 1, load, steps), slew.high)
+    }
+
+    /// The value at a slew and a load: bilinear between the neighbouring points of the axes, and rounded once, half up, to whole grains.
+    /// An axis of one point is constant in its direction. The slew is from 0 to 10^12 attoseconds.
+    ///
+    /// It takes a step for each point and each value that it reads, at least 1 and at most 32, and no memory.
+    pub fn lookup<L: Ledger>(
+        &self,
+        slew: Atto,
+        load: Farads,
+        grain: Grain,
+        steps: &mut Steps<L>,
+    ) -> Result<i64, Outside>
+        requires not_negative { pos 0 ≤ℤ slew.0 }
+        requires small { slew.0 ≤ℤ pos most }
+        ensures value { IfOk result (IsInterpolant self.now (unsigned_abs slew.0) load.0 grain) }
+        ensures inside { OnOk result ((¬ IsPast self.now.slew (unsigned_abs slew.0)) × (¬ IsPast self.now.load load.0)) }
+        ensures outside { IfErr result (IsOutside self.now (unsigned_abs slew.0) load.0) }
+        ensures some_step { steps.old + 1 ≤ steps.new }
+        ensures steps { steps.new ≤ steps.old + 32 }
+    {
+        let slew = slew.0.unsigned_abs();
+        let Some(on_slew) = self.slew.between(slew, steps) else {
+            return Err(Outside {
+                axis: Which::Slew,
+                value: slew,
+            });
+        };
+        let Some(on_load) = self.load.between(load.0, steps) else {
+            return Err(Outside {
+                axis: Which::Load,
+                value: load.0,
+            });
+        };
+        let sum = self.weighed(on_slew, on_load, steps);
+        Ok(quotient(sum, divisor(on_slew, on_load, grain)))
+    }
+}
