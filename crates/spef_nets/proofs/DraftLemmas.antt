@@ -1,5 +1,5 @@
 -- The elements of a section stay what it says when there is one more.
-use Rattle.std.proofs.Common.{◌≡◌, ℕ, zero, suc, ◌*◌, ◌<◌, Bool, true, false, if◌then◌else◌, List, [], ◌∷◌, ◌++◌, length, map, get_or, refl, sym, ap, ◌∙◌, subst, arith, append-nil}
+use Rattle.std.proofs.Common.{◌≡◌, ℕ, zero, suc, ◌*◌, ◌<◌, ◌≤◌, Bool, true, false, if◌then◌else◌, List, [], ◌∷◌, ◌++◌, length, map, get_or, refl, sym, ap, ◌∙◌, subst, arith, append-nil}
 use Rattle.std.specs.Prelude.{Some, slice_get}
 use Rattle.std.proofs.lemmas.Option.{slice_get_within, slice_get-map, slice_get-get_or}
 use Rattle.std.proofs.lemmas.List.{map-append, length-map}
@@ -9,14 +9,15 @@ use Rattle.name_table.specs.declared.spef_names.NodeName.{NodeName}
 use Rattle.spef_text.specs.SpefFiles.{SpefText}
 use Rattle.spef_text.specs.Heads.{HeadText, text_of}
 use Rattle.spef_nets.specs.Values.{triple_of, picked, IsAmount, AreGrains, grains_at}
-use Rattle.spef_nets.specs.Nodes.{Key, key_of, among}
+use Rattle.spef_nets.specs.Nodes.{Key, key_of, among, AreDistinctNodes}
 use Rattle.spef_nets.specs.Elements.{Connection, Grounded, Joint}
 use Rattle.spef_nets.specs.NetElements.{NetElements, AreWhole}
 use Rattle.spef_nets.specs.Sections.{Corners, HasGrains, Listing, listing, listing_of, key_at, KeyEnds, ends_of, ends_at}
-use Rattle.spef_nets.specs.Drafts.{AreKept}
+use Rattle.spef_nets.specs.Drafts.{AreKept, element_nodes, written_net}
 use Rattle.spef_nets.specs.declared.amounts.Grains.{Grains}
 use Rattle.spef_nets.specs.declared.parts.Listed.{Listed}
 use Rattle.spef_nets.specs.declared.parts.Ends.{Ends}
+use Rattle.spef_nets.proofs.DistinctNodes.{distinct_places}
 use Rattle.spef_nets.proofs.AmountLemmas.{picked_amount}
 use Rattle.spef_nets.proofs.Lists.{get_left}
 use Rattle.spef_nets.proofs.NodeLemmas.{placed}
@@ -102,8 +103,9 @@ module _ {I : Type 0} (corners : Corners I) (file : SpefText) (head : HeadText) 
     still_joined = ap (λ l. map (ends_of l) net.joints) grows.1 ∙ map_grows (ends_of net.nodes) (ends_of (net.nodes ++ grows.0)) ends_at (ends_grow net.nodes grows.0) net.joints joints are.joined
 
   -- what a draft of kept elements is, however many they are
-  pub whole : (conns : List Connection) (caps : List Grounded) (joints : List Joint) (net : NetElements) → AreKept corners file head conns caps joints net → AreWhole corners.count net
-  whole conns caps joints net are = record {
+  pub whole : (conns : List Connection) (caps : List Grounded) (joints : List Joint) (net : NetElements) (written : ℕ) → AreKept corners file head conns caps joints net → length caps ≤ 2 * written
+      → AreWhole corners.count (written_net net written)
+  whole conns caps joints net written are few = record {
     load_rows = are.loads.rows ∙ ap (λ n. n * corners.count) (sym (same_length (listing_of net.nodes) listing net.conns conns are.listed));
     cap_rows = are.farads.rows ∙ ap (λ n. n * corners.count) (sym (same_length (key_at net.nodes) (λ (c : Grounded). Some (key_of c.node)) net.caps caps are.counted));
     res_rows = are.ohms.rows ∙ ap (λ n. n * corners.count) (sym (same_length (ends_of net.nodes) ends_at net.joints joints are.joined));
@@ -119,6 +121,8 @@ module _ {I : Type 0} (corners : Corners I) (file : SpefText) (head : HeadText) 
     small_loads = are.small_loads;
     small_caps = are.small_caps;
     small_ress = are.small_ress;
+    distinct = subst AreDistinctNodes (sym are.nodes) (distinct_places (element_nodes conns caps joints));
+    few_caps = (let many = same_length (key_at net.nodes) (λ (c : Grounded). Some (key_of c.node)) net.caps caps are.counted in omega (arith, many, few));
   }
     where
       within : (nodes : List NodeName) (number : ℕ) (key : Key) → key_at nodes number ≡ Some key → number < length nodes

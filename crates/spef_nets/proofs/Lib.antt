@@ -1,7 +1,9 @@
 pub mod AmountLemmas
 pub mod CapStepping
+pub mod DistinctNodes
 pub mod DraftLemmas
 pub mod FaultOrder
+pub mod FewPlaces
 pub mod Keeping
 pub mod KeyLemmas
 pub mod Lists

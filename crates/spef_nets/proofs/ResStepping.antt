@@ -1,5 +1,5 @@
 -- A resistor is read, and then the section is.
-use Rattle.std.proofs.Common.{◌≡◌, ℕ, ◌+◌, List, [], ◌∷◌, ◌++◌, length, take, refl, sym, ap, ◌∙◌, subst, arith, append_assoc, add-one}
+use Rattle.std.proofs.Common.{◌≡◌, ℕ, ◌+◌, ◌*◌, ◌≤◌, List, [], ◌∷◌, ◌++◌, length, take, refl, sym, ap, ◌∙◌, subst, arith, append_assoc, add-one}
 use Rattle.std.specs.Prelude.{Option, Some, None, slice_get, All}
 use Rattle.std.specs.List.{flat_map}
 use Rattle.std.proofs.lemmas.Grind.{flat_map-append}
@@ -30,6 +30,7 @@ use Rattle.spef_nets.proofs.PointLemmas.{Upto, step, stop, res_split, res_more, 
 use Rattle.spef_nets.proofs.Stepping.{good_reference, value_stop, conns_at}
 use Rattle.spef_nets.proofs.Naming.{net_or_node}
 use Rattle.spef_nets.proofs.DraftLemmas.{nothing_kept, whole}
+use Rattle.spef_nets.proofs.FewPlaces.{few_grounded}
 
 module _ {I : Type 0} (corners : Corners I) (file : SpefText) (head : HeadText) (place i : ℕ) (res : Res) where
   abbrev section : Section
@@ -143,8 +144,10 @@ module _ {I : Type 0} (corners : Corners I) (file : SpefText) (head : HeadText) 
         (subst (λ (l : List Cap). AreKept corners file head (first_of_each (conns_at file (take (length whole_section.conns) whole_section.conns))) (flat_map (grounded file whole_section) l) (resistors file whole_section) draft.net) (take-length whole_section.caps)
         (subst (λ (l : List Res). AreKept corners file head (first_of_each (conns_at file (take (length whole_section.conns) whole_section.conns))) (flat_map (grounded file whole_section) (take (length whole_section.caps) whole_section.caps)) (flat_map (joint_at file) l) draft.net) (take-length whole_section.ress) upto.kept))
 
-    pub whole_draft : AreWhole corners.count draft.net
-    whole_draft = whole corners file head (connections file whole_section) (capacitances file whole_section) (resistors file whole_section) draft.net kept_whole
+    pub whole_draft : (written : ℕ) → written ≡ length whole_section.caps → AreWhole corners.count (written_net draft.net written)
+    whole_draft written is =
+        let few : length (capacitances file whole_section) ≤ 2 * written = (let most = few_grounded file whole_section whole_section.caps in omega (arith, most, is)) in
+        whole corners file head (connections file whole_section) (capacitances file whole_section) (resistors file whole_section) draft.net written kept_whole few
 
     -- what is kept is what the section says
     pub is_net : (written : ℕ) → written ≡ length whole_section.caps → IsNet corners file head whole_section (written_net draft.net written)

@@ -3,6 +3,7 @@ use Rattle.std.specs.Prelude.{◌≡◌, ℕ, ◌*◌, ◌^◌, ◌<◌, ◌≤�
 use Rattle.delay_units.specs.declared.quantities.Farads.{Farads}
 use Rattle.delay_units.specs.declared.quantities.Ohms.{Ohms}
 use Rattle.name_table.specs.declared.spef_names.NodeName.{NodeName}
+use Rattle.spef_nets.specs.Nodes.{AreDistinctNodes}
 use Rattle.spef_nets.specs.declared.parts.Listed.{Listed}
 use Rattle.spef_nets.specs.declared.parts.Ends.{Ends}
 
@@ -29,7 +30,7 @@ most_farads = 10 ^ 12
 abbrev pub most_ohms : ℕ
 most_ohms = 10 ^ 14
 
--- each row has its values, each number is that of a node, and no value is past its bound
+-- each row has its values, each number is that of a node, no value is past its bound, no two nodes are one, and a written capacitance counts at two places at the most
 pub record AreWhole (count : ℕ) (net : NetElements) : Type 0 where
   pub load_rows : length net.loads ≡ length net.conns * count
   pub cap_rows : length net.farads ≡ length net.caps * count
@@ -40,6 +41,8 @@ pub record AreWhole (count : ℕ) (net : NetElements) : Type 0 where
   pub small_loads : All (λ value. value.0 ≤ most_farads) net.loads
   pub small_caps : All (λ value. value.0 ≤ most_farads) net.farads
   pub small_ress : All (λ value. value.0 ≤ most_ohms) net.ohms
+  pub distinct : AreDistinctNodes net.nodes
+  pub few_caps : length net.caps ≤ 2 * net.written
 
 abbrev pub net_names : List NetElements → List (List ℕ)
 net_names nets = map (λ net. net.net) nets

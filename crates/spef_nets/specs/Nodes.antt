@@ -1,5 +1,5 @@
 -- The nodes of a section of a SPEF file (IEEE 1481): what a reference names, which nodes are one, and which belong to the section.
-use Rattle.std.specs.Prelude.{ℕ, Bool, true, false, not, ◌||◌, if◌then◌else◌, List, [], ◌∷◌, map, filter, Option, Some, None, option_map, option_to_list}
+use Rattle.std.specs.Prelude.{◌≡◌, ℕ, Bool, true, false, not, ◌||◌, if◌then◌else◌, List, [], ◌∷◌, map, filter, slice_get, Option, Some, None, option_map, option_to_list}
 use Rattle.std.specs.List.{flat_map, list_any}
 use Rattle.std.specs.Str.{bytes_eq}
 use Rattle.name_table.specs.SpefNames.{node_name}
@@ -64,6 +64,10 @@ is_among node nodes = among (key_of node) (map key_of nodes)
 abbrev pub first_places : List NodeName → List NodeName
 first_places [] = []
 first_places (node ∷ later) = node ∷ filter (λ other. not (same_node node other)) (first_places later)
+
+-- no two nodes are one: different numbers have different heads, or different tails
+abbrev pub AreDistinctNodes : List NodeName → Type 0
+AreDistinctNodes nodes = (one other : ℕ) (a b : NodeName) → slice_get nodes one ≡ Some a → slice_get nodes other ≡ Some b → key_of a ≡ key_of b → one ≡ other
 
 -- what tokens name; one whose index is not in the map names nothing
 abbrev pub nodes_at : SpefText → List ℕ → List NodeName

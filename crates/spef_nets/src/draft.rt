@@ -153,7 +153,7 @@ impl<'t> Draft<'t> {
 
     /// The net with these elements, of which so many capacitances are written.
     pub fn into_section<C: CornerSet>(self, written: usize) -> Section<C>
-        requires { AreWhole C.COUNT (drafted self).net }
+        requires { AreWhole C.COUNT (written_net (drafted self).net written) }
         ensures { result ≡ written_net (drafted self.entry).net written }
     {
         let Draft {

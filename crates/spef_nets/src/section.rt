@@ -1,7 +1,8 @@
 //! What a file says of one net.
-ghost use Rattle.std.specs.Prelude.{◌≡◌, ◌+◌, ◌<◌, ◌≤◌, [], length, slice_get, Some};
+ghost use Rattle.std.specs.Prelude.{◌≡◌, ◌+◌, ◌*◌, ◌<◌, ◌≤◌, [], length, slice_get, Some};
 ghost use Rattle.corner_set.specs.Places.{value_at};
 ghost use Rattle.spef_nets.specs.NetElements.{NetElements, most_farads, most_ohms};
+ghost use Rattle.spef_nets.specs.Nodes.{AreDistinctNodes};
 
 use crate::parts::{Ends, Listed, Resistor};
 use corner_set::CornerSet;
@@ -97,6 +98,13 @@ impl<C: CornerSet> Section<C> {
         &self.nodes[i]
     }
 
+    /// No two nodes are one: they differ by head or by tail. It does nothing when it is called.
+    pub fn distinct(&self)
+        ensures { AreDistinctNodes self.now.nodes }
+    {
+        let _ = &self.nodes;
+    }
+
     /// How many connections the net has.
     pub fn conn_count(&self) -> usize
         ensures { result ≡ length self.now.conns }
@@ -129,9 +137,10 @@ impl<C: CornerSet> Section<C> {
         self.written
     }
 
-    /// How many capacitances to ground there are, a coupling counted at each of its places that belongs.
+    /// How many capacitances to ground there are, a coupling counted at each of its places that belongs: at most two.
     pub fn cap_count(&self) -> usize
-        ensures { result ≡ length self.now.caps }
+        ensures count { result ≡ length self.now.caps }
+        ensures most { result ≤ 2 * self.now.written }
     {
         self.caps.len()
     }

@@ -16,7 +16,7 @@ read_ress-requires-clause-joints g c =
     c.deref.ensures.value c.in_ok-joints.ensures.joints
 
 pub into_section-requires : goal.into_section-requires
-into_section-requires g c = whole_draft (corners_of g.C.CornerSet.COUNT g.C.CornerSet.number_of g.C.CornerSet.member_of c.args.self.now.pick) c.args.self.now.file.now c.args.self.now.head.now c.args.s (drafted c.read_ress.new.draft) c.in_ok-read_ress.ensures.upto
+into_section-requires g c = whole_draft (corners_of g.C.CornerSet.COUNT g.C.CornerSet.number_of g.C.CornerSet.member_of c.args.self.now.pick) c.args.self.now.file.now c.args.self.now.head.now c.args.s (drafted c.read_ress.new.draft) c.in_ok-read_ress.ensures.upto c.cap_count-caps.result c.cap_count-caps.ensures
 
 pub returns-clause-ok : goal.returns-clause-ok
 returns-clause-ok g c =
