@@ -11,3 +11,4 @@ pub mod RefsOf
 pub mod Drafts
 pub mod DraftOf
 pub mod ShortLiterals
+pub mod Reading
