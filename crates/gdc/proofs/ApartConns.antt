@@ -1,23 +1,23 @@
 -- No two connections of a net that was read are at one node, since of several lines with one node the first alone counts.
-use Rattle.std.proofs.Common.{◌≡◌, ℕ, zero, suc, Bool, true, false, not, cond, List, [], ◌∷◌, map, Option, Some, None, All, refl, sym, ◌∙◌, ap, subst, inl, inr}
+use Rattle.std.proofs.Common.{◌≡◌, ℕ, zero, suc, Bool, true, false, not, cond, List, [], ◌∷◌, map, Option, Some, None, refl, sym, ◌∙◌, ap, subst, inl, inr}
 use Rattle.std.specs.Prelude.{⊤}
 use Rattle.std.specs.List.{slice_get, filter, AllByRecursion}
 use Rattle.std.proofs.lemmas.Bool.{cases_Bool}
 use Rattle.std.proofs.lemmas.Slice.Eq.{bytes_eq-Decides}
 use Rattle.corner_set.specs.declared.pick.Pick.{Pick}
-use Rattle.spef_text.specs.Entries.{Section, section_at}
+use Rattle.spef_text.specs.Entries.{Section}
 use Rattle.spef_text.specs.SpefFiles.{SpefText}
 use Rattle.spef_text.specs.Heads.{HeadText}
 use Rattle.spef_nets.specs.Nodes.{Key, key_of, same_tail, same_key, same_node}
 use Rattle.spef_nets.specs.Elements.{Connection, first_of_each, connections}
 use Rattle.spef_nets.specs.NetElements.{NetElements}
-use Rattle.spef_nets.specs.Sections.{listing_of, listing, IsNet, AreNets}
+use Rattle.spef_nets.specs.Sections.{listing_of, listing, IsNet}
 use Rattle.spef_nets.specs.declared.parts.Listed.{Listed}
 use Rattle.rc_tree.specs.Nodes.{Node}
 use Rattle.gdc.specs.WireNets.{name_at}
 use Rattle.gdc.specs.NetPins.{AreApart}
 use Rattle.gdc.specs.SpefPhases.{sole_corner}
-use Rattle.gdc.proofs.Places.{some_is, got_below, index_is, get_map, map_get}
+use Rattle.gdc.proofs.Places.{some_is, get_map, map_get}
 use Rattle.gdc.proofs.PinLists.{name_is}
 
 tail_itself : (tail : Option (List ℕ)) → same_tail tail tail ≡ true
@@ -90,14 +90,9 @@ kept_conn file section net k conn same stands =
     let said = map_get listing (connections file section) k (listing_of net.nodes conn) listed in
     (said.0, said.1, name_is net conn said.0.node (sym (ap (λ l. l.node) said.2)))
 
-net_apart : (pick : Pick) (file : SpefText) (head : HeadText) (section : Section) (net : NetElements) → IsNet (sole_corner pick) file head section net → AreApart net
+pub net_apart : (pick : Pick) (file : SpefText) (head : HeadText) (section : Section) (net : NetElements) → IsNet (sole_corner pick) file head section net → AreApart net
 net_apart pick file head section net is i j a b at_i at_j same =
     let one = kept_conn file section net i a is.conns at_i in
     let other = kept_conn file section net j b is.conns at_j in
     apart_at (connections file section) i j one.0 other.0 (firsts_apart _) one.1 other.1
     (ap key_of (sym one.2) ∙ ap (λ (n : Node). record { head = n.head; tail = n.tail }) same ∙ ap key_of other.2)
-
-pub nets_apart : (pick : Pick) (file : SpefText) (head : HeadText) (nets : List NetElements) → AreNets (sole_corner pick) file head nets → All AreApart nets
-nets_apart pick file head nets are k d below =
-    let net = got_below nets k below in
-    subst AreApart (sym (index_is nets k net.0 d net.1)) (net_apart pick file head (section_at file.reading.sections k) net.0 (are.each k net.0 net.1))

@@ -1,6 +1,6 @@
 pub mod ApartConns
 pub mod Completing
-pub mod Designs
+pub mod Drawing
 pub mod NeededKeys
 pub mod NetRows
 pub mod PinLists

@@ -1,5 +1,5 @@
 -- The rows of a net, and of several nets one after another.
-use Rattle.std.proofs.Common.{◌≡◌, ℕ, suc, ◌+◌, ◌<◌, List, [], ◌∷◌, ◌++◌, length, map, take, Some, Result, Ok, Err, refl, sym, ◌∙◌, ap, subst, arith, drop, Contains}
+use Rattle.std.proofs.Common.{◌≡◌, ℕ, ◌<◌, List, [], ◌∷◌, length, map, Some, Result, Err, refl, sym, ◌∙◌, ap, subst, arith, Contains}
 use Rattle.std.proofs.lemmas.List.{length-map}
 use Rattle.std.specs.List.{slice_get, slice_index_or, AllZip}
 use Rattle.delay_units.specs.declared.Femto.{Femto}
@@ -18,12 +18,11 @@ use Rattle.rc_tree.specs.Builds.{IsTreeOf, IsFit}
 use Rattle.rc_tree.specs.SectionNets.{AreListed, IsFirstStrange}
 use Rattle.rc_tree.specs.Pins.{pin_nodes}
 use Rattle.gdc.specs.AnnotationRows.{Wire, IsWireDelay, IsAnnotationRow, AreAnnotationRows}
-use Rattle.gdc.specs.WireNets.{HasDriver, pins_of, wires_of, NetGives, is_tree, NetsGive, and_net, refused}
-use Rattle.gdc.specs.NetRows.{IsTreeRow, AddsRows, DrawsNet, OnRefusal}
+use Rattle.gdc.specs.WireNets.{HasDriver, pins_of, wires_of, is_tree}
+use Rattle.gdc.specs.NetRows.{IsTreeRow, AddsRows, DrawsNet}
 use Rattle.verdict_phases.specs.declared.ends.PureEnd.{PureEnd}
-use Rattle.verdict_phases.specs.declared.ends.PureEnd.TheVariants as pure
 use Rattle.gdc.specs.declared.refusal.Refusal.{Refusal}
-use Rattle.gdc.proofs.Places.{some_is, within, index_is, map_get, zipped, front_more, parts_at}
+use Rattle.gdc.proofs.Places.{some_is, within, index_is, map_get, zipped}
 
 abbrev pub failed : PureEnd Refusal → Result (Unit {0}) (PureEnd Refusal)
 failed end = Err end
@@ -74,24 +73,3 @@ net_drawn net driver pins arena old new sole are tree added = record {
         (λ k wire row at stands.
         let sink = map_get wire_to pins.sinks k wire at in
         subst (λ w. IsAnnotationRow w row) sink.2 (annotates net pins arena k sink.0 row tree sink.1 (added.drawn k row stands)))
-
--- one net more was drawn
-pub nets_more : (nets : List NetElements) (place : ℕ) (net : NetElements) (old new : SdfRows) → slice_get nets place ≡ Some net → NetsGive (take place nets) (Ok old.wires) → DrawsNet net old new → NetsGive (take (place + 1) nets) (Ok new.wires)
-nets_more nets place net old new stands before drawn =
-    subst (λ n. NetsGive n (Ok new.wires)) (sym (front_more nets place net stands))
-    (subst (λ w. NetsGive (take place nets ++ net ∷ []) (Ok w)) (sym (ap (λ r. r.wires) drawn.is)) (and_net before drawn.given))
-
--- a net was refused, after others that were drawn
-pub nets_refused : (nets : List NetElements) (place : ℕ) (net : NetElements) (rows : List WireRow) (refusal : Refusal) → slice_get nets place ≡ Some net → NetsGive (take place nets) (Ok rows) → NetGives net (Err refusal) → NetsGive nets (Err refusal)
-nets_refused nets place net rows refusal stands before refuses =
-    subst (λ n. NetsGive n (Err refusal)) (sym (parts_at nets place net stands)) (refused (drop (suc place) nets) before refuses)
-
--- the rows of a net leave the design's name
-pub same_design : (net : NetElements) (old new : SdfRows) → DrawsNet net old new → new.design ≡ old.design
-same_design net old new drawn = ap (λ r. r.design) drawn.is
-
--- a refusal at a net is one of all nets
-pub refused_all : (nets : List NetElements) (place : ℕ) (net : NetElements) (rows : List WireRow) (end : PureEnd Refusal) → slice_get nets place ≡ Some net → NetsGive (take place nets) (Ok rows)
-    → OnRefusal (failed end) (λ refusal. NetGives net (Err refusal)) → OnRefusal (failed end) (λ refusal. NetsGive nets (Err refusal))
-refused_all nets place net rows (pure.Refused refusal) stands before refuses = nets_refused nets place net rows refusal stands before refuses
-refused_all nets place net rows pure.OutOfMemory stands before refuses = tt

@@ -1,6 +1,7 @@
 pub mod AnnotationRows
 pub mod CommandLine
 pub mod Completeness
+pub mod Drawing
 pub mod Ends
 pub mod Lines
 pub mod NetPins

@@ -30,6 +30,11 @@ pub data HeadsSpef (file : SpefText) : Result HeadText Refusal → Type 0 where
 abbrev pub sole_corner : Pick → Corners (Unit {0})
 sole_corner pick = record { count = 1; number = λ _. 0; member = λ _. pick }
 
+-- a design's name, and its nets
+pub record DesignNets : Type 0 where
+  pub design : List ℕ
+  pub nets : List NetElements
+
 -- the sections say this of their nets, or have a first fault
 pub data NetsSpef (pick : Pick) (file : SpefText) (head : HeadText) : Result (List NetElements) Refusal → Type 0 where
   are_nets : (nets : List NetElements) → AreNets (sole_corner pick) file head nets → NetsSpef pick file head (Ok nets)

@@ -20,9 +20,8 @@ use Rattle.corner_set.specs.declared.pick.Pick.{Pick}
 use Rattle.spef_text.specs.SpefFiles.{SpefText}
 use Rattle.spef_text.specs.Heads.{HeadText}
 use Rattle.spef_nets.specs.NetElements.{NetElements}
-use Rattle.gdc.specs.SpefPhases.{ParsesSpef, HeadsSpef, NetsSpef}
+use Rattle.gdc.specs.SpefPhases.{DesignNets, ParsesSpef, HeadsSpef, NetsSpef}
 use Rattle.gdc.specs.WireNets.{RowsOf}
-use Rattle.gdc.specs.declared.spef_phases.DesignNets.{DesignNets}
 
 -- how many bytes of a file are read at the most
 abbrev pub file_limit : ℕ

@@ -12,7 +12,7 @@ use Rattle.rc_tree.specs.SectionNets.{net_elements, on_net}
 use Rattle.rc_tree.specs.Builds.{IsFit, IsTreeEnd}
 use Rattle.rc_tree.specs.declared.ends.TreeEnd.TheVariants as tree
 use Rattle.gdc.specs.AnnotationRows.{Wire, AreAnnotationRows}
-use Rattle.gdc.specs.declared.spef_phases.DesignNets.{DesignNets}
+use Rattle.gdc.specs.SpefPhases.{DesignNets}
 use Rattle.gdc.specs.declared.refusal.LimitKind.TheVariants.{Net}
 use Rattle.gdc.specs.declared.refusal.Refusal.{Refusal}
 use Rattle.gdc.specs.declared.refusal.Refusal.TheVariants.{Unreached, Mesh, Limit, NoDriver, ManyDrivers}

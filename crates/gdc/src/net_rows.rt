@@ -1,23 +1,22 @@
-//! The rows of the nets of a design.
-ghost use Rattle.std.specs.Prelude.{◌≡◌, ◌+◌, ◌<◌, [], ◌∷◌, length, All, OnOk, IfOk, Ok, Err};
-ghost use Rattle.verdict_phases.specs.Phases.{Passes};
+//! The rows of a net.
+ghost use Rattle.std.specs.Prelude.{◌≡◌, ◌+◌, ◌<◌, [], ◌∷◌, length, OnOk, IfOk, Err};
 ghost use Rattle.rc_tree.specs.Pins.{pin_nodes};
 ghost use Rattle.rc_tree.specs.SectionNets.{AreListed};
 ghost use Rattle.rc_tree.specs.Builds.{IsTreeOf};
-ghost use Rattle.gdc.specs.WireNets.{HasDriver, NetGives, IsNoTree, NetsGive, RowsOf};
+ghost use Rattle.gdc.specs.WireNets.{HasDriver, NetGives, IsNoTree};
+ghost use Rattle.gdc.specs.Drawing.{drawn, DrawsNext};
 ghost use Rattle.gdc.specs.NetPins.{AreApart};
 ghost use Rattle.gdc.specs.NetRows.{HasDelays, AddsRow, AddsRows, DrawsNet, OnRefusal};
 
 use crate::net_pins::{DriverEnd, driver_of, pins_of};
 use crate::refusal::{LimitKind, Refusal};
-use crate::spef_phases::DesignNets;
 use corner_set::{Grid, Single};
 use delay_units::Femto;
 use edge_io::{OutOfMemory, Steps, Text};
 use elmore_pass::{elmore_into, sink_femto};
 use rc_tree::{PinLoads, RcTree, Scratch, TreeEnd, build};
 use sdf_writer::Rows;
-use spef_nets::{Listed, Section, Sections};
+use spef_nets::{Listed, Section};
 use std::alloc::Global;
 use std::sync::ledger::Ledger;
 use verdict_phases::PureEnd;
@@ -165,40 +164,27 @@ fn draw_net<L: Ledger>(
     Ok(())
 }
 
-// Adds the rows of all nets.
-fn draw_all<L: Ledger>(
+/// Draws a net after others, unless one of them was refused: answers the first refusal.
+#[tactic(auto, using(crate::specs::Drawing::refused_before, crate::specs::Drawing::refused_here, crate::specs::Drawing::has_rows))]
+pub fn draw_next<L: Ledger>(
     alloc: Global,
-    nets: &Sections<Single>,
+    net: &Section<Single>,
+    refused: Option<Refusal>,
+    delay: &mut Grid<Single, Femto>,
     rows: &mut Rows<Single>,
     steps: &mut Steps<L>,
-) -> Result<(), PureEnd<Refusal>>
-    requires apart { All AreApart nets.now }
-    requires none { rows.old.wires ≡ [] }
-    ensures rows { OnOk result (NetsGive nets.now (Ok rows.new.wires)) }
-    ensures design { OnOk result (rows.new.design ≡ rows.old.design) }
-    ensures refused { OnRefusal result (λ refusal. NetsGive nets.now (Err refusal)) }
+) -> Result<Option<Refusal>, OutOfMemory>
+    requires one_row { length delay.old ≡ 1 }
+    requires apart { AreApart net.now }
+    ensures next { IfOk result (λ after. DrawsNext net.now (drawn rows.old refused) (drawn rows.new after)) }
+    ensures one_row { length delay.new ≡ 1 }
 {
-    let mut delay = Grid::with_rows(alloc, 1, Femto(0))?;
-    for place in 0..nets.len() {
-        match draw_net(alloc, nets.get(place), &mut delay, rows, steps) {
-            Ok(()) => {}
-            Err(end) => return Err(end),
-        }
+    match refused {
+        Some(refusal) => Ok(Some(refusal)),
+        None => match draw_net(alloc, net, delay, rows, steps) {
+            Ok(()) => Ok(None),
+            Err(PureEnd::Refused(refusal)) => Ok(Some(refusal)),
+            Err(PureEnd::OutOfMemory) => Err(OutOfMemory),
+        },
     }
-    Ok(())
-}
-
-/// The rows of a design's nets, one for each wire: net after net, and in each its sinks in their order.
-pub fn draw_design<L: Ledger>(
-    alloc: Global,
-    design: DesignNets,
-    steps: &mut Steps<L>,
-) -> Result<Rows<Single>, PureEnd<Refusal>>
-    requires apart { All AreApart design.nets }
-    ensures passes { Passes (RowsOf design) result }
-{
-    let DesignNets { design, nets } = design;
-    let mut rows = Rows::new(alloc, design);
-    draw_all(alloc, &nets, &mut rows, steps)?;
-    Ok(rows)
 }

@@ -1,16 +1,23 @@
-//! The phases that read a SPEF file: its grammar, its head, and its nets.
-ghost use Rattle.std.specs.Prelude.{◌≡◌, ◌^◌, ◌<◌, length};
+//! The phases that read a SPEF file: its grammar, its head, and its nets, whose rows are drawn.
+ghost use Rattle.std.specs.Prelude.{◌≡◌, ◌^◌, ◌<◌, length, IfOk, Err};
 ghost use Rattle.verdict_phases.specs.Phases.{Passes};
 ghost use Rattle.spef_text.specs.Heads.{IsHeadOf};
-ghost use Rattle.gdc.specs.SpefPhases.{ParsesSpef, HeadsSpef, NetsSpef};
-ghost use Rattle.gdc.specs.Verdict.{ReadsNets};
+ghost use Rattle.spef_nets.specs.Reading.{next_section, with_net};
+ghost use Rattle.spef_nets.specs.Sections.{IsNet};
+ghost use Rattle.gdc.specs.SpefPhases.{sole_corner, ParsesSpef, HeadsSpef, NetsSpef};
+ghost use Rattle.gdc.specs.NetRows.{OnRefusal};
+ghost use Rattle.gdc.specs.Drawing.{DrawsNets, DrawsText};
 
+use crate::net_rows::draw_next;
 use crate::refusal::{IndexKind, NumberKind, Refusal};
-use corner_set::{Pick, Single};
-use edge_io::Text;
-use spef_nets::{SectionEnd, Sections, read_sections};
+use corner_set::{Grid, Pick, Single};
+use delay_units::Femto;
+use edge_io::{Steps, Text};
+use sdf_writer::Rows;
+use spef_nets::{Section, SectionEnd, SectionReader};
 use spef_text::{Head, HeadEnd, SpefEnd, SpefFile, parse, read_head};
 use std::alloc::Global;
+use std::sync::ledger::Ledger;
 use verdict_phases::PureEnd;
 
 /// Reads the grammar of a SPEF file.
@@ -48,19 +55,16 @@ fn head_of(alloc: Global, file: &SpefFile) -> Result<Head, PureEnd<Refusal>>
     }
 }
 
-/// Reads the nets of a SPEF file, at one corner, where this member of each triple counts.
-#[tactic(auto, using(crate::specs::SpefPhases::are_nets, crate::specs::SpefPhases::unknown_index, crate::specs::SpefPhases::bad_number, crate::specs::SpefPhases::value_too_large, crate::specs::SpefPhases::repeated_net, crate::specs::SpefPhases::foreign_coupling))]
-fn nets_of(
-    alloc: Global,
-    file: &SpefFile,
-    head: &Head,
-    pick: Pick,
-) -> Result<Sections<Single>, PureEnd<Refusal>>
-    requires { IsHeadOf file.now head.now }
-    ensures passes { Passes (NetsSpef pick file.now head.now) result }
+/// Reads the next net of a SPEF file, at one corner.
+#[tactic(auto, using(crate::specs::SpefPhases::unknown_index, crate::specs::SpefPhases::bad_number, crate::specs::SpefPhases::value_too_large, crate::specs::SpefPhases::repeated_net, crate::specs::SpefPhases::foreign_coupling))]
+fn next_net(reader: &mut SectionReader) -> Result<Section<Single>, PureEnd<Refusal>>
+    requires { length reader.old.nets < length reader.old.file.reading.sections }
+    ensures ok { IfOk result (IsNet (sole_corner reader.old.pick) reader.old.file reader.old.head (next_section reader.old)) }
+    ensures read { IfOk result (λ net. reader.new ≡ with_net reader.old net.net) }
+    ensures refused { OnRefusal result (λ refusal. NetsSpef reader.old.pick reader.old.file reader.old.head (Err refusal)) }
 {
-    match read_sections::<Single>(alloc, file, head, pick) {
-        Ok(sections) => Ok(sections),
+    match reader.read::<Single>() {
+        Ok(net) => Ok(net),
         Err(SectionEnd::UnknownIndex { token }) => Err(PureEnd::Refused(Refusal::NameIndex {
             kind: IndexKind::Unknown,
             token,
@@ -83,22 +87,49 @@ fn nets_of(
     }
 }
 
-/// A design's name, and its nets at one corner.
-#[derive(Drop)]
-pub struct DesignNets {
-    pub design: Text,
-    pub nets: Sections<Single>,
+/// Reads the nets of a SPEF file one after another, where this member of each triple counts, and draws the rows of each before
+/// the next is read. After a net that is refused the others are still read, since a fault of their sections comes first.
+fn draw_sections<L: Ledger>(
+    alloc: Global,
+    file: &SpefFile,
+    head: &Head,
+    pick: Pick,
+    steps: &mut Steps<L>,
+) -> Result<Rows<Single>, PureEnd<Refusal>>
+    requires { IsHeadOf file.now head.now }
+    ensures passes { Passes (DrawsNets pick file.now head.now) result }
+{
+    let design = Text::from_bytes(alloc, head.design().bytes())?;
+    let mut rows = Rows::new(alloc, design);
+    let mut delay = Grid::with_rows(alloc, 1, Femto(0))?;
+    let mut reader = SectionReader::new(alloc, file, head, pick);
+    let mut refused = None;
+    for _ in 0..file.section_count() {
+        let net = match next_net(&mut reader) {
+            Ok(net) => net,
+            Err(end) => return Err(end),
+        };
+        refused = draw_next(alloc, &net, refused, &mut delay, &mut rows, steps)?;
+    }
+    match refused {
+        Some(refusal) => Err(PureEnd::Refused(refusal)),
+        None => Ok(rows),
+    }
 }
 
-/// Reads the nets of a SPEF file's text, where this member of each triple counts. The text is let go of as soon as it is read.
-#[tactic(auto, using(crate::specs::Verdict::at_grammar, crate::specs::Verdict::at_head, crate::specs::Verdict::at_sections, crate::specs::Verdict::through))]
-pub fn read_design(alloc: Global, text: Text, pick: Pick) -> Result<DesignNets, PureEnd<Refusal>>
+/// The rows of the nets of a SPEF file's text, one for each wire: net after net, and in each its sinks in their order. This member
+/// of each triple counts.
+#[tactic(auto, using(crate::specs::Verdict::at_grammar, crate::specs::Verdict::at_head, crate::specs::Drawing::unread, crate::proofs::Drawing::text_drawn))]
+pub fn draw_text<L: Ledger>(
+    alloc: Global,
+    text: Text,
+    pick: Pick,
+    steps: &mut Steps<L>,
+) -> Result<Rows<Single>, PureEnd<Refusal>>
     requires { length text < 2 ^ 30 }
-    ensures passes { Passes (ReadsNets pick text) result }
+    ensures passes { Passes (DrawsText pick text) result }
 {
     let file = parse_spef(alloc, text.bytes())?;
     let head = head_of(alloc, &file)?;
-    let nets = nets_of(alloc, &file, &head, pick)?;
-    let design = Text::from_bytes(alloc, head.design().bytes())?;
-    Ok(DesignNets { design, nets })
+    draw_sections(alloc, &file, &head, pick, steps)
 }

@@ -5,9 +5,8 @@ ghost use Rattle.edge_io.specs.Holding.{TellsMissing};
 ghost use Rattle.verdict_phases.specs.Phases.{Follows, OnReadFault};
 ghost use Rattle.gdc.specs.Verdict.{WiresGives};
 
-use crate::net_rows::draw_design;
 use crate::refusal::{FileKey, LimitKind, Refusal};
-use crate::spef_phases::read_design;
+use crate::spef_phases::draw_text;
 use corner_set::{Pick, Single};
 use edge_io::{Shelf, Steps, Text};
 use sdf_writer::Rows;
@@ -19,7 +18,7 @@ use verdict_phases::{PhaseEnd, read_phase};
 pub const FILE_LIMIT: usize = 268_435_456;
 
 /// The rows of the wires of the SPEF file of that name, where this member of each triple counts.
-#[tactic(auto, using(crate::specs::Verdict::at_reading, crate::specs::Verdict::at_spef, crate::specs::Verdict::at_nets, crate::specs::Verdict::with_rows))]
+#[tactic(auto, using(crate::specs::Verdict::at_reading, crate::proofs::Drawing::text_refused, crate::proofs::Drawing::text_rows))]
 pub fn wires<H: Shelf, L: Ledger>(
     alloc: Global,
     shelf: &mut H,
@@ -36,7 +35,6 @@ pub fn wires<H: Shelf, L: Ledger>(
 {
     let too_long = Refusal::Limit(LimitKind::File(FileKey::Spef));
     let text = read_phase(alloc, shelf, name, FILE_LIMIT, FileKey::Spef, too_long)?;
-    let design = read_design(alloc, text, pick)?;
-    let rows = draw_design(alloc, design, steps)?;
+    let rows = draw_text(alloc, text, pick, steps)?;
     Ok(rows)
 }

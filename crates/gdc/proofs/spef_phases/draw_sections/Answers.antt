@@ -1,0 +1,49 @@
+use Rattle.std.proofs.Common.{◌≡◌, ℕ, List, Ok, Err, length, [], ◌∷◌, ◌++◌, refl, ◌∙◌, ap, subst, arith}
+use Rattle.std.specs.Prelude.{Option}
+use Rattle.spef_nets.specs.Reading.{next_section}
+use Rattle.spef_nets.proofs.ReadingLemmas.{no_nets, one_more}
+use Rattle.gdc.specs.SpefPhases.{sole_corner}
+use Rattle.gdc.specs.WireNets.{RowsOf}
+use Rattle.gdc.specs.Drawing.{drawn}
+use Rattle.gdc.specs.declared.refusal.Refusal.{Refusal}
+use Rattle.gdc.proofs.ApartConns.{net_apart}
+use Rattle.gdc.proofs.Drawing.{nothing_drawn, drawn_more, all_drawn, section_refused}
+use Rattle.gdc.proofs.spef_phases.draw_sections.Goals as goal
+
+pub loop-init : goal.loop-init
+loop-init g c = (
+  [],
+  no_nets sole_corner c.args.file.now c.args.head.now c.args.pick c.new-reader.result c.new-reader.ensures,
+  nothing_drawn c.args.head.now.design c.new-rows.result (c.new-rows.ensures ∙ ap (λ (d : List ℕ). record { design = d; wires = [] }) (c.in_ok-design.ensures ∙ c.bytes.ensures ∙ c.design.ensures)),
+  ap length c.in_ok-delay.ensures,
+)
+
+pub returns-in-Err : goal.returns-in-Err
+returns-in-Err g c = record { passes = section_refused c.args.pick c.args.file.now c.args.head.now c.loop.reader c.loop.invariant.0 c.loop.counter c.in-Err.end c.loop.invariant.1 c.in-Err.ensures.refused }
+
+pub draw_next-requires-clause-apart : goal.draw_next-requires-clause-apart
+draw_next-requires-clause-apart g c = net_apart c.loop.reader.pick c.loop.reader.file c.loop.reader.head (next_section c.loop.reader) c.in-Ok.net c.in-Ok.ensures.ok
+
+pub loop-preserved : goal.loop-preserved
+loop-preserved g c = (
+  c.loop.invariant.0 ++ c.in-Ok.net ∷ [],
+  one_more sole_corner c.args.file.now c.args.head.now c.args.pick c.loop.reader c.loop.invariant.0 c.loop.counter c.loop.invariant.1 c.next_net.new.reader c.in-Ok.net c.in-Ok.ensures.ok c.in-Ok.ensures.read (c.loop.invariant.0 ++ c.in-Ok.net ∷ []) refl,
+  drawn_more c.args.head.now.design c.loop.invariant.0 c.in-Ok.net (drawn c.loop.rows c.loop.refused) (drawn c.draw_next.new.rows c.in_ok-refused.refused) c.loop.invariant.2 c.in_ok-refused.ensures.next,
+  c.in_ok-refused.ensures.one_row,
+)
+
+pub returns-in-Some : goal.returns-in-Some
+returns-in-Some g c =
+    let whole : c.loop.counter ≡ length c.args.file.now.reading.sections = omega arith in
+    record {
+      passes = all_drawn c.args.pick c.args.file.now c.args.head.now c.loop.reader c.loop.invariant.0 c.loop.counter (Err c.in-Some.refusal) c.loop.invariant.1 whole
+          (subst (λ (r : Option Refusal). RowsOf (record { design = c.args.head.now.design; nets = c.loop.invariant.0 }) (drawn c.loop.rows r)) c.in-Some.is c.loop.invariant.2);
+    }
+
+pub returns-in-None : goal.returns-in-None
+returns-in-None g c =
+    let whole : c.loop.counter ≡ length c.args.file.now.reading.sections = omega arith in
+    record {
+      passes = all_drawn c.args.pick c.args.file.now c.args.head.now c.loop.reader c.loop.invariant.0 c.loop.counter (Ok c.loop.rows) c.loop.invariant.1 whole
+          (subst (λ (r : Option Refusal). RowsOf (record { design = c.args.head.now.design; nets = c.loop.invariant.0 }) (drawn c.loop.rows r)) c.in-None.is c.loop.invariant.2);
+    }
