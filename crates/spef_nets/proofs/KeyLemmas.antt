@@ -1,7 +1,8 @@
 -- Keys of the table of nodes, by what they stand for.
 use Rattle.std.proofs.Common.{◌≡◌, ℕ, ◌+◌, Bool, true, false, not, cond, ◌||◌, if◌then◌else◌, List, [], ◌∷◌, ◌++◌, length, map, refl, sym, ap, ◌∙◌, arith}
 use Rattle.std.specs.Prelude.{Option, Some, None, slice_get, ◌&&◌}
-use Rattle.std.proofs.Common.{Vec, Global}
+use Rattle.std.proofs.Common.{Vec, Global, Bor}
+use Rattle.std.proofs.lemmas.Slice.Eq.{bytes_eq-Decides}
 use Rattle.std.specs.Option.{option_map, option_eq}
 use Rattle.std.specs.Str.{bytes_eq}
 use Rattle.spef_nets.specs.NodeKeys.{key_in}
@@ -65,3 +66,7 @@ module _ {K : Type 0} (eq : K → K → Bool) (view : K → Key) (eq_is : (one o
       by false e =
           let grows : after ≡ keys ++ key ∷ [] = is ∙ ap (λ b. if b then keys else keys ++ key ∷ []) e in
           added (ap (map view) grows ∙ map_push view keys key) (at ∙ past key keys e ∙ sym (length-map keys view)) (sym (any_is key keys) ∙ e)
+
+-- what stands at a number among the words that are borrowed
+pub stands_is : (keys : List (Bor (List ℕ))) (number : ℕ) (kept : Bor (List ℕ)) (word : List ℕ) → Some kept ≡ slice_get keys number → bytes_eq kept.now word ≡ true → slice_get (map (λ key. key.now) keys) number ≡ Some word
+stands_is keys number kept word stands same = map_at (λ (key : Bor (List ℕ)). key.now) keys number kept (sym stands) ∙ ap Some ((bytes_eq-Decides kept.now word).0 same)

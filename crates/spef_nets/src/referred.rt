@@ -42,9 +42,10 @@ impl<'t> Referred<'t> {
     }
 
     /// The number of a spelling that stood before.
-    pub fn find(&self, word: &[u8]) -> Option<usize>
-        ensures found { IfSome result (λ number. slice_get (refs_of self.now).words number ≡ Some word.now) }
-        ensures absent { IfNone result (¬ Contains (refs_of self.now).words word.now) }
+    pub fn find(&mut self, word: &[u8]) -> Option<usize>
+        ensures found { IfSome result (λ number. slice_get (refs_of self.old).words number ≡ Some word.now) }
+        ensures absent { IfNone result (¬ Contains (refs_of self.old).words word.now) }
+        ensures same { refs_of self.new ≡ refs_of self.old }
     {
         self.words.find(word)
     }

@@ -1,5 +1,5 @@
 //! The spellings of references, each numbered by its first place.
-ghost use Rattle.std.specs.Prelude.{◌≡◌, ℕ, ◌+◌, ◌<◌, [], ◌∷◌, ◌++◌, List, length, map, slice_get, Some, Contains, IfOk, OnOk, IfSome, IfNone};
+ghost use Rattle.std.specs.Prelude.{◌≡◌, ℕ, ◌+◌, ◌<◌, true, [], ◌∷◌, ◌++◌, List, length, map, slice_get, Some, Contains, IfOk, OnOk, IfSome, IfNone};
 
 use crate::name_hash::NameHash;
 use edge_io::OutOfMemory;
@@ -11,6 +11,8 @@ use std::marker::Model;
 #[derive(Drop)]
 pub struct Spellings<'t> {
     words: IndexSet<&'t [u8], NameHash>,
+    // the number that was answered or given last
+    last: usize,
 }
 
 impl<'t> Model for Spellings<'t> {
@@ -28,15 +30,19 @@ impl<'t> Spellings<'t> {
     {
         Spellings {
             words: IndexSet::with_hasher(alloc, NameHash::default()),
+            last: 0,
         }
     }
 
     /// The number of a spelling, if it is held.
-    pub fn find(&self, word: &[u8]) -> Option<usize>
-        ensures found { IfSome result (λ number. slice_get self.now number ≡ Some word.now) }
-        ensures absent { IfNone result (¬ Contains self.now word.now) }
+    pub fn find(&mut self, word: &[u8]) -> Option<usize>
+        ensures found { IfSome result (λ number. slice_get self.old number ≡ Some word.now) }
+        ensures absent { IfNone result (¬ Contains self.old word.now) }
+        ensures same { self.new ≡ self.old }
     {
-        number_of(&self.words, word)
+        let number = look_up(&self.words, self.last, word)?;
+        self.last = number;
+        Some(number)
     }
 
     /// Puts a spelling at the end that is not held.
@@ -44,7 +50,42 @@ impl<'t> Spellings<'t> {
         requires absent { ¬ Contains self.old word.now }
         ensures added { OnOk result (self.new ≡ self.old ++ word.now ∷ []) }
     {
+        self.last = self.words.len();
         add(&mut self.words, word)
+    }
+}
+
+// Whether a spelling has this number.
+fn stands_at(words: &IndexSet<&[u8], NameHash>, number: usize, word: &[u8]) -> bool
+    ensures { result ≡ true → slice_get (map (λ key. key.now) words.now.keys) number ≡ Some word.now }
+{
+    match words.get_index(number) {
+        Some(held) => end_alike(held, word) && *held == word,
+        None => false,
+    }
+}
+
+// Whether the last bytes are equal, by which most spellings of one net differ.
+fn end_alike(one: &[u8], other: &[u8]) -> bool {
+    match (one.last(), other.last()) {
+        (Some(one), Some(other)) => *one == *other,
+        _ => true,
+    }
+}
+
+// The number of a spelling, if it is held. It is looked for at the last number and at the next one first: the connections, the
+// capacitances and the resistors of a net name its nodes in one order, as a rule, and then no hash is taken.
+fn look_up(words: &IndexSet<&[u8], NameHash>, last: usize, word: &[u8]) -> Option<usize>
+    ensures found { IfSome result (λ number. slice_get (map (λ key. key.now) words.now.keys) number ≡ Some word.now) }
+    ensures absent { IfNone result (¬ Contains (map (λ key. key.now) words.now.keys) word.now) }
+{
+    let next = last.saturating_add(1);
+    if stands_at(words, last, word) {
+        Some(last)
+    } else if stands_at(words, next, word) {
+        Some(next)
+    } else {
+        number_of(words, word)
     }
 }
 
