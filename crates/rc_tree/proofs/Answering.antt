@@ -40,8 +40,6 @@ module _ (count : ℕ) (section : SectionElements) (pins : Pins) (nodes : List N
   pub nodes_are : nodes_of (net_elements count section pins number) ≡ nodes
   nodes_are =
       ap (λ b. node_of pins.driver ∷ (if b then [] else filter (λ other. not (same (node_of pins.driver) other)) (first_places (map node_of pins.sinks ++ map node_of section.nodes)))) joined_so
-      ∙ sym (first_all (pin_nodes pins) (map node_of section.nodes))
-      ∙ ap (λ l. with_nodes l (map node_of section.nodes)) (first_apart (pin_nodes pins) searched.pins_apart)
       ∙ sym searched.numbered
 
   pub node_at : (i : ℕ) → i < length section.nodes → section_node section pins i ≡ F (slice_index spots i)

@@ -24,3 +24,5 @@ pub mod TreeOf
 pub mod Judging
 pub mod Growing
 pub mod LoneTree
+pub mod ListedLemmas
+pub mod MarkingLemmas

@@ -31,7 +31,7 @@ use Rattle.rc_tree.proofs.Growing.{few_caps}
 use Rattle.rc_tree.proofs.TreeOf.{sum_both}
 
 -- everything stands at the driver's node
-pub lone_layout : (section : SectionElements) (pins : Pins) (layout : Layout) → IsFit section pins → length section.caps ≤ 2 * section.written + 1 → length layout.parents ≡ 1 → length layout.vias ≡ 1 → ((i : ℕ) → slice_index layout.spots i ≡ 0) → length layout.spots ≡ length section.nodes
+pub lone_layout : (section : SectionElements) (pins : Pins) (layout : Layout) → IsFit section pins → length section.caps ≤ 2 * section.written → length layout.parents ≡ 1 → length layout.vias ≡ 1 → ((i : ℕ) → slice_index layout.spots i ≡ 0) → length layout.spots ≡ length section.nodes
     → length layout.sinks ≡ length pins.sinks → ((k : ℕ) → k < length layout.sinks → (slice_index_or layout.sinks k (record { 0 = 0 })).0 ≡ 0) → IsLayout section pins layout
 lone_layout section pins layout fit few one vias spots spots_len sinks_len sinks = record {
   some = omega (arith, one);

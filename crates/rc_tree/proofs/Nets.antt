@@ -13,7 +13,7 @@ abbrev pub where_is : Node → List Node → ℕ
 where_is node [] = 0
 where_is node (first ∷ nodes) = if same node first then 0 else suc (where_is node nodes)
 
-same_cases : (one other : Node) → ((one ≡ other) × (same one other ≡ true)) ⊎ ((one ≡ other → ⊥) × (same one other ≡ false))
+pub same_cases : (one other : Node) → ((one ≡ other) × (same one other ≡ true)) ⊎ ((one ≡ other → ⊥) × (same one other ≡ false))
 same_cases one other = by (same one other) refl
   where
     by : (b : Bool) → same one other ≡ b → ((one ≡ other) × (same one other ≡ true)) ⊎ ((one ≡ other → ⊥) × (same one other ≡ false))

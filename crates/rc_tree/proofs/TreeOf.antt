@@ -20,7 +20,7 @@ use Rattle.rc_tree.specs.SectionNets.{section_node, sink_node, on_net, net_eleme
 use Rattle.rc_tree.specs.Numbering.{section_farads, sink_farads}
 use Rattle.rc_tree.specs.Filling.{IsFilled}
 use Rattle.rc_tree.specs.Searches.{Search, Finds}
-use Rattle.rc_tree.specs.Searched.{Searched}
+use Rattle.rc_tree.specs.Searched.{Searched, AreSinks}
 use Rattle.rc_tree.specs.Builds.{IsFit, AreLinked, SameDelays, IsTreeOf}
 use Rattle.rc_tree.specs.declared.node_ids.NodeId.{NodeId}
 use Rattle.rc_tree.proofs.Sums.{sum_cong, sum_add, sum_range}
@@ -43,7 +43,7 @@ module _ (count : ℕ) (section : SectionElements) (pins : Pins) (nodes : List N
     (places : List ℕ) (sinks : List NodeId) (ohms : List Ohms) (farads : List Farads)
     (places_are : (i : ℕ) → i < length spots → slice_index places i ≡ slice_index s.numbers (slice_index spots i) - 1)
     (sinks_len : length sinks ≡ length pins.sinks)
-    (sinks_are : (k : ℕ) → k < length pins.sinks → (slice_index_or sinks k (record { 0 = 0 })).0 ≡ slice_index s.numbers (k + 1) - 1)
+    (sinks_are : AreSinks section pins s.numbers sinks)
     (filled : (k : ℕ) → k < count → IsFilled count section pins (record { parents = s.parents; vias = s.vias; spots = places; sinks = sinks }) ohms farads k)
     (whole : IsArena count (record { parents = s.parents; ohms = ohms; farads = farads; sinks = sinks })) where
   abbrev A : Arena
@@ -68,20 +68,17 @@ module _ (count : ℕ) (section : SectionElements) (pins : Pins) (nodes : List N
   net_node : (node : Node) → on_net section pins node ≡ node
   net_node node = ap (λ b. if b then node_of pins.driver else node) (joined_so count section pins nodes spots froms tos s searched 0)
 
-  -- the node of a pin
-  pin_at : (k : ℕ) (v : Node) → slice_get (pin_nodes pins) k ≡ Some v → (k < length nodes) × (F k ≡ v)
-  pin_at k v at =
-      let there : slice_get nodes k ≡ Some v = ap (λ l. slice_get l k) searched.numbered ∙ all_keep (pin_nodes pins) (map node_of section.nodes) k v at in
-      (slice_get_within nodes k v there, get_or_from_slice_get nodes k v (node_of pins.driver) there)
-
-  sink_at : (k : ℕ) → k < length pins.sinks → (suc k < length nodes) × (F (suc k) ≡ sink_node pins k)
-  sink_at k below = pin_at (suc k) (sink_node pins k) (slice_get-map node_of pins.sinks k ∙ ap (option_map node_of) (slice_get-get_or pins.sinks k pins.driver below))
+  -- the number of a sink's node, and where it stands
+  sink_at : (k : ℕ) → k < length pins.sinks → (number : ℕ) × (number < length nodes) × (F number ≡ sink_node pins k) × ((slice_index_or sinks k (record { 0 = 0 })).0 ≡ slice_index s.numbers number - 1)
+  sink_at k below =
+      let at = sinks_are k below in
+      let there : slice_get nodes at.0 ≡ Some (sink_node pins k) = ap (λ l. slice_get l at.0) searched.numbered ∙ at.1 in
+      (at.0, slice_get_within nodes at.0 (sink_node pins k) there, get_or_from_slice_get nodes at.0 (sink_node pins k) (node_of pins.driver) there, at.2)
 
   sink_stands : (k : ℕ) → k < length pins.sinks → sink_node pins k ≡ G (slice_index_or sinks k (record { 0 = 0 })).0
   sink_stands k below =
       let at = sink_at k below in
-      let is : k + 1 ≡ suc k = omega arith in
-      sym at.1 ∙ stands (suc k) at.0 ∙ ap G (ap (λ j. slice_index s.numbers j - 1) (sym is) ∙ sym (sinks_are k below))
+      sym at.2 ∙ stands at.0 at.1 ∙ ap G (sym at.3)
 
   module _ (number : ℕ) (below : number < count) where
     ff : IsFilled count section pins (record { parents = s.parents; vias = s.vias; spots = places; sinks = sinks }) ohms farads number
@@ -110,12 +107,10 @@ module _ (count : ℕ) (section : SectionElements) (pins : Pins) (nodes : List N
     sink_below k k_below =
         let k_in : k < length pins.sinks = omega (arith, k_below, sinks_len) in
         let at = sink_at k k_in in
-        let num = fs.ord_num (suc k) (every (suc k) at.0) in
-        let held = every (suc k) at.0 in
-        let e : k + 1 ≡ suc k = omega arith in
-        let is = sinks_are k k_in in
-        let same = ap (slice_index s.numbers) e in
-        omega (arith, is, num.0, held, same)
+        let num = fs.ord_num at.0 (every at.0 at.1) in
+        let held = every at.0 at.1 in
+        let is = at.3 in
+        omega (arith, is, num.0, held)
 
     plain : (k : ℕ) → 0 + k ≡ k
     plain k = omega arith

@@ -21,3 +21,6 @@ pub mod Numbering
 pub mod Filling
 pub mod Layouts
 pub mod Searched
+pub mod ListedPins
+pub mod Marking
+pub mod Laying

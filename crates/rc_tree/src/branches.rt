@@ -1,18 +1,19 @@
 //! The tree of a net with resistors.
-ghost use Rattle.std.specs.Prelude.{◌≡◌, ◌+◌, ◌*◌, ◌<◌, ◌≤◌, length, IfOk, IfErr, OnOk};
-ghost use Rattle.rc_tree.specs.Pins.{pin_nodes};
+ghost use Rattle.std.specs.Prelude.{◌≡◌, ℕ, ◌+◌, ◌*◌, ◌<◌, ◌≤◌, length, slice_index, IfOk, IfErr, OnOk};
+ghost use Rattle.rc_tree.specs.Arenas.{node_count};
 ghost use Rattle.rc_tree.specs.Builds.{IsFit, IsTreeEnd, IsTreeOf};
 ghost use Rattle.rc_tree.specs.FoundSearch.{search_of};
-ghost use Rattle.rc_tree.specs.Searched.{Searched, IsComplete, all_nodes};
+ghost use Rattle.rc_tree.specs.Layouts.{layout_of};
+ghost use Rattle.rc_tree.specs.Laying.{IsLaid};
+ghost use Rattle.rc_tree.specs.Searched.{IsNumbered, IsExplored, IsComplete};
 
 use crate::ends::TreeEnd;
-use crate::explored::Explored;
-use crate::laying::{first_zero, places_of, sinks_of};
+use crate::found::Found;
+use crate::laying::{first_zero, places_of};
 use crate::layout::NodeLayout;
-use crate::names::name_of;
-use crate::node_table::NodeTable;
-use crate::numbering::{copy_ends, number_section};
-use crate::pins::PinLoads;
+use crate::numbered::Numbered;
+use crate::numbering::copy_ends;
+use crate::pin_source::PinSource;
 use crate::planting::plant;
 use crate::searching::search;
 use crate::tree::RcTree;
@@ -22,111 +23,126 @@ use spef_nets::Section;
 use std::alloc::Global;
 use std::sync::ledger::Ledger;
 
-/// The tree of a net with resistors, whose pins are in the table.
-pub fn branched<C: CornerSet, L: Ledger>(
+/// The tree of a net with resistors, whose nodes are numbered.
+pub fn branched<C: CornerSet, P: PinSource<C>, L: Ledger>(
     alloc: Global,
     section: &Section<C>,
-    pins: &PinLoads<C>,
-    table: NodeTable,
+    pins: &P,
+    numbered: Numbered,
     steps: &mut Steps<L>,
 ) -> Result<RcTree<C>, TreeEnd>
-    requires fit { IsFit section.now pins.now }
+    requires fit { IsFit section.now (P.pins pins.now section.now) }
     requires some { 0 < length section.now.joints }
-    requires few { length section.now.caps ≤ 2 * section.now.written + 1 }
-    requires table { table ≡ pin_nodes pins.now }
-    ensures tree { IfOk result (λ tree. IsTreeOf C.COUNT section.now pins.now tree) }
-    ensures refused { IfErr result (λ end. IsTreeEnd C.COUNT section.now pins.now end) }
+    requires numbered { IsNumbered section.now (P.pins pins.now section.now) numbered.spots.items numbered.count }
+    ensures tree { IfOk result (λ tree. IsTreeOf C.COUNT section.now (P.pins pins.now section.now) tree) }
+    ensures nodes { IfOk result (λ tree. node_count tree ≤ length section.now.joints + 1) }
+    ensures refused { IfErr result (λ end. IsTreeEnd C.COUNT section.now (P.pins pins.now section.now) end) }
     ensures steps { steps.new ≤ steps.old + length section.now.joints + C.COUNT * (length section.now.joints + length section.now.caps) }
 {
-    let Ok(explored) = explore(alloc, section, pins, table, steps) else {
+    let Ok(found) = explore(alloc, section, &numbered, steps) else {
         return Err(TreeEnd::OutOfMemory);
     };
-    judge(alloc, section, pins, &explored)?;
-    match grow(alloc, section, pins, explored, steps) {
+    judge(alloc, section, pins, &numbered, &found)?;
+    match grow(alloc, section, pins, numbered, found, steps) {
         Ok(tree) => Ok(tree),
         Err(_) => Err(TreeEnd::OutOfMemory),
     }
 }
 
-// Numbers the nodes and searches them: one step a resistor.
+// Searches the nodes: one step a resistor.
 fn explore<C: CornerSet, L: Ledger>(
     alloc: Global,
     section: &Section<C>,
-    pins: &PinLoads<C>,
-    table: NodeTable,
+    numbered: &Numbered,
     steps: &mut Steps<L>,
-) -> Result<Explored, OutOfMemory>
-    requires some { 0 < length section.now.joints }
-    requires table { table ≡ pin_nodes pins.now }
-    ensures explored { IfOk result (λ e. Searched section.now pins.now (all_nodes section.now pins.now) e.spots.items e.froms.items e.tos.items (search_of e.found)) }
+) -> Result<Found, OutOfMemory>
+    requires some { 0 < numbered.now.count }
+    requires size { length numbered.now.spots.items ≡ length section.now.nodes }
+    requires spots { (node : ℕ) → node < length numbered.now.spots.items → slice_index numbered.now.spots.items node < numbered.now.count }
+    ensures explored { IfOk result (λ found. IsExplored section.now numbered.now.spots.items numbered.now.count (search_of found)) }
     ensures steps { steps.new ≤ steps.old + length section.now.joints }
 {
-    let mut table = table;
-    let spots = number_section(alloc, &mut table, section)?;
     let Some(corner) = C::nth(0) else {
         return Err(OutOfMemory);
     };
-    let ends = copy_ends(alloc, section, &spots, corner, steps)?;
-    let found = search(alloc, &ends.froms, &ends.tos, table.len())?;
-    Ok(Explored {
-        spots,
-        froms: ends.froms,
-        tos: ends.tos,
-        found,
-    })
+    let ends = copy_ends(alloc, section, &numbered.spots, corner, steps)?;
+    let found = search(alloc, &ends.froms, &ends.tos, numbered.count)?;
+    Ok(found)
 }
 
 // Whether the net is a tree: every node is found, and each resistor is the link of one.
-fn judge<C: CornerSet>(
+fn judge<C: CornerSet, P: PinSource<C>>(
     alloc: Global,
     section: &Section<C>,
-    pins: &PinLoads<C>,
-    explored: &Explored,
+    pins: &P,
+    numbered: &Numbered,
+    found: &Found,
 ) -> Result<(), TreeEnd>
-    requires fit { IsFit section.now pins.now }
-    requires explored { Searched section.now pins.now (all_nodes section.now pins.now) explored.now.spots.items explored.now.froms.items explored.now.tos.items (search_of explored.now.found) }
-    ensures complete { OnOk result (IsComplete (search_of explored.now.found)) }
-    ensures refused { IfErr result (λ end. IsTreeEnd C.COUNT section.now pins.now end) }
+    requires fit { IsFit section.now (P.pins pins.now section.now) }
+    requires some { 0 < length section.now.joints }
+    requires numbered { IsNumbered section.now (P.pins pins.now section.now) numbered.now.spots.items numbered.now.count }
+    requires explored { IsExplored section.now numbered.now.spots.items numbered.now.count (search_of found.now) }
+    ensures complete { OnOk result (IsComplete (search_of found.now)) }
+    ensures refused { IfErr result (λ end. IsTreeEnd C.COUNT section.now (P.pins pins.now section.now) end) }
 {
-    if let Some(node) = first_zero(&explored.found.numbers) {
-        return match name_of(alloc, section, pins, &explored.spots, node) {
+    if let Some(node) = first_zero(&found.numbers) {
+        return match pins.name_at(alloc, section, numbered, node) {
             Ok(name) => Err(TreeEnd::Unreached(name)),
             Err(_) => Err(TreeEnd::OutOfMemory),
         };
     }
-    if let Some(place) = first_zero(&explored.found.links) {
+    if let Some(place) = first_zero(&found.links) {
         return Err(TreeEnd::Mesh(place));
     }
     Ok(())
 }
 
 // The tree of a net that is one.
-fn grow<C: CornerSet, L: Ledger>(
+fn grow<C: CornerSet, P: PinSource<C>, L: Ledger>(
     alloc: Global,
     section: &Section<C>,
-    pins: &PinLoads<C>,
-    explored: Explored,
+    pins: &P,
+    numbered: Numbered,
+    found: Found,
     steps: &mut Steps<L>,
 ) -> Result<RcTree<C>, OutOfMemory>
-    requires fit { IsFit section.now pins.now }
-    requires few { length section.now.caps ≤ 2 * section.now.written + 1 }
-    requires explored { Searched section.now pins.now (all_nodes section.now pins.now) explored.spots.items explored.froms.items explored.tos.items (search_of explored.found) }
-    requires complete { IsComplete (search_of explored.found) }
-    ensures tree { IfOk result (λ tree. IsTreeOf C.COUNT section.now pins.now tree) }
+    requires fit { IsFit section.now (P.pins pins.now section.now) }
+    requires some { 0 < length section.now.joints }
+    requires numbered { IsNumbered section.now (P.pins pins.now section.now) numbered.spots.items numbered.count }
+    requires explored { IsExplored section.now numbered.spots.items numbered.count (search_of found) }
+    requires complete { IsComplete (search_of found) }
+    ensures tree { IfOk result (λ tree. IsTreeOf C.COUNT section.now (P.pins pins.now section.now) tree) }
+    ensures nodes { IfOk result (λ tree. node_count tree ≤ length section.now.joints + 1) }
     ensures steps { steps.new ≤ steps.old + C.COUNT * (length section.now.joints + length section.now.caps) }
 {
-    let Explored {
-        spots,
-        froms: _,
-        tos: _,
-        found,
-    } = explored;
-    let layout = NodeLayout {
-        spots: places_of(alloc, &spots, &found.numbers)?,
-        sinks: sinks_of(alloc, pins.sinks.len(), &found.numbers)?,
-        parents: found.parents,
-        vias: found.vias,
-    };
+    let layout = lay(alloc, section, pins, numbered, found)?;
+    // at most two for each that is written
+    section.cap_count();
     let tree = plant(alloc, section, pins, layout, steps)?;
     Ok(tree)
+}
+
+// Where everything stands in the tree. What is not needed any more is let go of.
+fn lay<C: CornerSet, P: PinSource<C>>(
+    alloc: Global,
+    section: &Section<C>,
+    pins: &P,
+    numbered: Numbered,
+    found: Found,
+) -> Result<NodeLayout, OutOfMemory>
+    requires fit { IsFit section.now (P.pins pins.now section.now) }
+    requires some { 0 < length section.now.joints }
+    requires numbered { IsNumbered section.now (P.pins pins.now section.now) numbered.spots.items numbered.count }
+    requires explored { IsExplored section.now numbered.spots.items numbered.count (search_of found) }
+    requires complete { IsComplete (search_of found) }
+    ensures { IfOk result (λ layout. IsLaid section.now (P.pins pins.now section.now) numbered.spots.items (search_of found) (layout_of layout)) }
+{
+    let sinks = pins.sinks_in(alloc, section, &numbered, &found.numbers)?;
+    let spots = places_of(alloc, &numbered.spots, &found.numbers)?;
+    Ok(NodeLayout {
+        parents: found.parents,
+        vias: found.vias,
+        spots,
+        sinks,
+    })
 }

@@ -1,6 +1,6 @@
 //! The tree of a net, or why it has none.
 ghost use Rattle.std.specs.Prelude.{◌≡◌, ◌+◌, ◌*◌, ◌<◌, ◌≤◌, IsTrue, ◌↔◌, length, IfOk, IfErr};
-ghost use Rattle.rc_tree.specs.Arenas.{most_elements};
+ghost use Rattle.rc_tree.specs.Arenas.{most_elements, node_count};
 ghost use Rattle.rc_tree.specs.Pins.{pin_nodes};
 ghost use Rattle.rc_tree.specs.SectionNets.{IsTooLarge};
 ghost use Rattle.rc_tree.specs.Builds.{IsFit, IsTreeEnd, IsTreeOf};
@@ -8,7 +8,9 @@ ghost use Rattle.rc_tree.specs.Builds.{IsFit, IsTreeEnd, IsTreeOf};
 use crate::branches::branched;
 use crate::ends::TreeEnd;
 use crate::lone::lone;
-use crate::numbering::{first_strange, number_pins};
+use crate::numbered::Numbered;
+use crate::numbering::{first_strange, number_pins, number_section};
+use crate::pin_source::PinSource;
 use crate::pins::PinLoads;
 use crate::tree::RcTree;
 use corner_set::CornerSet;
@@ -20,8 +22,8 @@ use std::sync::ledger::Ledger;
 /// The most resistors of a net, and the most written capacitances and pins together.
 pub(crate) const MOST: usize = 524_288;
 
-/// The tree of a net, from its section and its pins. It makes at most one step for each resistor, and at each corner one for
-/// each resistor and each capacitance to ground.
+/// The tree of a net, from its section and its pins. It has at most one node more than the section has resistors. It makes at
+/// most one step for each resistor, and at each corner one for each resistor and each capacitance to ground.
 ///
 /// Nodes are numbered as in IEEE 1481: those of the pins first, the driver's before all, and then those of the section by first
 /// place. A net is a tree where walks over its resistors reach every node from the driver's, and each resistor cuts some node off.
@@ -32,10 +34,11 @@ pub fn build<C: CornerSet, L: Ledger>(
     steps: &mut Steps<L>,
 ) -> Result<RcTree<C>, TreeEnd>
     ensures tree { IfOk result (λ tree. IsTreeOf C.COUNT section.now pins.now tree) }
+    ensures nodes { IfOk result (λ tree. node_count tree ≤ length section.now.joints + 1) }
     ensures refused { IfErr result (λ end. IsTreeEnd C.COUNT section.now pins.now end) }
     ensures steps { steps.new ≤ steps.old + length section.now.joints + C.COUNT * (length section.now.joints + length section.now.caps) }
 {
-    let Ok(table) = number_pins(alloc, pins) else {
+    let Ok(mut table) = number_pins(alloc, pins) else {
         return Err(TreeEnd::OutOfMemory);
     };
     match first_strange(alloc, &table, section) {
@@ -46,25 +49,29 @@ pub fn build<C: CornerSet, L: Ledger>(
     if is_too_large(section, pins) {
         return Err(TreeEnd::TooLarge);
     }
-    // A section that was read has at most two capacitances for each that is written, but no contract tells it.
-    if section.cap_count() / 2 > section.written_caps() {
-        return Err(TreeEnd::OutOfMemory);
-    }
     if section.res_count() == 0 {
         return match lone(alloc, section, pins, steps) {
             Ok(tree) => Ok(tree),
             Err(_) => Err(TreeEnd::OutOfMemory),
         };
     }
-    branched(alloc, section, pins, table, steps)
+    let Ok(spots) = number_section(alloc, &mut table, section) else {
+        return Err(TreeEnd::OutOfMemory);
+    };
+    let numbered = Numbered {
+        spots,
+        count: table.len(),
+    };
+    branched(alloc, section, pins, numbered, steps)
 }
 
-// Whether there are too many resistors, or too many written capacitances and pins.
-fn is_too_large<C: CornerSet>(section: &Section<C>, pins: &PinLoads<C>) -> bool
-    ensures { IsTrue result ↔ IsTooLarge section.now pins.now }
+/// Whether there are too many resistors, or too many written capacitances and pins.
+pub fn is_too_large<C: CornerSet, P: PinSource<C>>(section: &Section<C>, pins: &P) -> bool
+    ensures { IsTrue result ↔ IsTooLarge section.now (P.pins pins.now section.now) }
 {
-    let sinks = pins.sinks.len();
+    let sinks = pins.sink_count(section);
     section.res_count() > MOST
         || section.written_caps() > MOST
+        || sinks >= MOST
         || section.written_caps() + sinks >= MOST
 }

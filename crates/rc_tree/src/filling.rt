@@ -7,7 +7,7 @@ ghost use Rattle.rc_tree.specs.Numbering.{section_farads, sink_farads};
 ghost use Rattle.rc_tree.specs.Filling.{KeepsOhms, KeepsFarads};
 
 use crate::node_ids::NodeId;
-use crate::pins::PinLoads;
+use crate::pin_source::PinSource;
 use corner_set::{CornerSet, Grid};
 use delay_units::{Farads, Ohms};
 use edge_io::Steps;
@@ -63,21 +63,22 @@ pub fn fill_farads<C: CornerSet, L: Ledger>(
 }
 
 /// Adds the loads of the sinks at their rows.
-pub fn fill_loads<C: CornerSet>(
-    pins: &PinLoads<C>,
+pub fn fill_loads<C: CornerSet, P: PinSource<C>>(
+    section: &Section<C>,
+    pins: &P,
     sinks: &[NodeId],
     corner: C::Index,
     farads: &mut Grid<C, Farads>,
 )
-    requires sinks_len { length sinks.now ≡ length pins.now.sinks }
+    requires sinks_len { length sinks.now ≡ length (P.pins pins.now section.now).sinks }
     requires sinks { (sink : ℕ) → sink < length sinks.now → HasRow C.COUNT farads.old (slice_index_or sinks.now sink (record { 0 = 0 })).0 }
     requires small { (row : ℕ) → HasRow C.COUNT farads.old row → farads_at C.COUNT farads.old row (C.number_of corner) + length sinks.now * most_farads ≤ 2 * most_elements * most_farads }
-    ensures nodes { (row : ℕ) → HasRow C.COUNT farads.old row → farads_at C.COUNT farads.new row (C.number_of corner) ≡ farads_at C.COUNT farads.old row (C.number_of corner) + sink_farads C.COUNT pins.now sinks.now (C.number_of corner) row }
-    ensures each { (sink : ℕ) → sink < length sinks.now → farads_at C.COUNT pins.now.loads sink (C.number_of corner) ≤ most_farads }
+    ensures nodes { (row : ℕ) → HasRow C.COUNT farads.old row → farads_at C.COUNT farads.new row (C.number_of corner) ≡ farads_at C.COUNT farads.old row (C.number_of corner) + sink_farads C.COUNT (P.pins pins.now section.now) sinks.now (C.number_of corner) row }
+    ensures each { (sink : ℕ) → sink < length sinks.now → farads_at C.COUNT (P.pins pins.now section.now).loads sink (C.number_of corner) ≤ most_farads }
     ensures others { KeepsFarads C.COUNT farads.old farads.new (C.number_of corner) }
 {
     for sink in 0..sinks.len() {
-        let value = pins.load(sink, corner);
+        let value = pins.sink_load(section, sink, corner);
         add_farads(farads, sinks[sink].0 as usize, corner, value);
     }
 }

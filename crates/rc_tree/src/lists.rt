@@ -8,8 +8,15 @@ use std::alloc::Global;
 pub fn zeros(alloc: Global, many: usize) -> Result<Vec<usize>, OutOfMemory>
     ensures { IfOk result (λ values. values.items ≡ replicate many 0) }
 {
+    filled(alloc, many, 0)
+}
+
+/// So many times one number.
+pub fn filled(alloc: Global, many: usize, value: usize) -> Result<Vec<usize>, OutOfMemory>
+    ensures { IfOk result (λ values. values.items ≡ replicate many value) }
+{
     let mut values = Vec::with_capacity(alloc, many)?;
-    values.resize(many, 0)?;
+    values.resize(many, value)?;
     Ok(values)
 }
 

@@ -1,11 +1,12 @@
 //! The tree of a net without resistors: the driver's node alone, with all capacitance.
 ghost use Rattle.std.specs.Prelude.{◌≡◌, ◌+◌, ◌*◌, ◌≤◌, length, IfOk};
+ghost use Rattle.rc_tree.specs.Arenas.{node_count};
 ghost use Rattle.rc_tree.specs.Builds.{IsFit, IsTreeOf};
 
 use crate::laying::sinks_of;
 use crate::layout::NodeLayout;
 use crate::lists::zeros;
-use crate::pins::PinLoads;
+use crate::pin_source::PinSource;
 use crate::planting::plant;
 use crate::tree::RcTree;
 use corner_set::CornerSet;
@@ -15,19 +16,19 @@ use std::alloc::Global;
 use std::sync::ledger::Ledger;
 
 /// The tree of a net without resistors.
-pub fn lone<C: CornerSet, L: Ledger>(
+pub fn lone<C: CornerSet, P: PinSource<C>, L: Ledger>(
     alloc: Global,
     section: &Section<C>,
-    pins: &PinLoads<C>,
+    pins: &P,
     steps: &mut Steps<L>,
 ) -> Result<RcTree<C>, OutOfMemory>
-    requires fit { IsFit section.now pins.now }
+    requires fit { IsFit section.now (P.pins pins.now section.now) }
     requires none { length section.now.joints ≡ 0 }
-    requires few { length section.now.caps ≤ 2 * section.now.written + 1 }
-    ensures tree { IfOk result (λ tree. IsTreeOf C.COUNT section.now pins.now tree) }
+    ensures tree { IfOk result (λ tree. IsTreeOf C.COUNT section.now (P.pins pins.now section.now) tree) }
+    ensures nodes { IfOk result (λ tree. node_count tree ≤ 1) }
     ensures steps { steps.new ≤ steps.old + C.COUNT * length section.now.caps }
 {
-    let sinks = pins.sinks.len();
+    let sinks = pins.sink_count(section);
     let numbers = zeros(alloc, sinks + 1)?;
     let layout = NodeLayout {
         parents: zeros(alloc, 1)?,
@@ -35,6 +36,8 @@ pub fn lone<C: CornerSet, L: Ledger>(
         spots: zeros(alloc, section.node_count())?,
         sinks: sinks_of(alloc, sinks, &numbers)?,
     };
+    // at most two for each that is written
+    section.cap_count();
     let tree = plant(alloc, section, pins, layout, steps)?;
     Ok(tree)
 }

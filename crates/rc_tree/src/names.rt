@@ -1,8 +1,7 @@
 //! Names of nodes.
-ghost use Rattle.std.specs.Prelude.{◌≡◌, length, IfOk};
-ghost use Rattle.rc_tree.specs.Searched.{IsNameAt};
+ghost use Rattle.std.specs.Prelude.{◌≡◌, ℕ, length, slice_get, slice_index, Some, IfOk};
 
-use crate::pins::PinLoads;
+use crate::numbered::Numbered;
 use corner_set::CornerSet;
 use edge_io::{OutOfMemory, Text};
 use name_table::NodeName;
@@ -22,25 +21,18 @@ pub fn copy_name(alloc: Global, name: &NodeName) -> Result<NodeName, OutOfMemory
     Ok(NodeName { head, tail, sdf })
 }
 
-/// A name of the node of a number: as the pins have it, or as the section has it, whose nodes have these numbers.
-pub fn name_of<C: CornerSet>(
+/// A name of the node of a number, as the section has it.
+pub fn section_name<C: CornerSet>(
     alloc: Global,
     section: &Section<C>,
-    pins: &PinLoads<C>,
-    spots: &[usize],
+    numbered: &Numbered,
     number: usize,
 ) -> Result<NodeName, OutOfMemory>
-    requires { length spots.now ≡ length section.now.nodes }
-    ensures { IfOk result (λ name. IsNameAt section.now pins.now spots.now number name) }
+    requires { length numbered.now.spots.items ≡ length section.now.nodes }
+    ensures { IfOk result (λ name. (place : ℕ) × (slice_index numbered.now.spots.items place ≡ number) × (slice_get section.now.nodes place ≡ Some name)) }
 {
-    if number == 0 {
-        return copy_name(alloc, &pins.driver);
-    }
-    if number <= pins.sinks.len() {
-        return copy_name(alloc, &pins.sinks[number - 1]);
-    }
     for place in 0..section.node_count() {
-        if spots[place] == number {
+        if numbered.spots[place] == number {
             return copy_name(alloc, section.node(place));
         }
     }

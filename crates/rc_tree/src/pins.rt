@@ -1,14 +1,20 @@
 //! The pins of a net.
-ghost use Rattle.std.specs.Prelude.{◌≡◌, ◌<◌, ◌≤◌, [], ◌∷◌, ◌++◌, length, Some, All, Contains, OnOk, OnErr, slice_get};
+ghost use Rattle.std.specs.Prelude.{◌≡◌, ℕ, ◌+◌, ◌<◌, ◌≤◌, [], ◌∷◌, ◌++◌, length, Some, All, Contains, OnOk, OnErr, IfOk, slice_get, slice_index};
 ghost use Rattle.corner_set.specs.Places.{HasRow, value_at};
-ghost use Rattle.rc_tree.specs.Arenas.{most_farads};
+ghost use Rattle.rc_tree.specs.Arenas.{most_elements, most_farads};
 ghost use Rattle.rc_tree.specs.Nodes.{node_of};
 ghost use Rattle.rc_tree.specs.Pins.{pin_nodes, row_of};
+ghost use Rattle.rc_tree.specs.Searched.{IsNumbered, IsNameAt, AreSinks};
 
+use crate::laying::sinks_of;
+use crate::names::{copy_name, section_name};
+use crate::node_ids::NodeId;
+use crate::numbered::Numbered;
 use corner_set::{CornerSet, Grid};
 use delay_units::Farads;
 use edge_io::OutOfMemory;
 use name_table::NodeName;
+use spef_nets::Section;
 use std::alloc::Global;
 use std::marker::{Model, PhantomData};
 
@@ -112,6 +118,46 @@ impl<C: CornerSet> PinLoads<C> {
         ensures most { result.0 ≤ most_farads }
     {
         self.loads[sink * C::COUNT + C::number(corner)]
+    }
+
+    /// Where the sinks stand in the order of a search, which gives one more than the place of each node.
+    pub(crate) fn places(
+        &self,
+        alloc: Global,
+        section: &Section<C>,
+        numbered: &Numbered,
+        numbers: &[usize],
+    ) -> Result<Vec<NodeId>, OutOfMemory>
+        requires numbered { IsNumbered section.now self.now numbered.now.spots.items numbered.now.count }
+        requires every { length numbers.now ≡ numbered.now.count }
+        requires few { (k : ℕ) → k < length numbers.now → slice_index numbers.now k ≤ most_elements + 1 }
+        ensures size { IfOk result (λ sinks. length sinks.items ≡ length self.now.sinks) }
+        ensures sinks { IfOk result (λ sinks. AreSinks section.now self.now numbers.now sinks.items) }
+    {
+        let sinks = sinks_of(alloc, self.sinks.len(), numbers)?;
+        Ok(sinks)
+    }
+
+    /// A name of the node of a number: as the pins have it, or as the section has it.
+    pub(crate) fn name(
+        &self,
+        alloc: Global,
+        section: &Section<C>,
+        numbered: &Numbered,
+        number: usize,
+    ) -> Result<NodeName, OutOfMemory>
+        requires { IsNumbered section.now self.now numbered.now.spots.items numbered.now.count }
+        ensures { IfOk result (λ name. IsNameAt section.now self.now number name) }
+    {
+        if number == 0 {
+            return copy_name(alloc, &self.driver);
+        }
+        if number <= self.sinks.len() {
+            let name = copy_name(alloc, self.sink(number - 1))?;
+            return Ok(name);
+        }
+        let name = section_name(alloc, section, numbered, number)?;
+        Ok(name)
     }
 }
 

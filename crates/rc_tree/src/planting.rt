@@ -7,7 +7,7 @@ ghost use Rattle.rc_tree.specs.Layouts.{layout_of};
 
 use crate::filling::{fill_farads, fill_loads, fill_ohms};
 use crate::layout::NodeLayout;
-use crate::pins::PinLoads;
+use crate::pin_source::PinSource;
 use crate::tree::RcTree;
 use corner_set::{CornerSet, Grid};
 use delay_units::{Farads, Ohms};
@@ -18,18 +18,18 @@ use std::sync::ledger::Ledger;
 
 /// The tree with the values of the section and the pins: at each corner one step for each link and each capacitance of the
 /// section.
-pub fn plant<C: CornerSet, L: Ledger>(
+pub fn plant<C: CornerSet, P: PinSource<C>, L: Ledger>(
     alloc: Global,
     section: &Section<C>,
-    pins: &PinLoads<C>,
+    pins: &P,
     layout: NodeLayout,
     steps: &mut Steps<L>,
 ) -> Result<RcTree<C>, OutOfMemory>
-    requires { IsLayout section.now pins.now (layout_of layout) }
+    requires { IsLayout section.now (P.pins pins.now section.now) (layout_of layout) }
     ensures parents { IfOk result (λ tree. tree.parents ≡ layout.parents.items) }
     ensures sinks { IfOk result (λ tree. tree.sinks ≡ layout.sinks.items) }
     ensures whole { IfOk result (λ tree. IsArena C.COUNT tree) }
-    ensures filled { IfOk result (λ tree. (number : ℕ) → number < C.COUNT → IsFilled C.COUNT section.now pins.now (layout_of layout) tree.ohms tree.farads number) }
+    ensures filled { IfOk result (λ tree. (number : ℕ) → number < C.COUNT → IsFilled C.COUNT section.now (P.pins pins.now section.now) (layout_of layout) tree.ohms tree.farads number) }
     ensures steps { steps.new + C.COUNT ≤ steps.old + C.COUNT * (length layout.parents.items + length section.now.caps) }
 {
     let nodes = layout.parents.len();
@@ -51,20 +51,20 @@ pub fn plant<C: CornerSet, L: Ledger>(
 }
 
 // Fills all corners.
-fn fill_all<C: CornerSet, L: Ledger>(
+fn fill_all<C: CornerSet, P: PinSource<C>, L: Ledger>(
     section: &Section<C>,
-    pins: &PinLoads<C>,
+    pins: &P,
     layout: &NodeLayout,
     ohms: &mut Grid<C, Ohms>,
     farads: &mut Grid<C, Farads>,
     steps: &mut Steps<L>,
 )
-    requires layout { IsLayout section.now pins.now (layout_of layout.now) }
+    requires layout { IsLayout section.now (P.pins pins.now section.now) (layout_of layout.now) }
     requires ohms_rows { length ohms.old ≡ length layout.now.parents.items * C.COUNT }
     requires farads_rows { length farads.old ≡ length layout.now.parents.items * C.COUNT }
     requires no_ohms { (row number : ℕ) → ohms_at C.COUNT ohms.old row number ≡ 0 }
     requires no_farads { (row number : ℕ) → farads_at C.COUNT farads.old row number ≡ 0 }
-    ensures filled { (number : ℕ) → number < C.COUNT → IsFilled C.COUNT section.now pins.now (layout_of layout.now) ohms.new farads.new number }
+    ensures filled { (number : ℕ) → number < C.COUNT → IsFilled C.COUNT section.now (P.pins pins.now section.now) (layout_of layout.now) ohms.new farads.new number }
     ensures ohms_size { length ohms.new ≡ length ohms.old }
     ensures farads_size { length farads.new ≡ length farads.old }
     ensures steps { steps.new + C.COUNT ≤ steps.old + C.COUNT * (length layout.now.parents.items + length section.now.caps) }
@@ -77,26 +77,26 @@ fn fill_all<C: CornerSet, L: Ledger>(
 }
 
 // Fills one corner.
-fn fill_corner<C: CornerSet, L: Ledger>(
+fn fill_corner<C: CornerSet, P: PinSource<C>, L: Ledger>(
     section: &Section<C>,
-    pins: &PinLoads<C>,
+    pins: &P,
     layout: &NodeLayout,
     corner: C::Index,
     ohms: &mut Grid<C, Ohms>,
     farads: &mut Grid<C, Farads>,
     steps: &mut Steps<L>,
 )
-    requires layout { IsLayout section.now pins.now (layout_of layout.now) }
+    requires layout { IsLayout section.now (P.pins pins.now section.now) (layout_of layout.now) }
     requires ohms_rows { length ohms.old ≡ length layout.now.parents.items * C.COUNT }
     requires farads_rows { length farads.old ≡ length layout.now.parents.items * C.COUNT }
     requires no_ohms { (row : ℕ) → ohms_at C.COUNT ohms.old row (C.number_of corner) ≡ 0 }
     requires no_farads { (row : ℕ) → farads_at C.COUNT farads.old row (C.number_of corner) ≡ 0 }
-    ensures filled { IsFilled C.COUNT section.now pins.now (layout_of layout.now) ohms.new farads.new (C.number_of corner) }
+    ensures filled { IsFilled C.COUNT section.now (P.pins pins.now section.now) (layout_of layout.now) ohms.new farads.new (C.number_of corner) }
     ensures ohms { KeepsOhms C.COUNT ohms.old ohms.new (C.number_of corner) }
     ensures farads { KeepsFarads C.COUNT farads.old farads.new (C.number_of corner) }
     ensures steps { steps.new + 1 ≤ steps.old + (length layout.now.parents.items + length section.now.caps) }
 {
     fill_ohms(section, &layout.vias, corner, ohms, steps);
     fill_farads(section, &layout.spots, corner, farads, steps);
-    fill_loads(pins, &layout.sinks, corner, farads);
+    fill_loads(section, pins, &layout.sinks, corner, farads);
 }

@@ -1,7 +1,7 @@
 //! Nets of small files. The expected answers were worked by hand.
 ghost use Rattle.std.specs.Prelude.{◌≡◌, ◌<◌, ◌^◌, length, None, IfSome};
 
-use crate::{PinLoads, RcTree, TreeEnd, build};
+use crate::{PinLoads, RcTree, TreeEnd, build, build_listed};
 use corner_set::{Grid, Pick, Single};
 use delay_units::Farads;
 use edge_io::{Steps, Text};
@@ -72,7 +72,11 @@ fn ending<L: Ledger>(alloc: Global, section: &Section<Single>, blank: Blank) -> 
         return (5, 0);
     };
     let mut steps = Steps::<L>::new(blank);
-    match build(alloc, section, &pins, &mut steps) {
+    told(build(alloc, section, &pins, &mut steps))
+}
+
+fn told(ending: Result<RcTree<Single>, TreeEnd>) -> (u8, usize) {
+    match ending {
         Ok(tree) => (0, tree.len()),
         Err(TreeEnd::StrangePin(name)) => (1, name.head.len()),
         Err(TreeEnd::TooLarge) => (2, 0),
@@ -80,6 +84,24 @@ fn ending<L: Ledger>(alloc: Global, section: &Section<Single>, blank: Blank) -> 
         Err(TreeEnd::Mesh(place)) => (4, place),
         Err(TreeEnd::OutOfMemory) => (5, 0),
     }
+}
+
+/// How it ends where the connection at this place drives, and the others are the sinks.
+fn listed_ending<L: Ledger>(
+    alloc: Global,
+    section: &Section<Single>,
+    driver: usize,
+    blank: Blank,
+) -> (u8, usize)
+    requires name { blank.name ≡ L.name }
+    requires parts { blank.parts ≡ L.parts }
+    requires some_part { 0 < blank.parts }
+{
+    if driver >= section.conn_count() {
+        return (6, 0);
+    }
+    let mut steps = Steps::<L>::new(blank);
+    told(build_listed(alloc, section, driver, &mut steps))
 }
 
 /// How the building of the first net of a file ends; 6 where there is none.
@@ -93,6 +115,55 @@ fn end_of(alloc: Global, bytes: &[u8]) -> (u8, usize)
         return (6, 0);
     }
     ending::<Brand>(alloc, sections.get(0), Blank::new(1))
+}
+
+fn listed_end_of(alloc: Global, bytes: &[u8], driver: usize) -> (u8, usize)
+    requires { length bytes.now < 2 ^ 30 }
+{
+    let Some(sections) = sections(alloc, bytes) else {
+        return (6, 0);
+    };
+    if sections.len() == 0 {
+        return (6, 0);
+    }
+    listed_ending::<Brand>(alloc, sections.get(0), driver, Blank::new(1))
+}
+
+/// A section, the place of its driver, and how it ends.
+const LISTED: [(&[u8], usize, (u8, usize)); 5] = [
+    (
+        b"*SPEF *C_UNIT 1 FF *R_UNIT 1 OHM *D_NET n 16 *CONN *I s I *I d O *I t I *CAP 1 n:1 10 2 s 5 3 t 1 *RES 1 d n:1 100 2 n:1 s 200 3 n:1 t 50 *END",
+        1,
+        (0, 4),
+    ),
+    (
+        b"*SPEF *C_UNIT 1 FF *R_UNIT 1 OHM *D_NET n 16 *CONN *I d O *I s I *CAP 1 n:1 10 *END",
+        0,
+        (0, 1),
+    ),
+    (
+        b"*SPEF *C_UNIT 1 FF *R_UNIT 1 OHM *D_NET n 16 *CONN *I d O *I s I *I far I *RES 1 d s 1 *END",
+        0,
+        (3, 3),
+    ),
+    (
+        b"*SPEF *C_UNIT 1 FF *R_UNIT 1 OHM *D_NET n 16 *CONN *I d O *I s I *RES 1 d s 1 2 s d 1 *END",
+        0,
+        (4, 1),
+    ),
+    (
+        b"*SPEF *C_UNIT 1 FF *R_UNIT 1 OHM *D_NET n 16 *CONN *I d O *I s I *CAP 1 last:1 0 *RES 1 d s 0 2 last:1 last:1 1 *END",
+        0,
+        (3, 4),
+    ),
+];
+
+#[test]
+fn listed_nets_end_as_they_should(rt: HostRuntime) -> Result<(), Fail> {
+    for (bytes, driver, end) in &LISTED {
+        assert_eq!(rt; listed_end_of(rt.alloc(), bytes, *driver), *end);
+    }
+    Ok(())
 }
 
 /// A section, and how it ends.

@@ -54,7 +54,14 @@ impl<C: CornerSet> RcTree<C> {
         self.parents.len()
     }
 
-    /// The node of the sink that was added k-th to the pins, from 0.
+    /// How many sinks there are.
+    pub fn sink_count(&self) -> usize
+        ensures { result ≡ length self.now.sinks }
+    {
+        self.sinks.len()
+    }
+
+    /// The node of the k-th sink of the pins, from 0.
     pub fn sink(&self, k: usize) -> NodeId
         requires { k < length self.now.sinks }
         ensures sink { slice_get self.now.sinks k ≡ Some result }

@@ -31,9 +31,9 @@ loop-number-preserved g c =
           let same = same_Some w.in-Some.corner law.0 (sym w.in-Some.is ∙ c.nth.ensures ∙ law.1) in
           let is : g.C.CornerSet.number_of w.in-Some.corner ≡ c.loop-number.number = ap g.C.CornerSet.number_of same ∙ law.2 in
           record {
-            state = subst (λ f. Corners g.C.CornerSet.COUNT c.args.section.now c.args.pins.now (layout_of c.args.layout.now) c.match-nth.ohms f (c.loop-number.number + 1)) (sym w.farads-is)
-                (subst (λ o. Corners g.C.CornerSet.COUNT c.args.section.now c.args.pins.now (layout_of c.args.layout.now) o w.fill_corner.new.farads (c.loop-number.number + 1)) (sym w.ohms-is)
-                (corners_step g.C.CornerSet.COUNT c.args.section.now c.args.pins.now (layout_of c.args.layout.now) c.loop-number.ohms w.fill_corner.new.ohms c.loop-number.farads w.fill_corner.new.farads (g.C.CornerSet.number_of w.in-Some.corner) c.loop-number.number
+            state = subst (λ f. Corners g.C.CornerSet.COUNT c.args.section.now (g.P.PinSource.pins c.args.pins.now c.args.section.now) (layout_of c.args.layout.now) c.match-nth.ohms f (c.loop-number.number + 1)) (sym w.farads-is)
+                (subst (λ o. Corners g.C.CornerSet.COUNT c.args.section.now (g.P.PinSource.pins c.args.pins.now c.args.section.now) (layout_of c.args.layout.now) o w.fill_corner.new.farads (c.loop-number.number + 1)) (sym w.ohms-is)
+                (corners_step g.C.CornerSet.COUNT c.args.section.now (g.P.PinSource.pins c.args.pins.now c.args.section.now) (layout_of c.args.layout.now) c.loop-number.ohms w.fill_corner.new.ohms c.loop-number.farads w.fill_corner.new.farads (g.C.CornerSet.number_of w.in-Some.corner) c.loop-number.number
                 is below w.fill_corner.ensures.filled w.fill_corner.ensures.ohms w.fill_corner.ensures.farads c.loop-number.invariant.state));
             steps = omega (arith, w.steps-is, w.fill_corner.ensures.steps, c.loop-number.invariant.steps);
           }

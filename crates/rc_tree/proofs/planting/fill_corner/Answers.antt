@@ -9,10 +9,10 @@ returns-clause-filled g c =
     let count = g.C.CornerSet.COUNT in
     let number = g.C.CornerSet.number_of c.args.corner in
     let n = length c.args.layout.now.parents.items in
-    filled_corner count c.args.section.now c.args.pins.now (layout_of c.args.layout.now) c.fill_ohms.new.ohms c.fill_farads.new.farads c.fill_loads.new.farads number c.requires.layout
-    (subst (λ s. CornerFacts count c.args.section.now c.args.pins.now n c.args.layout.now.vias.items c.args.layout.now.spots.items s c.fill_ohms.new.ohms c.fill_farads.new.farads c.fill_loads.new.farads number) c.deref-3.ensures.value
-    (subst (λ s. CornerFacts count c.args.section.now c.args.pins.now n c.args.layout.now.vias.items s c.deref-3.result.now c.fill_ohms.new.ohms c.fill_farads.new.farads c.fill_loads.new.farads number) c.deref-2.ensures.value
-    (subst (λ v. CornerFacts count c.args.section.now c.args.pins.now n v c.deref-2.result.now c.deref-3.result.now c.fill_ohms.new.ohms c.fill_farads.new.farads c.fill_loads.new.farads number) c.deref.ensures.value
+    filled_corner count c.args.section.now (g.P.PinSource.pins c.args.pins.now c.args.section.now) (layout_of c.args.layout.now) c.fill_ohms.new.ohms c.fill_farads.new.farads c.fill_loads.new.farads number c.requires.layout
+    (subst (λ s. CornerFacts count c.args.section.now (g.P.PinSource.pins c.args.pins.now c.args.section.now) n c.args.layout.now.vias.items c.args.layout.now.spots.items s c.fill_ohms.new.ohms c.fill_farads.new.farads c.fill_loads.new.farads number) c.deref-3.ensures.value
+    (subst (λ s. CornerFacts count c.args.section.now (g.P.PinSource.pins c.args.pins.now c.args.section.now) n c.args.layout.now.vias.items s c.deref-3.result.now c.fill_ohms.new.ohms c.fill_farads.new.farads c.fill_loads.new.farads number) c.deref-2.ensures.value
+    (subst (λ v. CornerFacts count c.args.section.now (g.P.PinSource.pins c.args.pins.now c.args.section.now) n v c.deref-2.result.now c.deref-3.result.now c.fill_ohms.new.ohms c.fill_farads.new.farads c.fill_loads.new.farads number) c.deref.ensures.value
     (record {
       root = c.fill_ohms.ensures.root ∙ c.requires.no_ohms 0;
       links = c.fill_ohms.ensures.links;

@@ -8,11 +8,11 @@ use Rattle.rc_tree.proofs.planting.plant.Goals as goal
 pub invariant_of-result : goal.invariant_of-result
 invariant_of-result g c =
     let rows = ap (λ k. k * g.C.CornerSet.COUNT) (c.len-nodes.ensures ∙ c.args.layout.parents.ok.0) in
-    planted g.C.CornerSet.COUNT c.args.section.now c.args.pins.now (layout_of c.args.layout) c.fill_all.new.ohms c.fill_all.new.farads c.requires
+    planted g.C.CornerSet.COUNT c.args.section.now (g.P.PinSource.pins c.args.pins.now c.args.section.now) (layout_of c.args.layout) c.fill_all.new.ohms c.fill_all.new.farads c.requires
     (c.fill_all.ensures.ohms_size ∙ ap length c.in_ok-ohms.ensures ∙ length-replicate _ _ ∙ rows) (c.fill_all.ensures.farads_size ∙ ap length c.in_ok-farads.ensures ∙ length-replicate _ _ ∙ rows) c.fill_all.ensures.filled
 
 pub returns-clause-whole : goal.returns-clause-whole
 returns-clause-whole g c =
     let rows = ap (λ k. k * g.C.CornerSet.COUNT) (c.len-nodes.ensures ∙ c.args.layout.parents.ok.0) in
-    planted g.C.CornerSet.COUNT c.args.section.now c.args.pins.now (layout_of c.args.layout) c.fill_all.new.ohms c.fill_all.new.farads c.requires
+    planted g.C.CornerSet.COUNT c.args.section.now (g.P.PinSource.pins c.args.pins.now c.args.section.now) (layout_of c.args.layout) c.fill_all.new.ohms c.fill_all.new.farads c.requires
     (c.fill_all.ensures.ohms_size ∙ ap length c.in_ok-ohms.ensures ∙ length-replicate _ _ ∙ rows) (c.fill_all.ensures.farads_size ∙ ap length c.in_ok-farads.ensures ∙ length-replicate _ _ ∙ rows) c.fill_all.ensures.filled

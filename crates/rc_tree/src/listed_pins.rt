@@ -1,0 +1,140 @@
+//! The pins of a net that are the connections of its section.
+ghost use Rattle.std.specs.Prelude.{◌≡◌, ℕ, ◌+◌, ◌-◌, ◌^◌, ◌<◌, ◌≤◌, length, slice_get, slice_index, Some, IfOk};
+ghost use Rattle.corner_set.specs.Places.{value_at};
+ghost use Rattle.rc_tree.specs.Arenas.{most_elements, most_farads};
+ghost use Rattle.rc_tree.specs.ListedPins.{listed_pins, other_place};
+ghost use Rattle.rc_tree.specs.Pins.{pin_nodes};
+ghost use Rattle.rc_tree.specs.SectionNets.{AreListed};
+ghost use Rattle.rc_tree.specs.Searched.{IsNumbered, IsNameAt, AreSinks};
+
+use crate::names::section_name;
+use crate::node_ids::NodeId;
+use crate::numbered::Numbered;
+use corner_set::CornerSet;
+use delay_units::Farads;
+use edge_io::OutOfMemory;
+use name_table::NodeName;
+use spef_nets::Section;
+use std::alloc::Global;
+
+/// The pins of a net that are the connections of its section: the one at this place drives, all others are sinks, in order.
+#[derive(Drop)]
+pub struct ListedPins {
+    pub driver: usize,
+}
+
+impl ListedPins {
+    /// The place of the connection of a sink.
+    pub(crate) fn place(&self, sink: usize) -> usize
+        requires { sink + 1 < 2 ^ 64 }
+        ensures { result ≡ other_place self.now.driver sink }
+    {
+        if sink < self.driver { sink } else { sink + 1 }
+    }
+
+    /// How many sinks there are.
+    pub fn len<C: CornerSet>(&self, section: &Section<C>) -> usize
+        ensures { result ≡ length (listed_pins C.COUNT section.now self.now.driver).sinks }
+    {
+        let conns = section.conn_count();
+        if self.driver < conns {
+            conns - 1
+        } else {
+            conns
+        }
+    }
+
+    /// The name of the driver.
+    pub fn driver<'s, C: CornerSet>(&self, section: &'s Section<C>) -> &'s NodeName
+        requires { self.now.driver < length section.now.conns }
+        ensures { result.now ≡ (listed_pins C.COUNT section.now self.now.driver).driver }
+    {
+        section.node(section.conn(self.driver).node)
+    }
+
+    /// The name of a sink.
+    pub fn sink<'s, C: CornerSet>(&self, section: &'s Section<C>, sink: usize) -> &'s NodeName
+        requires within { sink < length (listed_pins C.COUNT section.now self.now.driver).sinks }
+        requires fits { sink + 1 < 2 ^ 64 }
+        ensures { slice_get (listed_pins C.COUNT section.now self.now.driver).sinks sink ≡ Some result.now }
+    {
+        section.node(section.conn(self.place(sink)).node)
+    }
+
+    /// The load of a sink at a corner.
+    pub(crate) fn load<C: CornerSet>(
+        &self,
+        section: &Section<C>,
+        sink: usize,
+        corner: C::Index,
+    ) -> Farads
+        requires within { sink < length (listed_pins C.COUNT section.now self.now.driver).sinks }
+        requires fits { sink + 1 < 2 ^ 64 }
+        ensures load { value_at C.COUNT (listed_pins C.COUNT section.now self.now.driver).loads sink (C.number_of corner) ≡ Some result }
+        ensures most { result.0 ≤ most_farads }
+    {
+        section.conn_load(self.place(sink), corner)
+    }
+
+    /// Each connection is one of the pins, which the contract states. It does nothing when it is called.
+    pub fn all_listed<C: CornerSet>(&self, section: &Section<C>)
+        requires { self.now.driver < length section.now.conns }
+        ensures { AreListed section.now (pin_nodes (listed_pins C.COUNT section.now self.now.driver)) }
+    {
+        for place in 0..section.conn_count() {
+            section.conn(place);
+        }
+    }
+
+    /// Where the sinks stand in the order of a search, which gives one more than the place of each node.
+    pub(crate) fn places<C: CornerSet>(
+        &self,
+        alloc: Global,
+        section: &Section<C>,
+        numbered: &Numbered,
+        numbers: &[usize],
+    ) -> Result<Vec<NodeId>, OutOfMemory>
+        requires numbered { IsNumbered section.now (listed_pins C.COUNT section.now self.now.driver) numbered.now.spots.items numbered.now.count }
+        requires every { length numbers.now ≡ numbered.now.count }
+        requires few { (k : ℕ) → k < length numbers.now → slice_index numbers.now k ≤ most_elements + 1 }
+        ensures size { IfOk result (λ sinks. length sinks.items ≡ length (listed_pins C.COUNT section.now self.now.driver).sinks) }
+        ensures sinks { IfOk result (λ sinks. AreSinks section.now (listed_pins C.COUNT section.now self.now.driver) numbers.now sinks.items) }
+    {
+        let many = self.len(section);
+        let mut sinks = Vec::with_capacity(alloc, many)?;
+        for sink in 0..many {
+            let node = section.conn(self.place(sink)).node;
+            match sinks.push(place_at(&numbered.spots, numbers, node)) {
+                Ok(()) => {}
+                Err(_) => return Err(OutOfMemory),
+            }
+        }
+        Ok(sinks)
+    }
+
+    /// A name of the node of a number.
+    pub(crate) fn name<C: CornerSet>(
+        &self,
+        alloc: Global,
+        section: &Section<C>,
+        numbered: &Numbered,
+        number: usize,
+    ) -> Result<NodeName, OutOfMemory>
+        requires { IsNumbered section.now (listed_pins C.COUNT section.now self.now.driver) numbered.now.spots.items numbered.now.count }
+        ensures { IfOk result (λ name. IsNameAt section.now (listed_pins C.COUNT section.now self.now.driver) number name) }
+    {
+        let name = section_name(alloc, section, numbered, number)?;
+        Ok(name)
+    }
+}
+
+// Where a node of the section stands in the order of a search.
+fn place_at(spots: &[usize], numbers: &[usize], node: usize) -> NodeId
+    requires node { node < length spots.now }
+    requires number { slice_index spots.now node < length numbers.now }
+    requires few { (k : ℕ) → k < length numbers.now → slice_index numbers.now k ≤ most_elements + 1 }
+    ensures { result.0 ≡ slice_index numbers.now (slice_index spots.now node) - 1 }
+{
+    let place = numbers[spots[node]].saturating_sub(1);
+    NodeId(place as u32)
+}

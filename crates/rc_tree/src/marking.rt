@@ -1,0 +1,89 @@
+//! The numbers of a net's nodes where its pins are the connections of its section. They are found by the section's own numbers:
+//! no name is read.
+ghost use Rattle.std.specs.Prelude.{◌≡◌, ℕ, ◌-◌, ◌^◌, ◌<◌, List, [], length, map, IfOk, OnOk};
+ghost use Rattle.spef_nets.specs.Nodes.{AreDistinctNodes};
+ghost use Rattle.rc_tree.specs.Nodes.{Node, node_of, with_nodes};
+ghost use Rattle.rc_tree.specs.ListedPins.{listed_pins};
+ghost use Rattle.rc_tree.specs.Marking.{Marks, Marked};
+ghost use Rattle.rc_tree.specs.Searched.{IsNumbered};
+
+use crate::listed_pins::ListedPins;
+use crate::lists::filled;
+use crate::numbered::Numbered;
+use corner_set::CornerSet;
+use edge_io::OutOfMemory;
+use spef_nets::Section;
+use std::alloc::Global;
+
+/// It stands for the number of a node that has none yet.
+const NONE: usize = usize::MAX;
+
+// Gives a node the next number, where it has none.
+#[tactic(auto, using(crate::specs::Marking::fresh, crate::specs::Marking::held))]
+fn mark(numbered: &mut Numbered, node: usize) -> Result<(), OutOfMemory>
+    requires { node < length numbered.old.spots.items }
+    ensures { OnOk result (Marks (2 ^ 64 - 1) node numbered.old.spots.items numbered.old.count numbered.new.spots.items numbered.new.count) }
+{
+    if numbered.spots[node] != NONE {
+        return Ok(());
+    }
+    let Some(next) = numbered.count.checked_add(1) else {
+        return Err(OutOfMemory);
+    };
+    numbered.spots[node] = numbered.count;
+    numbered.count = next;
+    Ok(())
+}
+
+// Numbers the nodes of the sinks, in order.
+fn mark_sinks<C: CornerSet>(
+    section: &Section<C>,
+    pins: &ListedPins,
+    numbered: &mut Numbered,
+) -> Result<(), OutOfMemory>
+    requires size { length numbered.old.spots.items ≡ length section.now.nodes }
+    requires distinct { AreDistinctNodes section.now.nodes }
+    ensures size { OnOk result (length numbered.new.spots.items ≡ length section.now.nodes) }
+    ensures marked { OnOk result ((nodes : List Node) → Marked (2 ^ 64 - 1) section.now.nodes nodes numbered.old.spots.items numbered.old.count
+        → Marked (2 ^ 64 - 1) section.now.nodes (with_nodes nodes (map node_of (listed_pins C.COUNT section.now pins.now.driver).sinks)) numbered.new.spots.items numbered.new.count) }
+{
+    for sink in 0..pins.len(section) {
+        let node = section.conn(pins.place(sink)).node;
+        mark(numbered, node)?;
+    }
+    Ok(())
+}
+
+// Numbers the nodes that are left, in order.
+fn mark_rest<C: CornerSet>(section: &Section<C>, numbered: &mut Numbered) -> Result<(), OutOfMemory>
+    requires size { length numbered.old.spots.items ≡ length section.now.nodes }
+    requires distinct { AreDistinctNodes section.now.nodes }
+    ensures size { OnOk result (length numbered.new.spots.items ≡ length section.now.nodes) }
+    ensures marked { OnOk result ((nodes : List Node) → Marked (2 ^ 64 - 1) section.now.nodes nodes numbered.old.spots.items numbered.old.count
+        → Marked (2 ^ 64 - 1) section.now.nodes (with_nodes nodes (map node_of section.now.nodes)) numbered.new.spots.items numbered.new.count) }
+{
+    for node in 0..section.node_count() {
+        mark(numbered, node)?;
+    }
+    Ok(())
+}
+
+/// The numbers of a net's nodes, whose pins are the connections of its section.
+pub fn number_listed<C: CornerSet>(
+    alloc: Global,
+    section: &Section<C>,
+    pins: &ListedPins,
+) -> Result<Numbered, OutOfMemory>
+    requires { pins.now.driver < length section.now.conns }
+    ensures { IfOk result (λ numbered. IsNumbered section.now (listed_pins C.COUNT section.now pins.now.driver) numbered.spots.items numbered.count) }
+{
+    let mut numbered = Numbered {
+        spots: filled(alloc, section.node_count(), NONE)?,
+        count: 0,
+    };
+    section.distinct();
+    mark(&mut numbered, section.conn(pins.driver).node)?;
+    mark_sinks(section, pins, &mut numbered)?;
+    mark_rest(section, &mut numbered)?;
+    Ok(numbered)
+}
