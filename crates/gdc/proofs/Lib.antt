@@ -1,4 +1,3 @@
-pub mod ApartConns
 pub mod Completing
 pub mod Drawing
 pub mod NeededKeys

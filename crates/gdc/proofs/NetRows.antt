@@ -1,6 +1,7 @@
 -- The rows of a net, and of several nets one after another.
-use Rattle.std.proofs.Common.{◌≡◌, ℕ, ◌<◌, List, [], ◌∷◌, length, map, Some, Result, Err, refl, sym, ◌∙◌, ap, subst, arith, Contains}
-use Rattle.std.proofs.lemmas.List.{length-map}
+use Rattle.std.proofs.Common.{◌≡◌, ℕ, suc, ◌+◌, ◌<◌, ◌≤◌, List, [], ◌∷◌, ◌++◌, length, map, take, Some, Result, Err, refl, sym, ◌∙◌, ap, subst, arith, drop, Contains, length-append, length-drop, length-take-le, inl, inr}
+use Rattle.std.proofs.lemmas.Bool.{cases_lt}
+use Rattle.std.proofs.lemmas.List.{length-map, take_all}
 use Rattle.std.specs.List.{slice_get, slice_index_or, AllZip}
 use Rattle.delay_units.specs.declared.Femto.{Femto}
 use Rattle.name_table.specs.declared.spef_names.NodeName.{NodeName}
@@ -10,15 +11,15 @@ use Rattle.spef_nets.specs.declared.parts.Listed.{Listed}
 use Rattle.rc_tree.specs.Arenas.{Arena}
 use Rattle.rc_tree.specs.Elmore.{IsElmore}
 use Rattle.rc_tree.specs.NetElements.{NetElements as ElementsOf}
-use Rattle.rc_tree.specs.RcTree.{IsTree}
 use Rattle.rc_tree.specs.Nodes.{Node, node_of}
 use Rattle.rc_tree.specs.Pins.{Pins}
 use Rattle.rc_tree.specs.SectionNets.{net_elements, on_net, sink_node}
-use Rattle.rc_tree.specs.Builds.{IsTreeOf, IsFit}
+use Rattle.rc_tree.specs.Builds.{IsTreeOf}
 use Rattle.rc_tree.specs.SectionNets.{AreListed, IsFirstStrange}
 use Rattle.rc_tree.specs.Pins.{pin_nodes}
 use Rattle.gdc.specs.AnnotationRows.{Wire, IsWireDelay, IsAnnotationRow, AreAnnotationRows}
-use Rattle.gdc.specs.WireNets.{HasDriver, pins_of, wires_of, is_tree}
+use Rattle.rc_tree.specs.ListedPins.{without, conn_name, listed_pins}
+use Rattle.gdc.specs.WireNets.{HasDriver, wires_of, is_tree}
 use Rattle.gdc.specs.NetRows.{IsTreeRow, AddsRows, DrawsNet}
 use Rattle.verdict_phases.specs.declared.ends.PureEnd.{PureEnd}
 use Rattle.gdc.specs.declared.refusal.Refusal.{Refusal}
@@ -58,13 +59,16 @@ annotates net pins arena sink name row tree named drawn =
     }
 
 -- the rows of all sinks are those of the net
-pub net_drawn : (net : NetElements) (driver : Listed) (pins : Pins) (arena : Arena) (old new : SdfRows) → HasDriver net driver → pins ≡ pins_of net driver → IsTreeOf 1 net pins arena → AddsRows pins arena (length pins.sinks) old new → DrawsNet net old new
-net_drawn net driver pins arena old new sole are tree added = record {
+pub net_drawn : (net : NetElements) (driver : ℕ) (arena : Arena) (old new : SdfRows) → HasDriver net driver → IsTreeOf 1 net (listed_pins 1 net driver) arena → AddsRows (listed_pins 1 net driver) arena (length (listed_pins 1 net driver).sinks) old new → DrawsNet net old new
+net_drawn net driver arena old new sole tree added = record {
   rows = added.rows;
   is = added.is;
-  given = is_tree driver added.rows sole (subst (IsFit net) are tree.fit) (subst (λ p. IsTree (net_elements 1 net p 0)) are (tree.tree 0 (omega arith))) (subst (λ p. AreAnnotationRows (wires_of net p) added.rows) are annotated);
+  given = is_tree driver added.rows sole tree.fit (tree.tree 0 (omega arith)) annotated;
 }
   where
+    pins : Pins
+    pins = listed_pins 1 net driver
+
     wire_to : NodeName → Wire
     wire_to sink = record { driver = pins.driver; sink = sink; at = on_net net pins (node_of sink); corners = net_elements 1 net pins 0 ∷ [] }
 
@@ -73,3 +77,14 @@ net_drawn net driver pins arena old new sole are tree added = record {
         (λ k wire row at stands.
         let sink = map_get wire_to pins.sinks k wire at in
         subst (λ w. IsAnnotationRow w row) sink.2 (annotates net pins arena k sink.0 row tree sink.1 (added.drawn k row stands)))
+
+-- no more sinks than connections
+pub sinks_few : (net : NetElements) (driver : ℕ) → length (listed_pins 1 net driver).sinks ≤ length net.conns
+sinks_few net driver =
+    let sinks = length-map (without driver net.conns) (conn_name net) in
+    let parts = length-append (take driver net.conns) (drop (suc driver) net.conns) in
+    let rest = length-drop (suc driver) net.conns in
+    elim (cases_lt driver (length net.conns)) [
+      | inl below ↦ (let front = length-take-le driver net.conns (omega (arith, below)) in omega (arith, sinks, parts, rest, front, below))
+      | inr past ↦ (let front = ap length (take_all driver net.conns past) in omega (arith, sinks, parts, rest, front, past))
+    ]

@@ -1,5 +1,5 @@
 -- How the rows of a net are added.
-use Rattle.std.specs.Prelude.{◌≡◌, ◌^◌, ◌<◌, ℕ, List, [], ◌∷◌, ◌++◌, pos, Result, Ok, Err, length, slice_index_or, slice_get, Some}
+use Rattle.std.specs.Prelude.{◌≡◌, ◌+◌, ◌*◌, ◌^◌, ◌<◌, ℕ, List, [], ◌∷◌, ◌++◌, pos, Result, Ok, Err, length, slice_index_or, slice_get, Some}
 use Rattle.delay_units.specs.Rounding.{IsRounding}
 use Rattle.delay_units.specs.declared.Femto.{Femto}
 use Rattle.name_table.specs.declared.spef_names.NodeName.{NodeName}
@@ -13,6 +13,10 @@ use Rattle.verdict_phases.specs.declared.ends.PureEnd.{PureEnd}
 use Rattle.verdict_phases.specs.declared.ends.PureEnd.TheVariants as pure
 use Rattle.gdc.specs.declared.refusal.Refusal.{Refusal}
 use Rattle.gdc.specs.WireNets.{NetGives}
+
+-- the most steps that a net takes at one corner: 16 for each of its resistors, of its capacitances to ground and of its connections
+abbrev pub most_steps : NetElements → ℕ
+most_steps net = 16 * (length net.joints + length net.caps + length net.conns)
 
 -- the delay of each node of a tree stands at its place
 abbrev pub HasDelays : Arena → List ℕ → Type 0

@@ -1,12 +1,12 @@
 -- The nets of a file, in its order: each gives a row for each of its wires, or is refused.
-use Rattle.std.specs.Prelude.{◌≡◌, ℕ, ◌==◌, Bool, not, if◌then◌else◌, List, [], ◌∷◌, ◌++◌, filter, map, slice_index_or, None, Result, Ok, Err}
-use Rattle.std.specs.List.{flat_map, enumerate_from}
+use Rattle.std.specs.Prelude.{◌≡◌, ℕ, ◌==◌, Bool, if◌then◌else◌, List, [], ◌∷◌, ◌++◌, filter, map, slice_get, slice_index_or, Some, None, Result, Ok, Err}
 use Rattle.name_table.specs.declared.spef_names.NodeName.{NodeName}
 use Rattle.sdf_writer.specs.SdfText.{WireRow, SdfRows}
 use Rattle.spef_nets.specs.NetElements.{NetElements}
 use Rattle.spef_nets.specs.declared.parts.Listed.{Listed}
 use Rattle.rc_tree.specs.Nodes.{node_of}
-use Rattle.rc_tree.specs.Pins.{Pins, row_of}
+use Rattle.rc_tree.specs.Pins.{Pins}
+use Rattle.rc_tree.specs.ListedPins.{listed_pins}
 use Rattle.rc_tree.specs.RcTree.{IsTree}
 use Rattle.rc_tree.specs.SectionNets.{net_elements, on_net}
 use Rattle.rc_tree.specs.Builds.{IsFit, IsTreeEnd}
@@ -28,25 +28,15 @@ no_name = record { head = []; tail = None; sdf = [] }
 abbrev pub name_at : NetElements → Listed → NodeName
 name_at net conn = slice_index_or net.nodes conn.node no_name
 
--- the connections that do not drive, with their places
-abbrev pub sinks_of : NetElements → List (ℕ × Listed)
-sinks_of net = filter (λ at. not (drives at.1)) (enumerate_from 0 net.conns)
-
--- the pins of a net with this driver: all other connections are sinks, with their loads
-abbrev pub pins_of : NetElements → Listed → Pins
-pins_of net driver = record {
-  driver = name_at net driver;
-  sinks = map (λ at. name_at net at.1) (sinks_of net);
-  loads = flat_map (λ at. row_of 1 net.loads at.0) (sinks_of net);
-}
-
 -- the wires of a net with these pins, one for each sink, at one corner
 abbrev pub wires_of : NetElements → Pins → List Wire
 wires_of net pins = map (λ sink. record { driver = pins.driver; sink = sink; at = on_net net pins (node_of sink); corners = net_elements 1 net pins 0 ∷ [] }) pins.sinks
 
--- one connection alone drives the net
-abbrev pub HasDriver : NetElements → Listed → Type 0
-HasDriver net driver = filter drives net.conns ≡ driver ∷ []
+-- the connection at this place drives the net, and no other does
+pub record HasDriver (net : NetElements) (place : ℕ) : Type 0 where
+  pub driver : Listed
+  pub stands : slice_get net.conns place ≡ Some driver
+  pub sole : filter drives net.conns ≡ driver ∷ []
 
 -- A net with these pins has no tree: it is too large, or a node of it is not reached, or its resistors close a loop.
 pub data IsNoTree (net : NetElements) (pins : Pins) : Refusal → Type 0 where
@@ -54,13 +44,14 @@ pub data IsNoTree (net : NetElements) (pins : Pins) : Refusal → Type 0 where
   unreached : (node : NodeName) → IsTreeEnd 1 net pins (tree.Unreached node) → IsNoTree net pins (Unreached net.net node)
   mesh : (resistor : ℕ) → IsTreeEnd 1 net pins (tree.Mesh resistor) → IsNoTree net pins (Mesh net.net resistor)
 
--- A net gives the rows of its wires, or is refused: no connection drives it, or several do, or it has no tree.
+-- A net gives the rows of its wires, or is refused: no connection drives it, or several do, or it has no tree. All connections but
+-- the one that drives are its sinks.
 pub data NetGives (net : NetElements) : Result (List WireRow) Refusal → Type 0 where
   no_driver : filter drives net.conns ≡ [] → NetGives net (Err (NoDriver net.net))
   many_drivers : (one other : Listed) (others : List Listed) → filter drives net.conns ≡ one ∷ other ∷ others → NetGives net (Err (ManyDrivers net.net))
-  no_tree : (driver : Listed) (refusal : Refusal) → HasDriver net driver → IsNoTree net (pins_of net driver) refusal → NetGives net (Err refusal)
-  is_tree : (driver : Listed) (rows : List WireRow) → HasDriver net driver → IsFit net (pins_of net driver) → IsTree (net_elements 1 net (pins_of net driver) 0)
-      → AreAnnotationRows (wires_of net (pins_of net driver)) rows → NetGives net (Ok rows)
+  no_tree : (driver : ℕ) (refusal : Refusal) → HasDriver net driver → IsNoTree net (listed_pins 1 net driver) refusal → NetGives net (Err refusal)
+  is_tree : (driver : ℕ) (rows : List WireRow) → HasDriver net driver → IsFit net (listed_pins 1 net driver) → IsTree (net_elements 1 net (listed_pins 1 net driver) 0)
+      → AreAnnotationRows (wires_of net (listed_pins 1 net driver)) rows → NetGives net (Ok rows)
 
 -- the nets, up to the first that is refused
 pub data NetsGive : List NetElements → Result (List WireRow) Refusal → Type 0 where

@@ -1,22 +1,21 @@
 //! The rows of a net.
-ghost use Rattle.std.specs.Prelude.{◌≡◌, ◌+◌, ◌<◌, [], ◌∷◌, length, OnOk, IfOk, Err};
-ghost use Rattle.rc_tree.specs.Pins.{pin_nodes};
-ghost use Rattle.rc_tree.specs.SectionNets.{AreListed};
+ghost use Rattle.std.specs.Prelude.{◌≡◌, ◌+◌, ◌*◌, ◌^◌, ◌<◌, ◌≤◌, [], ◌∷◌, length, OnOk, IfOk, Err};
+ghost use Rattle.rc_tree.specs.Arenas.{node_count};
+ghost use Rattle.rc_tree.specs.ListedPins.{listed_pins};
 ghost use Rattle.rc_tree.specs.Builds.{IsTreeOf};
 ghost use Rattle.gdc.specs.WireNets.{HasDriver, NetGives, IsNoTree};
 ghost use Rattle.gdc.specs.Drawing.{drawn, DrawsNext};
-ghost use Rattle.gdc.specs.NetPins.{AreApart};
-ghost use Rattle.gdc.specs.NetRows.{HasDelays, AddsRow, AddsRows, DrawsNet, OnRefusal};
+ghost use Rattle.gdc.specs.NetRows.{most_steps, HasDelays, AddsRow, AddsRows, DrawsNet, OnRefusal};
 
-use crate::net_pins::{DriverEnd, driver_of, pins_of};
+use crate::net_pins::{DriverEnd, driver_of};
 use crate::refusal::{LimitKind, Refusal};
 use corner_set::{Grid, Single};
 use delay_units::Femto;
 use edge_io::{OutOfMemory, Steps, Text};
 use elmore_pass::{elmore_into, sink_femto};
-use rc_tree::{PinLoads, RcTree, Scratch, TreeEnd, build};
+use rc_tree::{ListedPins, RcTree, Scratch, TreeEnd, build_listed};
 use sdf_writer::Rows;
-use spef_nets::{Listed, Section};
+use spef_nets::Section;
 use std::alloc::Global;
 use std::sync::ledger::Ledger;
 use verdict_phases::PureEnd;
@@ -32,7 +31,8 @@ fn put_delay(delay: &mut Grid<Single, Femto>, time: Femto)
 // Adds the row of the wire to a sink. The grid has one row, which is used anew.
 fn add_row<L: Ledger>(
     alloc: Global,
-    pins: &PinLoads<Single>,
+    net: &Section<Single>,
+    pins: &ListedPins,
     tree: &RcTree<Single>,
     delays: &Scratch<Single>,
     sink: usize,
@@ -40,48 +40,53 @@ fn add_row<L: Ledger>(
     rows: &mut Rows<Single>,
     steps: &mut Steps<L>,
 ) -> Result<(), OutOfMemory>
+    requires driver { pins.now.driver < length net.now.conns }
     requires one_row { length delay.old ≡ 1 }
     requires delays { HasDelays tree.now delays.now }
-    requires sinks { length tree.now.sinks ≡ length pins.now.sinks }
-    requires within { sink < length pins.now.sinks }
-    ensures row { OnOk result (AddsRow pins.now tree.now sink rows.old rows.new) }
+    requires sinks { length tree.now.sinks ≡ length (listed_pins 1 net.now pins.now.driver).sinks }
+    requires within { sink < length (listed_pins 1 net.now pins.now.driver).sinks }
+    requires fits { sink + 1 < 2 ^ 64 }
+    ensures row { OnOk result (AddsRow (listed_pins 1 net.now pins.now.driver) tree.now sink rows.old rows.new) }
     ensures one_row { length delay.new ≡ 1 }
     ensures step { steps.new ≡ steps.old + 1 }
 {
     let elmore = delays.value(tree.sink(sink), (), steps);
     put_delay(delay, sink_femto(elmore));
-    let from = Text::from_bytes(alloc, pins.driver().sdf.bytes())?;
-    let to = Text::from_bytes(alloc, pins.sink(sink).sdf.bytes())?;
+    let from = Text::from_bytes(alloc, pins.driver(net).sdf.bytes())?;
+    let to = Text::from_bytes(alloc, pins.sink(net, sink).sdf.bytes())?;
     rows.add_wire(from, to, delay)
 }
 
 // Adds the rows of the wires to all sinks.
 fn add_rows<L: Ledger>(
     alloc: Global,
-    pins: &PinLoads<Single>,
+    net: &Section<Single>,
+    pins: &ListedPins,
     tree: &RcTree<Single>,
     delays: &Scratch<Single>,
     delay: &mut Grid<Single, Femto>,
     rows: &mut Rows<Single>,
     steps: &mut Steps<L>,
 ) -> Result<(), OutOfMemory>
+    requires driver { pins.now.driver < length net.now.conns }
     requires one_row { length delay.old ≡ 1 }
     requires delays { HasDelays tree.now delays.now }
-    requires sinks { length tree.now.sinks ≡ length pins.now.sinks }
-    ensures rows { OnOk result (AddsRows pins.now tree.now (length pins.now.sinks) rows.old rows.new) }
+    requires sinks { length tree.now.sinks ≡ length (listed_pins 1 net.now pins.now.driver).sinks }
+    ensures rows { OnOk result (AddsRows (listed_pins 1 net.now pins.now.driver) tree.now (length (listed_pins 1 net.now pins.now.driver).sinks) rows.old rows.new) }
     ensures one_row { length delay.new ≡ 1 }
+    ensures steps { steps.new ≤ steps.old + length (listed_pins 1 net.now pins.now.driver).sinks }
 {
-    for sink in 0..pins.len() {
-        add_row(alloc, pins, tree, delays, sink, delay, rows, steps)?;
+    for sink in 0..pins.len(net) {
+        add_row(alloc, net, pins, tree, delays, sink, delay, rows, steps)?;
     }
     Ok(())
 }
 
-// The one connection that drives a net, which is refused without one.
+// The place of the one connection that drives a net, which is refused without one.
 #[tactic(auto, using(crate::specs::WireNets::no_driver, crate::specs::WireNets::many_drivers))]
-fn sole_driver(alloc: Global, net: &Section<Single>) -> Result<Listed, PureEnd<Refusal>>
+fn sole_driver(alloc: Global, net: &Section<Single>) -> Result<usize, PureEnd<Refusal>>
     ensures driver { IfOk result (HasDriver net.now) }
-    ensures within { IfOk result (λ driver. driver.node < length net.now.nodes) }
+    ensures within { IfOk result (λ driver. driver < length net.now.conns) }
     ensures refused { OnRefusal result (λ refusal. NetGives net.now (Err refusal)) }
 {
     match driver_of(net) {
@@ -102,14 +107,16 @@ fn sole_driver(alloc: Global, net: &Section<Single>) -> Result<Listed, PureEnd<R
 fn tree_of<L: Ledger>(
     alloc: Global,
     net: &Section<Single>,
-    pins: &PinLoads<Single>,
+    driver: usize,
     steps: &mut Steps<L>,
 ) -> Result<RcTree<Single>, PureEnd<Refusal>>
-    requires listed { AreListed net.now (pin_nodes pins.now) }
-    ensures tree { IfOk result (IsTreeOf 1 net.now pins.now) }
-    ensures refused { OnRefusal result (IsNoTree net.now pins.now) }
+    requires { driver < length net.now.conns }
+    ensures tree { IfOk result (IsTreeOf 1 net.now (listed_pins 1 net.now driver)) }
+    ensures refused { OnRefusal result (IsNoTree net.now (listed_pins 1 net.now driver)) }
+    ensures nodes { IfOk result (λ tree. node_count tree ≤ length net.now.joints + 1) }
+    ensures steps { steps.new ≤ steps.old + 2 * length net.now.joints + length net.now.caps }
 {
-    match build(alloc, net, pins, steps) {
+    match build_listed(alloc, net, driver, steps) {
         Ok(tree) => Ok(tree),
         Err(TreeEnd::StrangePin(_)) => unreachable!(),
         Err(TreeEnd::TooLarge) => {
@@ -134,7 +141,8 @@ fn delays_of<L: Ledger>(
     tree: &RcTree<Single>,
     steps: &mut Steps<L>,
 ) -> Result<Scratch<Single>, OutOfMemory>
-    ensures { IfOk result (HasDelays tree.now) }
+    ensures delays { IfOk result (HasDelays tree.now) }
+    ensures steps { steps.new ≤ steps.old + 12 * node_count tree.now }
 {
     let mut delays = Scratch::reserve(alloc, tree.len())?;
     elmore_into(tree, &mut delays, steps);
@@ -151,16 +159,16 @@ fn draw_net<L: Ledger>(
     steps: &mut Steps<L>,
 ) -> Result<(), PureEnd<Refusal>>
     requires one_row { length delay.old ≡ 1 }
-    requires apart { AreApart net.now }
     ensures rows { OnOk result (DrawsNet net.now rows.old rows.new) }
     ensures refused { OnRefusal result (λ refusal. NetGives net.now (Err refusal)) }
     ensures one_row { length delay.new ≡ 1 }
+    ensures steps { steps.new ≤ steps.old + most_steps net.now }
 {
     let driver = sole_driver(alloc, net)?;
-    let pins = pins_of(alloc, net, driver)?;
-    let tree = tree_of(alloc, net, &pins, steps)?;
+    let tree = tree_of(alloc, net, driver, steps)?;
     let delays = delays_of(alloc, &tree, steps)?;
-    add_rows(alloc, &pins, &tree, &delays, delay, rows, steps)?;
+    let pins = ListedPins { driver };
+    add_rows(alloc, net, &pins, &tree, &delays, delay, rows, steps)?;
     Ok(())
 }
 
@@ -174,8 +182,7 @@ pub fn draw_next<L: Ledger>(
     rows: &mut Rows<Single>,
     steps: &mut Steps<L>,
 ) -> Result<Option<Refusal>, OutOfMemory>
-    requires one_row { length delay.old ≡ 1 }
-    requires apart { AreApart net.now }
+    requires { length delay.old ≡ 1 }
     ensures next { IfOk result (λ after. DrawsNext net.now (drawn rows.old refused) (drawn rows.new after)) }
     ensures one_row { length delay.new ≡ 1 }
 {

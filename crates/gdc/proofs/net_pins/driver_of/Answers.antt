@@ -1,21 +1,23 @@
-use Rattle.std.proofs.Common.{◌+◌, ◌∙◌, sym, ap, subst, ◌++◌, ◌∷◌, [], List, drop}
-use Rattle.std.specs.Prelude.{filter, option_to_list}
-use Rattle.spef_nets.specs.declared.parts.Listed.{Listed}
-use Rattle.gdc.specs.WireNets.{drives}
-use Rattle.gdc.specs.NetPins.{IsDriverEnd}
-use Rattle.gdc.proofs.PinLists.{more_drivers, two_drivers, next_within}
+use Rattle.std.proofs.Common.{◌<◌, length, Option, ℕ, sym, ap, subst, ◌∙◌, arith}
+use Rattle.std.specs.Prelude.{IfSome}
+use Rattle.gdc.specs.NetPins.{conn_of, IsDriverEnd}
+use Rattle.gdc.proofs.PinLists.{next_drivers, next_within, two_drivers, one_driver}
 use Rattle.gdc.proofs.net_pins.driver_of.Goals as goal
 
 pub returns-in-Err-clause-err : goal.returns-in-Err-clause-err
 returns-in-Err-clause-err c =
     let several = c.in-Err.ensures in
-    let two = two_drivers c.args.net.now c.loop-place.place several.0 c.conn.result c.conn.ensures.conn several.2 (c.loop-place.invariant.0 ∙ ap option_to_list several.1) in
-    subst (IsDriverEnd c.args.net.now) (sym several.3) (several.0, c.conn.result, filter drives (drop (c.loop-place.place + 1) c.args.net.now.conns), two)
+    subst (IsDriverEnd c.args.net.now) (sym several.3)
+    (two_drivers c.args.net.now c.loop-place.place several.0 c.conn.result c.conn.ensures.conn several.2
+    (subst (λ (o : Option ℕ). IfSome o (λ driver. driver < length c.args.net.now.conns)) several.1 c.loop-place.invariant.1) (c.loop-place.invariant.0 ∙ ap (conn_of c.args.net.now) several.1))
+
+pub returns-in-Some-clause-ok : goal.returns-in-Some-clause-ok
+returns-in-Some-clause-ok c =
+    one_driver c.args.net.now c.loop-place.place c.in-Some.driver (omega (arith, c.loop-place-test.false, c.conn_count-place-end.ensures)) (c.loop-place.invariant.0 ∙ ap (conn_of c.args.net.now) c.in-Some.is)
+    (subst (λ (o : Option ℕ). IfSome o (λ driver. driver < length c.args.net.now.conns)) c.in-Some.is c.loop-place.invariant.1)
 
 pub loop-place-preserved : goal.loop-place-preserved
 loop-place-preserved c = (
-  more_drivers c.args.net.now c.loop-place.place c.conn.result c.conn.ensures.conn
-      ∙ ap (λ (l : List Listed). l ++ filter drives (c.conn.result ∷ [])) c.loop-place.invariant.0
-      ∙ sym c.in-Ok.ensures.0,
-  next_within c.args.net.now c.loop-place.found c.in-Ok.next c.conn.result c.loop-place.invariant.1 c.conn.ensures.node c.in-Ok.ensures.1,
+  next_drivers c.args.net.now c.loop-place.place c.conn.result c.loop-place.found c.in-Ok.next c.conn.ensures.conn c.loop-place.invariant.0 c.in-Ok.ensures,
+  next_within c.args.net.now c.loop-place.place c.conn.result c.loop-place.found c.in-Ok.next c.loop-place.invariant.1 c.conn.ensures.conn c.in-Ok.ensures,
 )

@@ -1,12 +1,10 @@
 use Rattle.std.proofs.Common.{◌≡◌, ℕ, List, Ok, Err, length, [], ◌∷◌, ◌++◌, refl, ◌∙◌, ap, subst, arith}
 use Rattle.std.specs.Prelude.{Option}
-use Rattle.spef_nets.specs.Reading.{next_section}
 use Rattle.spef_nets.proofs.ReadingLemmas.{no_nets, one_more}
 use Rattle.gdc.specs.SpefPhases.{sole_corner}
 use Rattle.gdc.specs.WireNets.{RowsOf}
 use Rattle.gdc.specs.Drawing.{drawn}
 use Rattle.gdc.specs.declared.refusal.Refusal.{Refusal}
-use Rattle.gdc.proofs.ApartConns.{net_apart}
 use Rattle.gdc.proofs.Drawing.{nothing_drawn, drawn_more, all_drawn, section_refused}
 use Rattle.gdc.proofs.spef_phases.draw_sections.Goals as goal
 
@@ -20,9 +18,6 @@ loop-init g c = (
 
 pub returns-in-Err : goal.returns-in-Err
 returns-in-Err g c = record { passes = section_refused c.args.pick c.args.file.now c.args.head.now c.loop.reader c.loop.invariant.0 c.loop.counter c.in-Err.end c.loop.invariant.1 c.in-Err.ensures.refused }
-
-pub draw_next-requires-clause-apart : goal.draw_next-requires-clause-apart
-draw_next-requires-clause-apart g c = net_apart c.loop.reader.pick c.loop.reader.file c.loop.reader.head (next_section c.loop.reader) c.in-Ok.net c.in-Ok.ensures.ok
 
 pub loop-preserved : goal.loop-preserved
 loop-preserved g c = (
