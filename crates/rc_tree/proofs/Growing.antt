@@ -69,13 +69,6 @@ module _ (section : SectionElements) (pins : Pins) (spots : List ℕ) (count : �
     order_size : length s.order ≡ length section.joints + 1
     order_size = size 1 section pins (all_nodes section pins) spots explored.froms explored.tos s searched 0 every linked ∙ ap (λ k. k + 1) explored.are_ends.froms_len
 
-    pub numbers_few : (numbers : List ℕ) → numbers ≡ s.numbers → (k : ℕ) → k < length numbers → slice_index numbers k ≤ most_elements + 1
-    numbers_few numbers numbers_are k below =
-        let value = ap (λ l. slice_index l k) numbers_are in
-        let most = number_most k in
-        let few = few_resistors section pins fit in
-        omega (arith, value, most, order_size, few)
-
     pub parents_size : length s.parents ≡ length section.joints + 1
     parents_size = explored.search.parents_len ∙ order_size
 

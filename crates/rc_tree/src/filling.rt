@@ -17,7 +17,7 @@ use std::sync::ledger::Ledger;
 /// Puts the resistance of each link into its row, which is not the first: one step a link.
 pub fn fill_ohms<C: CornerSet, L: Ledger>(
     section: &Section<C>,
-    vias: &[usize],
+    vias: &[u32],
     corner: C::Index,
     ohms: &mut Grid<C, Ohms>,
     steps: &mut Steps<L>,
@@ -32,7 +32,7 @@ pub fn fill_ohms<C: CornerSet, L: Ledger>(
     ensures steps { steps.new + 1 ≤ steps.old + length vias.now }
 {
     for node in 1..vias.len() {
-        let resistor = section.res(vias[node], corner, steps);
+        let resistor = section.res(vias[node] as usize, corner, steps);
         ohms.set(node, corner, resistor.ohms);
     }
 }
@@ -40,7 +40,7 @@ pub fn fill_ohms<C: CornerSet, L: Ledger>(
 /// Adds the capacitances of the section at the rows of their nodes: one step each.
 pub fn fill_farads<C: CornerSet, L: Ledger>(
     section: &Section<C>,
-    spots: &[usize],
+    spots: &[u32],
     corner: C::Index,
     farads: &mut Grid<C, Farads>,
     steps: &mut Steps<L>,
@@ -58,7 +58,7 @@ pub fn fill_farads<C: CornerSet, L: Ledger>(
 {
     for place in 0..section.cap_count() {
         let (node, value) = section.cap(place, corner, steps);
-        add_farads(farads, spots[node], corner, value);
+        add_farads(farads, spots[node] as usize, corner, value);
     }
 }
 

@@ -4,17 +4,17 @@
 #[derive(Drop)]
 pub struct Found {
     /// The nodes in the order in which they were found, the driver's first.
-    pub order: Vec<usize>,
+    pub order: Vec<u32>,
 
     /// For each found node the place in the order of the node that it was found from; 0 for the first.
-    pub parents: Vec<usize>,
+    pub parents: Vec<u32>,
 
     /// For each found node the resistor over which it was found; 0 for the first.
-    pub vias: Vec<usize>,
+    pub vias: Vec<u32>,
 
     /// For each node of the net one more than its place in the order, or 0 where it is not found.
-    pub numbers: Vec<usize>,
+    pub numbers: Vec<u32>,
 
     /// For each resistor the place in the order of the node that was found over it, or 0.
-    pub links: Vec<usize>,
+    pub links: Vec<u32>,
 }

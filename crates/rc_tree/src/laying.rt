@@ -1,6 +1,5 @@
 //! Where the nodes of a section and the sinks stand in the order of a search.
 ghost use Rattle.std.specs.Prelude.{◌≡◌, ℕ, ◌+◌, ◌-◌, ◌<◌, ◌≤◌, length, slice_index, slice_index_or, MatchOption, IfOk};
-ghost use Rattle.rc_tree.specs.Arenas.{most_elements};
 
 use crate::lists::push;
 use crate::node_ids::NodeId;
@@ -8,7 +7,7 @@ use edge_io::OutOfMemory;
 use std::alloc::Global;
 
 /// The place of the first zero, if there is one.
-pub fn first_zero(values: &[usize]) -> Option<usize>
+pub fn first_zero(values: &[u32]) -> Option<usize>
     ensures { MatchOption result ((k : ℕ) → k < length values.now → 0 < slice_index values.now k)
         (λ place. (place < length values.now) × (slice_index values.now place ≡ 0) × ((k : ℕ) → k < place → 0 < slice_index values.now k)) }
 {
@@ -21,33 +20,28 @@ pub fn first_zero(values: &[usize]) -> Option<usize>
 }
 
 /// The places of nodes, from one more than each.
-pub fn places_of(
-    alloc: Global,
-    nodes: &[usize],
-    numbers: &[usize],
-) -> Result<Vec<usize>, OutOfMemory>
+pub fn places_of(alloc: Global, nodes: &[u32], numbers: &[u32]) -> Result<Vec<u32>, OutOfMemory>
     requires { (k : ℕ) → k < length nodes.now → slice_index nodes.now k < length numbers.now }
     ensures size { IfOk result (λ places. length places.items ≡ length nodes.now) }
     ensures places { IfOk result (λ places. (k : ℕ) → k < length nodes.now → slice_index places.items k ≡ slice_index numbers.now (slice_index nodes.now k) - 1) }
 {
     let mut places = Vec::with_capacity(alloc, nodes.len())?;
     for k in 0..nodes.len() {
-        push(&mut places, numbers[nodes[k]].saturating_sub(1))?;
+        push(&mut places, numbers[nodes[k] as usize].saturating_sub(1))?;
     }
     Ok(places)
 }
 
 /// The places of the first nodes after the driver's, from one more than each.
-pub fn sinks_of(alloc: Global, many: usize, numbers: &[usize]) -> Result<Vec<NodeId>, OutOfMemory>
-    requires within { many < length numbers.now }
-    requires few { (k : ℕ) → k < length numbers.now → slice_index numbers.now k ≤ most_elements + 1 }
+pub fn sinks_of(alloc: Global, many: usize, numbers: &[u32]) -> Result<Vec<NodeId>, OutOfMemory>
+    requires { many < length numbers.now }
     ensures size { IfOk result (λ sinks. length sinks.items ≡ many) }
     ensures sinks { IfOk result (λ sinks. (k : ℕ) → k < many → (slice_index_or sinks.items k (record { 0 = 0 })).0 ≡ slice_index numbers.now (k + 1) - 1) }
 {
     let mut sinks = Vec::with_capacity(alloc, many)?;
     for k in 0..many {
         let place = numbers[k + 1].saturating_sub(1);
-        match sinks.push(NodeId(place as u32)) {
+        match sinks.push(NodeId(place)) {
             Ok(()) => {}
             Err(_) => return Err(OutOfMemory),
         }

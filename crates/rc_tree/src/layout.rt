@@ -6,13 +6,13 @@ use crate::node_ids::NodeId;
 #[derive(Drop)]
 pub struct NodeLayout {
     /// The parent of each node; 0 for the first.
-    pub parents: Vec<usize>,
+    pub parents: Vec<u32>,
 
     /// The resistor of the section that links each node to its parent; 0 for the first.
-    pub vias: Vec<usize>,
+    pub vias: Vec<u32>,
 
     /// The place of each node of the section.
-    pub spots: Vec<usize>,
+    pub spots: Vec<u32>,
 
     /// The place of each sink.
     pub sinks: Vec<NodeId>,

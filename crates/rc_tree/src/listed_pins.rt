@@ -1,7 +1,7 @@
 //! The pins of a net that are the connections of its section.
 ghost use Rattle.std.specs.Prelude.{◌≡◌, ℕ, ◌+◌, ◌-◌, ◌^◌, ◌<◌, ◌≤◌, length, slice_get, slice_index, Some, IfOk};
 ghost use Rattle.corner_set.specs.Places.{value_at};
-ghost use Rattle.rc_tree.specs.Arenas.{most_elements, most_farads};
+ghost use Rattle.rc_tree.specs.Arenas.{most_farads};
 ghost use Rattle.rc_tree.specs.ListedPins.{listed_pins, other_place};
 ghost use Rattle.rc_tree.specs.Pins.{pin_nodes};
 ghost use Rattle.rc_tree.specs.SectionNets.{AreListed};
@@ -92,11 +92,10 @@ impl ListedPins {
         alloc: Global,
         section: &Section<C>,
         numbered: &Numbered,
-        numbers: &[usize],
+        numbers: &[u32],
     ) -> Result<Vec<NodeId>, OutOfMemory>
         requires numbered { IsNumbered section.now (listed_pins C.COUNT section.now self.now.driver) numbered.now.spots.items numbered.now.count }
         requires every { length numbers.now ≡ numbered.now.count }
-        requires few { (k : ℕ) → k < length numbers.now → slice_index numbers.now k ≤ most_elements + 1 }
         ensures size { IfOk result (λ sinks. length sinks.items ≡ length (listed_pins C.COUNT section.now self.now.driver).sinks) }
         ensures sinks { IfOk result (λ sinks. AreSinks section.now (listed_pins C.COUNT section.now self.now.driver) numbers.now sinks.items) }
     {
@@ -129,12 +128,11 @@ impl ListedPins {
 }
 
 // Where a node of the section stands in the order of a search.
-fn place_at(spots: &[usize], numbers: &[usize], node: usize) -> NodeId
+fn place_at(spots: &[u32], numbers: &[u32], node: usize) -> NodeId
     requires node { node < length spots.now }
     requires number { slice_index spots.now node < length numbers.now }
-    requires few { (k : ℕ) → k < length numbers.now → slice_index numbers.now k ≤ most_elements + 1 }
     ensures { result.0 ≡ slice_index numbers.now (slice_index spots.now node) - 1 }
 {
-    let place = numbers[spots[node]].saturating_sub(1);
-    NodeId(place as u32)
+    let place = numbers[spots[node] as usize].saturating_sub(1);
+    NodeId(place)
 }

@@ -16,22 +16,22 @@ use spef_nets::Section;
 use std::alloc::Global;
 
 /// It stands for the number of a node that has none yet.
-const NONE: usize = usize::MAX;
+const NONE: u32 = u32::MAX;
 
 // Gives a node the next number, where it has none.
 #[tactic(auto, using(crate::specs::Marking::fresh, crate::specs::Marking::held))]
 fn mark(numbered: &mut Numbered, node: usize) -> Result<(), OutOfMemory>
     requires { node < length numbered.old.spots.items }
-    ensures { OnOk result (Marks (2 ^ 64 - 1) node numbered.old.spots.items numbered.old.count numbered.new.spots.items numbered.new.count) }
+    ensures { OnOk result (Marks (2 ^ 32 - 1) node numbered.old.spots.items numbered.old.count numbered.new.spots.items numbered.new.count) }
 {
     if numbered.spots[node] != NONE {
         return Ok(());
     }
-    let Some(next) = numbered.count.checked_add(1) else {
+    if numbered.count >= NONE as usize {
         return Err(OutOfMemory);
-    };
-    numbered.spots[node] = numbered.count;
-    numbered.count = next;
+    }
+    numbered.spots[node] = numbered.count as u32;
+    numbered.count += 1;
     Ok(())
 }
 
@@ -44,8 +44,8 @@ fn mark_sinks<C: CornerSet>(
     requires size { length numbered.old.spots.items ≡ length section.now.nodes }
     requires distinct { AreDistinctNodes section.now.nodes }
     ensures size { OnOk result (length numbered.new.spots.items ≡ length section.now.nodes) }
-    ensures marked { OnOk result ((nodes : List Node) → Marked (2 ^ 64 - 1) section.now.nodes nodes numbered.old.spots.items numbered.old.count
-        → Marked (2 ^ 64 - 1) section.now.nodes (with_nodes nodes (map node_of (listed_pins C.COUNT section.now pins.now.driver).sinks)) numbered.new.spots.items numbered.new.count) }
+    ensures marked { OnOk result ((nodes : List Node) → Marked (2 ^ 32 - 1) section.now.nodes nodes numbered.old.spots.items numbered.old.count
+        → Marked (2 ^ 32 - 1) section.now.nodes (with_nodes nodes (map node_of (listed_pins C.COUNT section.now pins.now.driver).sinks)) numbered.new.spots.items numbered.new.count) }
 {
     for sink in 0..pins.len(section) {
         let node = section.conn(pins.place(sink)).node;
@@ -59,8 +59,8 @@ fn mark_rest<C: CornerSet>(section: &Section<C>, numbered: &mut Numbered) -> Res
     requires size { length numbered.old.spots.items ≡ length section.now.nodes }
     requires distinct { AreDistinctNodes section.now.nodes }
     ensures size { OnOk result (length numbered.new.spots.items ≡ length section.now.nodes) }
-    ensures marked { OnOk result ((nodes : List Node) → Marked (2 ^ 64 - 1) section.now.nodes nodes numbered.old.spots.items numbered.old.count
-        → Marked (2 ^ 64 - 1) section.now.nodes (with_nodes nodes (map node_of section.now.nodes)) numbered.new.spots.items numbered.new.count) }
+    ensures marked { OnOk result ((nodes : List Node) → Marked (2 ^ 32 - 1) section.now.nodes nodes numbered.old.spots.items numbered.old.count
+        → Marked (2 ^ 32 - 1) section.now.nodes (with_nodes nodes (map node_of section.now.nodes)) numbered.new.spots.items numbered.new.count) }
 {
     for node in 0..section.node_count() {
         mark(numbered, node)?;

@@ -32,7 +32,7 @@ pub fn section_name<C: CornerSet>(
     ensures { IfOk result (λ name. (place : ℕ) × (slice_index numbered.now.spots.items place ≡ number) × (slice_get section.now.nodes place ≡ Some name)) }
 {
     for place in 0..section.node_count() {
-        if numbered.spots[place] == number {
+        if numbered.spots[place] as usize == number {
             return copy_name(alloc, section.node(place));
         }
     }

@@ -4,7 +4,7 @@
 #[derive(Drop)]
 pub struct Numbered {
     /// The number of each node of the section.
-    pub spots: Vec<usize>,
+    pub spots: Vec<u32>,
 
     /// How many nodes there are.
     pub count: usize,

@@ -5,7 +5,7 @@ ghost use Rattle.rc_tree.specs.Pins.{pin_nodes};
 ghost use Rattle.rc_tree.specs.Numbering.{AreSpots, AreEnds};
 ghost use Rattle.rc_tree.specs.SectionNets.{AreListed, IsFirstStrange};
 
-use crate::lists::push;
+use crate::lists::{kept, push};
 use crate::names::copy_name;
 use crate::node_table::NodeTable;
 use crate::pins::PinLoads;
@@ -19,8 +19,8 @@ use std::sync::ledger::Ledger;
 /// The ends of a net's resistors, by the numbers of its nodes.
 #[derive(Drop)]
 pub struct Ends {
-    pub froms: Vec<usize>,
-    pub tos: Vec<usize>,
+    pub froms: Vec<u32>,
+    pub tos: Vec<u32>,
 }
 
 /// The pins, in order.
@@ -68,14 +68,14 @@ pub fn number_section<C: CornerSet>(
     alloc: Global,
     table: &mut NodeTable,
     section: &Section<C>,
-) -> Result<Vec<usize>, OutOfMemory>
+) -> Result<Vec<u32>, OutOfMemory>
     ensures nodes { OnOk result (table.new ≡ with_nodes table.old (map node_of section.now.nodes)) }
     ensures spots { IfOk result (λ spots. AreSpots section.now.nodes table.new spots.items) }
 {
     let mut spots = Vec::with_capacity(alloc, section.node_count())?;
     for node in 0..section.node_count() {
         let number = table.intern(section.node(node))?;
-        push(&mut spots, number)?;
+        push(&mut spots, kept(number)?)?;
     }
     Ok(spots)
 }
@@ -84,7 +84,7 @@ pub fn number_section<C: CornerSet>(
 pub fn copy_ends<C: CornerSet, L: Ledger>(
     alloc: Global,
     section: &Section<C>,
-    spots: &[usize],
+    spots: &[u32],
     corner: C::Index,
     steps: &mut Steps<L>,
 ) -> Result<Ends, OutOfMemory>

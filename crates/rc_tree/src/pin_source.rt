@@ -2,7 +2,7 @@
 ghost use Rattle.std.specs.Prelude.{◌≡◌, ℕ, ◌+◌, ◌<◌, ◌≤◌, length, slice_index, ◌^◌, Some, IfOk};
 ghost use Rattle.corner_set.specs.Places.{value_at};
 ghost use Rattle.spef_nets.specs.NetElements.{NetElements as SectionElements};
-ghost use Rattle.rc_tree.specs.Arenas.{most_elements, most_farads};
+ghost use Rattle.rc_tree.specs.Arenas.{most_farads};
 ghost use Rattle.rc_tree.specs.Pins.{Pins};
 ghost use Rattle.rc_tree.specs.ListedPins.{listed_pins};
 ghost use Rattle.rc_tree.specs.Searched.{IsNumbered, IsNameAt, AreSinks};
@@ -40,11 +40,10 @@ pub trait PinSource<C: CornerSet> {
         alloc: Global,
         section: &Section<C>,
         numbered: &Numbered,
-        numbers: &[usize],
+        numbers: &[u32],
     ) -> Result<Vec<NodeId>, OutOfMemory>
         requires numbered { IsNumbered section.now (pins self.now section.now) numbered.now.spots.items numbered.now.count }
         requires every { length numbers.now ≡ numbered.now.count }
-        requires few { (k : ℕ) → k < length numbers.now → slice_index numbers.now k ≤ most_elements + 1 }
         ensures size { IfOk result (λ sinks. length sinks.items ≡ length (pins self.now section.now).sinks) }
         ensures sinks { IfOk result (λ sinks. AreSinks section.now (pins self.now section.now) numbers.now sinks.items) };
 
@@ -76,7 +75,7 @@ impl<C: CornerSet> PinSource<C> for PinLoads<C> {
         alloc: Global,
         section: &Section<C>,
         numbered: &Numbered,
-        numbers: &[usize],
+        numbers: &[u32],
     ) -> Result<Vec<NodeId>, OutOfMemory> {
         self.places(alloc, section, numbered, numbers)
     }
@@ -108,7 +107,7 @@ impl<C: CornerSet> PinSource<C> for ListedPins {
         alloc: Global,
         section: &Section<C>,
         numbered: &Numbered,
-        numbers: &[usize],
+        numbers: &[u32],
     ) -> Result<Vec<NodeId>, OutOfMemory> {
         self.places(alloc, section, numbered, numbers)
     }

@@ -1,7 +1,7 @@
 //! The pins of a net.
 ghost use Rattle.std.specs.Prelude.{◌≡◌, ℕ, ◌+◌, ◌<◌, ◌≤◌, [], ◌∷◌, ◌++◌, length, Some, All, Contains, OnOk, OnErr, IfOk, slice_get, slice_index};
 ghost use Rattle.corner_set.specs.Places.{HasRow, value_at};
-ghost use Rattle.rc_tree.specs.Arenas.{most_elements, most_farads};
+ghost use Rattle.rc_tree.specs.Arenas.{most_farads};
 ghost use Rattle.rc_tree.specs.Nodes.{node_of};
 ghost use Rattle.rc_tree.specs.Pins.{pin_nodes, row_of};
 ghost use Rattle.rc_tree.specs.Searched.{IsNumbered, IsNameAt, AreSinks};
@@ -126,11 +126,10 @@ impl<C: CornerSet> PinLoads<C> {
         alloc: Global,
         section: &Section<C>,
         numbered: &Numbered,
-        numbers: &[usize],
+        numbers: &[u32],
     ) -> Result<Vec<NodeId>, OutOfMemory>
         requires numbered { IsNumbered section.now self.now numbered.now.spots.items numbered.now.count }
         requires every { length numbers.now ≡ numbered.now.count }
-        requires few { (k : ℕ) → k < length numbers.now → slice_index numbers.now k ≤ most_elements + 1 }
         ensures size { IfOk result (λ sinks. length sinks.items ≡ length self.now.sinks) }
         ensures sinks { IfOk result (λ sinks. AreSinks section.now self.now numbers.now sinks.items) }
     {

@@ -5,19 +5,14 @@ ghost use Rattle.rc_tree.specs.Searches.{Search, IsSearch, IsClosed, Grown, IsVi
 ghost use Rattle.rc_tree.specs.FoundSearch.{search_of};
 
 use crate::found::Found;
-use crate::lists::{push, zeros};
+use crate::lists::{kept, push, zeros};
 use crate::threads::{Threads, thread};
 use edge_io::OutOfMemory;
 use std::alloc::Global;
 
 /// Finds all nodes that walks over the resistors reach from node 0, in breadth first order. The resistor at a place has its
 /// ends at the nodes of that place in both lists.
-pub fn search(
-    alloc: Global,
-    froms: &[usize],
-    tos: &[usize],
-    nodes: usize,
-) -> Result<Found, OutOfMemory>
+pub fn search(alloc: Global, froms: &[u32], tos: &[u32], nodes: usize) -> Result<Found, OutOfMemory>
     requires some { 0 < nodes }
     requires same { length tos.now ≡ length froms.now }
     requires froms { All (λ node. node < nodes) froms.now }
@@ -38,8 +33,8 @@ pub fn search(
 fn visit_both(
     at_froms: &Threads,
     at_tos: &Threads,
-    froms: &[usize],
-    tos: &[usize],
+    froms: &[u32],
+    tos: &[u32],
     place: usize,
     found: &mut Found,
 ) -> Result<(), OutOfMemory>
@@ -89,8 +84,8 @@ fn start(alloc: Global, resistors: usize, nodes: usize) -> Result<Found, OutOfMe
 // Finds what is joined to the node at a place of the order by the resistors of one threading.
 fn visit(
     threads: &Threads,
-    near: &[usize],
-    far: &[usize],
+    near: &[u32],
+    far: &[u32],
     place: usize,
     found: &mut Found,
 ) -> Result<(), OutOfMemory>
@@ -103,9 +98,9 @@ fn visit(
     ensures grown { OnOk result (Grown (search_of found.old) (search_of found.new)) }
     ensures visited { OnOk result (IsVisited near.now far.now (search_of found.new) (slice_index found.old.order.items place)) }
 {
-    let mut left = threads.heads[found.order[place]];
+    let mut left = threads.heads[found.order[place] as usize];
     while left != 0 {
-        let resistor = left - 1;
+        let resistor = left as usize - 1;
         reach(resistor, far[resistor], place, found)?;
         left = threads.nexts[resistor];
     }
@@ -113,19 +108,22 @@ fn visit(
 }
 
 // Finds a node over a resistor from the node at a place of the order, where it is not found yet.
-fn reach(resistor: usize, node: usize, place: usize, found: &mut Found) -> Result<(), OutOfMemory>
+fn reach(resistor: usize, node: u32, place: usize, found: &mut Found) -> Result<(), OutOfMemory>
     requires node { node < length found.old.numbers.items }
     requires resistor { resistor < length found.old.links.items }
     ensures { OnOk result (search_of found.new ≡ reached (search_of found.old) resistor node place) }
 {
-    if found.numbers[node] != 0 {
+    if found.numbers[node as usize] != 0 {
         return Ok(());
     }
-    let next = found.order.len();
+    let next = kept(found.order.len())?;
+    let Some(number) = next.checked_add(1) else {
+        return Err(OutOfMemory);
+    };
     push(&mut found.order, node)?;
-    push(&mut found.parents, place)?;
-    push(&mut found.vias, resistor)?;
-    found.numbers[node] = next + 1;
+    push(&mut found.parents, kept(place)?)?;
+    push(&mut found.vias, kept(resistor)?)?;
+    found.numbers[node as usize] = number;
     found.links[resistor] = next;
     Ok(())
 }

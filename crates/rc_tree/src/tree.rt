@@ -17,7 +17,7 @@ use std::sync::ledger::Ledger;
 /// There are at most 2^19 + 1 nodes. A resistance is at most 10^14, and at each corner the capacitances are at most
 /// 2^20 * 10^12 together.
 pub struct RcTree<C: CornerSet> {
-    pub(crate) parents: Vec<usize>,
+    pub(crate) parents: Vec<u32>,
     pub(crate) ohms: Grid<C, Ohms>,
     pub(crate) farads: Grid<C, Farads>,
     pub(crate) sinks: Vec<NodeId>,
@@ -94,7 +94,7 @@ impl<C: CornerSet> RcTree<C> {
         if node.0 == 0 {
             return None;
         }
-        Some(NodeId(self.parents[node.0 as usize] as u32))
+        Some(NodeId(self.parents[node.0 as usize]))
     }
 
     /// The capacitance at a node, at a corner. It is one step.

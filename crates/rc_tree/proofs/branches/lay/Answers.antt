@@ -1,17 +1,12 @@
 use Rattle.std.proofs.Common.{◌∙◌, length, refl, ap, subst}
 use Rattle.rc_tree.specs.FoundSearch.{search_of}
 use Rattle.rc_tree.specs.Searched.{AreSinks}
-use Rattle.rc_tree.proofs.Growing.{spots_within, numbers_few, places_so}
+use Rattle.rc_tree.proofs.Growing.{spots_within, places_so}
 use Rattle.rc_tree.proofs.branches.lay.Goals as goal
 
 -- src/branches.rt
 pub sinks_in-requires-clause-every : goal.sinks_in-requires-clause-every
 sinks_in-requires-clause-every g c = ap length c.deref.ensures.value ∙ c.requires.explored.search.numbers_len
-
-pub sinks_in-requires-clause-few : goal.sinks_in-requires-clause-few
-sinks_in-requires-clause-few g c =
-    numbers_few c.args.section.now (g.P.PinSource.pins c.args.pins.now c.args.section.now) c.args.numbered.spots.items c.args.numbered.count (search_of c.args.found) c.requires.some c.requires.numbered c.requires.explored c.requires.complete c.requires.fit
-    c.deref.result.now c.deref.ensures.value
 
 pub places_of-requires : goal.places_of-requires
 places_of-requires g c =

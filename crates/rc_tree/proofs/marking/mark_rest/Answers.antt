@@ -11,11 +11,11 @@ loop-node-preserved g c =
     record {
       size = marks_size _ _ _ _ _ _ c.in_ok-mark.ensures ∙ c.loop-node.invariant.size;
       marked = λ nodes start.
-          marked_more 18446744073709551615 c.args.section.now.nodes nodes c.args.section.now.nodes c.loop-node.node c.loop-node.node (get_or c.args.section.now.nodes c.loop-node.node no_name)
+          marked_more 4294967295 c.args.section.now.nodes nodes c.args.section.now.nodes c.loop-node.node c.loop-node.node (get_or c.args.section.now.nodes c.loop-node.node no_name)
           c.loop-node.numbered.spots.items c.mark.new.numbered.spots.items c.loop-node.numbered.count c.mark.new.numbered.count c.requires.distinct named named c.in_ok-mark.ensures (c.loop-node.invariant.marked nodes start);
     }
 
 pub returns-clause-marked : goal.returns-clause-marked
 returns-clause-marked g c nodes start =
-    marked_end 18446744073709551615 c.args.section.now.nodes nodes c.args.section.now.nodes c.loop-node.node c.loop-node.numbered.spots.items c.loop-node.numbered.count
+    marked_end 4294967295 c.args.section.now.nodes nodes c.args.section.now.nodes c.loop-node.node c.loop-node.numbered.spots.items c.loop-node.numbered.count
     (omega (arith, c.loop-node-test.false, c.node_count-node-end.ensures)) (c.loop-node.invariant.marked nodes start)

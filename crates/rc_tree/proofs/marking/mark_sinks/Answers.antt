@@ -15,7 +15,7 @@ pub loop-sink-preserved : goal.loop-sink-preserved
 loop-sink-preserved g c = record {
   size = marks_size _ _ _ _ _ _ c.in_ok-mark.ensures ∙ c.loop-sink.invariant.size;
   marked = λ nodes start.
-      marked_more 18446744073709551615 c.args.section.now.nodes nodes (listed_pins g.C.CornerSet.COUNT c.args.section.now c.args.pins.now.driver).sinks c.loop-sink.sink c.conn-node.result.node (conn_name c.args.section.now c.conn-node.result)
+      marked_more 4294967295 c.args.section.now.nodes nodes (listed_pins g.C.CornerSet.COUNT c.args.section.now c.args.pins.now.driver).sinks c.loop-sink.sink c.conn-node.result.node (conn_name c.args.section.now c.conn-node.result)
       c.loop-sink.numbered.spots.items c.mark.new.numbered.spots.items c.loop-sink.numbered.count c.mark.new.numbered.count c.requires.distinct
       (sink_is g.C.CornerSet.COUNT c.args.section.now c.args.pins.now.driver c.loop-sink.sink c.conn-node.result (omega (arith, c.loop-sink-test.true, c.len-sink-end.ensures)) (ap (slice_get c.args.section.now.conns) (sym c.place.ensures) ∙ c.conn-node.ensures.conn))
       (slice_get-get_or c.args.section.now.nodes c.conn-node.result.node no_name c.conn-node.ensures.node) c.in_ok-mark.ensures (c.loop-sink.invariant.marked nodes start);
@@ -23,5 +23,5 @@ loop-sink-preserved g c = record {
 
 pub returns-clause-marked : goal.returns-clause-marked
 returns-clause-marked g c nodes start =
-    marked_end 18446744073709551615 c.args.section.now.nodes nodes (listed_pins g.C.CornerSet.COUNT c.args.section.now c.args.pins.now.driver).sinks c.loop-sink.sink c.loop-sink.numbered.spots.items c.loop-sink.numbered.count
+    marked_end 4294967295 c.args.section.now.nodes nodes (listed_pins g.C.CornerSet.COUNT c.args.section.now c.args.pins.now.driver).sinks c.loop-sink.sink c.loop-sink.numbered.spots.items c.loop-sink.numbered.count
     (omega (arith, c.loop-sink-test.false, c.len-sink-end.ensures)) (c.loop-sink.invariant.marked nodes start)

@@ -10,10 +10,10 @@ use Rattle.rc_tree.proofs.marking.number_listed.Goals as goal
 pub returns : goal.returns
 returns g c =
     let pins = listed_pins g.C.CornerSet.COUNT c.args.section.now c.args.pins.now.driver in
-    let start = none_marked 18446744073709551615 c.args.section.now.nodes c.in_ok-filled.field-0.items (c.in_ok-filled.ensures ∙ ap (λ n. replicate n 18446744073709551615) c.node_count.ensures) in
-    let first = mark_step 18446744073709551615 c.args.section.now.nodes [] c.conn.result.node (conn_name c.args.section.now c.conn.result) c.in_ok-filled.field-0.items c.mark.new.numbered.spots.items 0 c.mark.new.numbered.count
+    let start = none_marked 4294967295 c.args.section.now.nodes c.in_ok-filled.field-0.items (c.in_ok-filled.ensures ∙ ap (λ n. replicate n 4294967295) c.node_count.ensures) in
+    let first = mark_step 4294967295 c.args.section.now.nodes [] c.conn.result.node (conn_name c.args.section.now c.conn.result) c.in_ok-filled.field-0.items c.mark.new.numbered.spots.items 0 c.mark.new.numbered.count
     c.distinct.ensures (slice_get-get_or c.args.section.now.nodes c.conn.result.node no_name c.conn.ensures.node) c.in_ok-mark.ensures start in
-    let driver = subst (λ name. Marked 18446744073709551615 c.args.section.now.nodes (with_node [] (node_of name)) c.mark.new.numbered.spots.items c.mark.new.numbered.count)
+    let driver = subst (λ name. Marked 4294967295 c.args.section.now.nodes (with_node [] (node_of name)) c.mark.new.numbered.spots.items c.mark.new.numbered.count)
     (sym (ap (conn_name c.args.section.now) (get_or_from_slice_get c.args.section.now.conns c.args.pins.now.driver c.conn.result no_conn c.conn.ensures.conn))) first in
-    marked_all 18446744073709551615 c.args.section.now pins c.mark_rest.new.numbered.spots.items c.mark_rest.new.numbered.count
+    marked_all 4294967295 c.args.section.now pins c.mark_rest.new.numbered.spots.items c.mark_rest.new.numbered.count
     (c.in_ok-mark_rest.ensures.marked (with_nodes (with_node [] (node_of pins.driver)) (map node_of pins.sinks)) (c.in_ok-mark_sinks.ensures.marked (with_node [] (node_of pins.driver)) driver))

@@ -1,3 +1,4 @@
+use Rattle.std.proofs.Common.{[], ◌∷◌, ◌++◌, ap, ◌∙◌}
 use Rattle.rc_tree.proofs.Numbers.{numbering_step}
 use Rattle.rc_tree.proofs.numbering.number_section.Goals as goal
 
@@ -5,4 +6,4 @@ use Rattle.rc_tree.proofs.numbering.number_section.Goals as goal
 pub loop-node-preserved : goal.loop-node-preserved
 loop-node-preserved g c =
     numbering_step c.args.section.now.nodes c.args.table.now c.loop-node.table c.intern.new.self c.loop-node.spots.items c.push.new.values.items c.loop-node.node _ c.node.result.now
-    c.node.ensures c.in_ok-number.ensures.number c.in_ok-number.ensures.nodes c.in_ok-push.ensures c.loop-node.invariant
+    c.node.ensures c.in_ok-number.ensures.number c.in_ok-number.ensures.nodes (c.in_ok-push.ensures ∙ ap (λ n. c.loop-node.spots.items ++ n ∷ []) c.in_ok-kept.ensures) c.loop-node.invariant

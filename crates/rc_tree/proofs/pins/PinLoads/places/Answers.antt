@@ -5,8 +5,8 @@ use Rattle.rc_tree.proofs.Judging.{sinks_within, sinks_first}
 use Rattle.rc_tree.proofs.pins.PinLoads.places.Goals as goal
 
 -- src/pins.rt
-pub sinks_of-requires-clause-within : goal.sinks_of-requires-clause-within
-sinks_of-requires-clause-within g c =
+pub sinks_of-requires : goal.sinks_of-requires
+sinks_of-requires g c =
     let within = sinks_within c.args.section.now c.args.self.now (subst (λ p. Apart (pin_nodes p)) c.self.view_is c.self.invariant.apart) in
     let many = ap (λ p. length p.sinks) c.self.view_is in
     omega (arith, within, many, c.len.ensures, c.self.inside.sinks.ok.0, c.requires.every, c.requires.numbered.counted)
