@@ -28,8 +28,8 @@ abbrev pub design_of : List ℕ → List NetElements → DesignNets
 design_of design nets = record { design = design; nets = nets }
 
 -- no net gives no row
-pub nothing_drawn : (design : List ℕ) (rows : SdfRows) → rows ≡ record { design = design; wires = [] } → RowsOf (record { design = design; nets = [] }) (Ok rows)
-nothing_drawn design rows is = (ap (λ (r : SdfRows). r.design) is, subst (λ (w : List WireRow). NetsGive [] (Ok w)) (sym (ap (λ (r : SdfRows). r.wires) is)) no_net)
+pub nothing_drawn : (design : List ℕ) (rows : SdfRows) → rows ≡ record { design = design; wires = []; paths = [] } → RowsOf (record { design = design; nets = [] }) (Ok rows)
+nothing_drawn design rows is = (ap (λ (r : SdfRows). r.design) is, subst (λ (w : List WireRow). NetsGive [] (Ok w)) (sym (ap (λ (r : SdfRows). r.wires) is)) no_net, ap (λ (r : SdfRows). r.paths) is)
 
 -- a refusal stays when there are more nets
 still_refused : (nets : List NetElements) (refusal : Refusal) (net : NetElements) → NetsGive nets (Err refusal) → NetsGive (nets ++ net ∷ []) (Err refusal)
@@ -41,7 +41,7 @@ pub drawn_more : (design : List ℕ) (nets : List NetElements) (net : NetElement
     → RowsOf (record { design = design; nets = nets ++ net ∷ [] }) new
 drawn_more design nets net old new is (refused_before refusal) = still_refused nets refusal net is
 drawn_more design nets net old new is (refused_here rows refusal refuses) = refused [] is.1 refuses
-drawn_more design nets net old new is (has_rows rows more gives) = (is.0, and_net is.1 gives)
+drawn_more design nets net old new is (has_rows rows more gives) = (is.0, and_net is.1 gives, is.2)
 
 -- the rows of the nets are those of the text, as far as it is one
 pub text_drawn : (pick : Pick) (bytes : List ℕ) (file : SpefText) (head : HeadText) (answer : Result SdfRows Refusal) → ParsesSpef bytes (Ok file) → HeadsSpef file (Ok head) → DrawsNets pick file head answer → DrawsText pick bytes answer

@@ -27,7 +27,7 @@ one_within delays time is small = subst AreWithin (sym is) (small, tt)
 pub adds_row : {E : Type 0} (pins : Pins) (arena : Arena) (sink : ℕ) (id : NodeId) (name : NodeName) (read : ℕ) (time : Femto) (grid : List Femto) (from to : List ℕ) (old new : SdfRows) (values : List ℕ) (result : Result (Unit {0}) E)
     → slice_get arena.sinks sink ≡ Some id → slice_get pins.sinks sink ≡ Some name → (delay : HasDelay 1 arena values id.0 0) → delay.delay ≡ read → IsRounding (pos read) (pos (10 ^ 12)) time.0
     → grid ≡ time ∷ [] → from ≡ pins.driver.sdf → to ≡ name.sdf
-    → OnOk result (new ≡ record { design = old.design; wires = old.wires ++ record { from = from; to = to; delay = grid } ∷ [] })
+    → OnOk result (new ≡ record { design = old.design; wires = old.wires ++ record { from = from; to = to; delay = grid } ∷ []; paths = old.paths })
     → OnOk result (AddsRow pins arena sink old new)
 adds_row pins arena sink id name read time grid from to old new values (Ok done) placed named delay is rounded sole from_is to_is added = record {
   row = record { from = from; to = to; delay = grid };
@@ -51,7 +51,7 @@ adds_row pins arena sink id name read time grid from to old new values (Err end)
 pub no_rows : (pins : Pins) (arena : Arena) (rows : SdfRows) → AddsRows pins arena 0 rows rows
 no_rows pins arena rows = record {
   rows = [];
-  is = ap (λ w. record { design = rows.design; wires = w }) (sym (append-nil rows.wires));
+  is = ap (λ w. record { design = rows.design; wires = w; paths = rows.paths }) (sym (append-nil rows.wires));
   counted = refl;
   drawn = λ sink row e. absurd (cc);
 }
@@ -69,7 +69,7 @@ at_end (z ∷ xs) y (suc k) x e = elim (at_end xs y k x e) [
 pub rows_more : (pins : Pins) (arena : Arena) (sink : ℕ) (old middle new : SdfRows) → AddsRows pins arena sink old middle → AddsRow pins arena sink middle new → AddsRows pins arena (sink + 1) old new
 rows_more pins arena sink old middle new before more = record {
   rows = before.rows ++ more.row ∷ [];
-  is = more.is ∙ ap (λ m. with_rows m (more.row ∷ [])) before.is ∙ ap (λ w. record { design = old.design; wires = w }) (append_assoc old.wires before.rows (more.row ∷ []));
+  is = more.is ∙ ap (λ m. with_rows m (more.row ∷ [])) before.is ∙ ap (λ w. record { design = old.design; wires = w; paths = old.paths }) (append_assoc old.wires before.rows (more.row ∷ []));
   counted = length-append before.rows (more.row ∷ []) ∙ ap (λ n. n + 1) before.counted;
   drawn = λ k row e. elim (at_end before.rows more.row k row e) [
     | inl earlier ↦ before.drawn k row earlier

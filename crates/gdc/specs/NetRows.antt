@@ -39,7 +39,7 @@ pub record IsTreeRow (pins : Pins) (arena : Arena) (sink : ℕ) (row : WireRow) 
   pub rounded : IsRounding (pos elmore) (pos (10 ^ 12)) delay.0
 
 abbrev pub with_rows : SdfRows → List WireRow → SdfRows
-with_rows rows more = record { design = rows.design; wires = rows.wires ++ more }
+with_rows rows more = record { design = rows.design; wires = rows.wires ++ more; paths = rows.paths }
 
 -- one row more
 pub record AddsRow (pins : Pins) (arena : Arena) (sink : ℕ) (old new : SdfRows) : Type 0 where

@@ -59,7 +59,7 @@ pub data NetsGive : List NetElements → Result (List WireRow) Refusal → Type 
   and_net : {nets : List NetElements} {rows more : List WireRow} {net : NetElements} → NetsGive nets (Ok rows) → NetGives net (Ok more) → NetsGive (nets ++ net ∷ []) (Ok (rows ++ more))
   refused : {nets : List NetElements} {rows : List WireRow} {net : NetElements} {refusal : Refusal} (later : List NetElements) → NetsGive nets (Ok rows) → NetGives net (Err refusal) → NetsGive (nets ++ net ∷ later) (Err refusal)
 
--- the rows of a design's nets
+-- the rows of a design's nets, those of wires alone
 abbrev pub RowsOf : DesignNets → Result SdfRows Refusal → Type 0
-RowsOf design (Ok rows) = (rows.design ≡ design.design) × NetsGive design.nets (Ok rows.wires)
+RowsOf design (Ok rows) = (rows.design ≡ design.design) × NetsGive design.nets (Ok rows.wires) × (rows.paths ≡ [])
 RowsOf design (Err refusal) = NetsGive design.nets (Err refusal)

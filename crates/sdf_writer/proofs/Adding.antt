@@ -3,7 +3,7 @@ use Rattle.std.proofs.Common.{◌≡◌, ℕ, suc, ◌+◌, ◌*◌, List, [], �
 use Rattle.std.proofs.lemmas.List.{length-append, take-append-le, drop-append-le, take_all, length-drop}
 use Rattle.std.proofs.Math.Nat.{suc-mul}
 use Rattle.delay_units.specs.declared.Femto.{Femto}
-use Rattle.sdf_writer.specs.SdfText.{WireRow, SdfRows}
+use Rattle.sdf_writer.specs.SdfText.{WireRow, PathRow, SdfRows}
 use Rattle.sdf_writer.specs.WireRows.{wire_row, wire_rows}
 use Rattle.sdf_writer.specs.declared.rows.Wire.{Wire}
 use Rattle.sdf_writer.proofs.Remaining.{enough}
@@ -34,6 +34,6 @@ added_sizes count wires delays {delay = delay} wire e f h sizes one =
     rw (e, f, h, length-append delays delay, length-append wires (wire ∷ [])) (one_more count (length delays) (length wires) (length delay) sizes one)
 
 -- the rows after it
-pub added : (count : ℕ) (design : List ℕ) (wires : List Wire) (delays : List Femto) {wires' : List Wire} {delays' slice delay : List Femto} (wire : Wire) {rows : SdfRows} → record { design = design; wires = wire_rows count wires delays } ≡ rows → wires' ≡ wires ++ wire ∷ [] → delays' ≡ delays ++ slice → slice ≡ delay → length delays ≡ length wires * count → length delay ≡ count → record { design = design; wires = wire_rows count wires' delays' } ≡ record rows { wires = rows.wires ++ wire_row wire delay ∷ [] }
-added count design wires delays {delay = delay} wire view e f h sizes one =
-    rw (← view, e, f, h) (ap (λ (rows : List WireRow). record { design = design; wires = rows }) (rows_more count wires delays wire delay sizes one))
+pub added : (count : ℕ) (design : List ℕ) (paths : List PathRow) (wires : List Wire) (delays : List Femto) {wires' : List Wire} {delays' slice delay : List Femto} (wire : Wire) {rows : SdfRows} → record { design = design; wires = wire_rows count wires delays; paths = paths } ≡ rows → wires' ≡ wires ++ wire ∷ [] → delays' ≡ delays ++ slice → slice ≡ delay → length delays ≡ length wires * count → length delay ≡ count → record { design = design; wires = wire_rows count wires' delays'; paths = paths } ≡ record rows { wires = rows.wires ++ wire_row wire delay ∷ [] }
+added count design paths wires delays {delay = delay} wire view e f h sizes one =
+    rw (← view, e, f, h) (ap (λ (rows : List WireRow). record { design = design; wires = rows; paths = paths }) (rows_more count wires delays wire delay sizes one))

@@ -1,5 +1,8 @@
 mod Pushing
 mod Lines
+mod CellTexts
 mod Remaining
+mod PathsLeft
 mod Within
 mod Adding
+mod Keeping

@@ -6,7 +6,8 @@ use Rattle.std.proofs.lemmas.List.Folds.{flat_map-map}
 use Rattle.std.proofs.lemmas.Grind.{flat_map-append}
 use Rattle.delay_units.specs.declared.Femto.{Femto}
 use Rattle.delay_units.specs.Printing.{femto_text}
-use Rattle.sdf_writer.specs.SdfText.{WireRow, SdfRows, quoted, value_text, wire_line, delay_lines, opening_lines, lines_text, sdf_text}
+use Rattle.sdf_writer.specs.SdfText.{WireRow, PathRow, SdfRows, quoted, value_text, wire_line, delay_lines, cells_of, cell_lines, opening_lines, lines_text, sdf_text}
+use Rattle.sdf_writer.specs.PathRows.{cells_text}
 use Rattle.sdf_writer.specs.WireRows.{wire_rows, wire_text, wires_text}
 use Rattle.sdf_writer.specs.declared.rows.Wire.{Wire}
 
@@ -57,16 +58,22 @@ pub kept_delays_parts : (count : ℕ) (wires : List Wire) (delays : List Femto) 
 kept_delays_parts count [] delays some = cc
 kept_delays_parts count (wire ∷ wires) delays some = delays_parts _ _
 
+-- the end of a cell, and that of the file
+abbrev pub end_line : List ℕ
+end_line = lines_text (codes ")" ∷ [])
+
 -- the whole text
-pub sdf_parts : (rows : SdfRows) → sdf_text rows ≡ lines_text (opening_lines rows.design) ++ (lines_text (delay_lines rows.wires) ++ delays_close)
+pub sdf_parts : (rows : SdfRows) → sdf_text rows ≡ lines_text (opening_lines rows.design) ++ (lines_text (delay_lines rows.wires) ++ (end_line ++ (cells_text rows.paths ++ end_line)))
 unfolding sdf_text
 sdf_parts rows =
-    flat_map-append (λ line. line ++ 10 ∷ []) (opening_lines rows.design) (delay_lines rows.wires ++ codes ")" ∷ codes ")" ∷ [])
+    flat_map-append (λ line. line ++ 10 ∷ []) (opening_lines rows.design) (delay_lines rows.wires ++ codes ")" ∷ (flat_map cell_lines (cells_of rows.paths) ++ codes ")" ∷ []))
     ∙ ap (λ t. lines_text (opening_lines rows.design) ++ t)
-    (flat_map-append (λ line. line ++ 10 ∷ []) (delay_lines rows.wires) (codes ")" ∷ codes ")" ∷ []))
+    (flat_map-append (λ line. line ++ 10 ∷ []) (delay_lines rows.wires) (codes ")" ∷ (flat_map cell_lines (cells_of rows.paths) ++ codes ")" ∷ []))
+    ∙ ap (λ t. lines_text (delay_lines rows.wires) ++ (end_line ++ t))
+    (flat_map-append (λ line. line ++ 10 ∷ []) (flat_map cell_lines (cells_of rows.paths)) (codes ")" ∷ [])))
 
 -- the text of kept rows, behind nothing
-pub whole_text : (count : ℕ) {start design design' : List ℕ} {wires wires' : List Wire} {delays delays' : List Femto} {rows : SdfRows} → start ≡ [] → design ≡ design' → wires ≡ wires' → delays ≡ delays' → record { design = design'; wires = wire_rows count wires' delays' } ≡ rows → start ++ sdf_text (record { design = design; wires = wire_rows count wires delays }) ≡ sdf_text rows
+pub whole_text : (count : ℕ) {start design design' : List ℕ} {wires wires' : List Wire} {delays delays' : List Femto} {paths : List PathRow} {rows : SdfRows} → start ≡ [] → design ≡ design' → wires ≡ wires' → delays ≡ delays' → record { design = design'; wires = wire_rows count wires' delays'; paths = paths } ≡ rows → start ++ sdf_text (record { design = design; wires = wire_rows count wires delays; paths = paths }) ≡ sdf_text rows
 whole_text count e f h k rows_is = rw (e, f, h, k) (ap sdf_text rows_is)
 
 -- numbers parted by colons are the first, and each other with a colon before it

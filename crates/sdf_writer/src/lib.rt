@@ -1,10 +1,12 @@
-//! The SDF text of the delays of wires (IEEE 1497-2001), for one corner or three.
+//! The SDF text of the delays of wires and of paths through cells (IEEE 1497-2001), for one corner or three.
 //! Rows are collected first; then the text is written to a sink, through one buffer of fixed size.
 //! Names come in the spelling of SDF, delays in femtoseconds.
 #![tactic(auto)]
 
 mod buffer;
+mod cells;
 mod entries;
+mod paths;
 mod rows;
 mod text;
 mod values;

@@ -1,21 +1,24 @@
 //! The rows of one file, as they are collected.
 ghost use Rattle.std.specs.Prelude.{◌≡◌, [], ◌∷◌, ◌++◌, length, OnOk, OnErr};
+ghost use Rattle.std.specs.Option.{option_copied};
 ghost use Rattle.sdf_writer.specs.Bounds.{AreWithin};
+ghost use Rattle.sdf_writer.specs.PathRows.{IsEdge};
 
+use crate::paths::{Cell, Paths};
 use corner_set::{CornerSet, Grid};
 use delay_units::Femto;
 use edge_io::{OutOfMemory, Text};
 use std::alloc::Global;
-use std::marker::{Model, PhantomData};
+use std::marker::Model;
 
-/// The rows of one SDF file: the name of the design, and a row for each wire with its delay at each
-/// corner. Contracts see these.
+/// The rows of one SDF file: the name of the design, a row for each wire with its delay at each
+/// corner, and a row for each path through a cell with the delays of its rise and its fall. Contracts see these.
 pub struct Rows<C: CornerSet> {
     pub(crate) design: Text,
     pub(crate) wires: Vec<Wire>,
     // the delays of all wires one after another, of each its corners by number
     pub(crate) delays: Vec<Femto>,
-    pub(crate) corners: PhantomData<C>,
+    pub(crate) paths: Paths<C>,
 }
 
 // A derived one would ask for `C: Drop`.
@@ -25,7 +28,7 @@ impl<C: CornerSet> Drop for Rows<C> {
             design: _,
             wires: _,
             delays: _,
-            corners: _,
+            paths: _,
         } = self;
     }
 }
@@ -46,7 +49,7 @@ impl<C: CornerSet> Model for Rows<C> {
 
     ghost use Rattle.sdf_writer.specs.WireRows.{wire_rows};
 
-    ghost view = { λ rows. record { design = rows.design; wires = wire_rows C.COUNT rows.wires.items rows.delays.items } };
+    ghost view = { λ rows. record { design = rows.design; wires = wire_rows C.COUNT rows.wires.items rows.delays.items; paths = rows.paths } };
 
     ghost invariant = { λ rows. (length rows.delays.items ≡ length rows.wires.items * C.COUNT) × AreWithin rows.delays.items };
 }
@@ -54,13 +57,13 @@ impl<C: CornerSet> Model for Rows<C> {
 impl<C: CornerSet> Rows<C> {
     /// No rows yet, of a design of that name. It takes no memory.
     pub fn new(alloc: Global, design: Text) -> Rows<C>
-        ensures { result ≡ record { design = design; wires = [] } }
+        ensures { result ≡ record { design = design; wires = []; paths = [] } }
     {
         Rows {
             design,
             wires: Vec::new(alloc),
             delays: Vec::new(alloc),
-            corners: PhantomData,
+            paths: Paths::new(alloc),
         }
     }
 
@@ -83,5 +86,31 @@ impl<C: CornerSet> Rows<C> {
         // There is room for it.
         let _ = self.wires.push(Wire { from, to });
         Ok(())
+    }
+
+    /// Adds the row of a path through a cell of that type (`cell`, a plain text) and of that instance, from one of its pins to
+    /// another, all three in the spelling of SDF. `rise` and `fall` are the delays of the edges at the second pin, each of one
+    /// row, with the time at each corner, of at most 10^27 fs in size, or none. Paths of one cell that are added one after
+    /// another stand in one CELL of the text, so those of an instance are to be added together. Where memory is missing the
+    /// names are dropped and the rows stay as they were.
+    pub fn add_path(
+        &mut self,
+        cell: Text,
+        instance: Text,
+        from: Text,
+        to: Text,
+        rise: Option<&Grid<C, Femto>>,
+        fall: Option<&Grid<C, Femto>>,
+    ) -> Result<(), OutOfMemory>
+        requires rise { IsEdge C.COUNT (option_copied rise) }
+        requires fall { IsEdge C.COUNT (option_copied fall) }
+        ensures ok { OnOk result (self.new ≡ record self.old { paths = self.old.paths ++ record { cell = cell; instance = instance; from = from; to = to; rise = option_copied rise.entry; fall = option_copied fall.entry } ∷ [] }) }
+        ensures err { OnErr result (self.new ≡ self.old) }
+    {
+        let cell = Cell {
+            kind: cell,
+            instance,
+        };
+        self.paths.add(cell, from, to, rise, fall)
     }
 }

@@ -1,4 +1,5 @@
-ghost use Rattle.std.specs.Prelude.{◌≤◌, ◌^◌, unsigned_abs};
+ghost use Rattle.std.specs.Prelude.{◌≡◌, ◌≤◌, ◌^◌, unsigned_abs, length, IfOk};
+ghost use Rattle.sdf_writer.specs.Bounds.{AreWithin};
 
 use super::*;
 use crate::buffer::Buffer;
@@ -103,5 +104,97 @@ fn a_value_has_a_number_for_each_corner(rt: HostRuntime) -> Result<(), Fail> {
     assert_eq!(rt; write_value(&mut buffer, &mut sink, &delay), Ok(()));
     assert_eq!(rt; buffer.flush(&mut sink), Ok(()));
     assert_eq!(rt; sink.written(), b"(0.200:-12.345:0.400)".as_slice());
+    Ok(())
+}
+
+/// One row with this time.
+fn row_of(alloc: Global, femtoseconds: i128) -> Result<Grid<Single, Femto>, OutOfMemory>
+    requires { unsigned_abs femtoseconds ≤ 10 ^ 27 }
+    ensures { IfOk result (λ grid. (length grid ≡ 1) × AreWithin grid) }
+{
+    Grid::<Single, Femto>::with_rows(alloc, 1, Femto(femtoseconds))
+}
+
+/// The design `top`, with two wires and three paths, of which two are of one cell.
+fn wires_and_paths(alloc: Global) -> Result<Rows<Single>, OutOfMemory> {
+    let mut rows = Rows::new(alloc, Text::from_bytes(alloc, b"top")?);
+    add(alloc, &mut rows, b"a", b"u1/A", 0)?;
+    add(alloc, &mut rows, b"u1/Z", b"z", 0)?;
+    let rise = row_of(alloc, 37_500)?;
+    let fall = row_of(alloc, 19_500)?;
+    rows.add_path(
+        Text::from_bytes(alloc, b"INV")?,
+        Text::from_bytes(alloc, b"u1")?,
+        Text::from_bytes(alloc, b"A")?,
+        Text::from_bytes(alloc, b"Z")?,
+        Some(&rise),
+        Some(&fall),
+    )?;
+    let fall = row_of(alloc, 12)?;
+    rows.add_path(
+        Text::from_bytes(alloc, b"N\"D\\2")?,
+        Text::from_bytes(alloc, b"b/u2")?,
+        Text::from_bytes(alloc, b"A")?,
+        Text::from_bytes(alloc, b"Z")?,
+        None,
+        Some(&fall),
+    )?;
+    let rise = row_of(alloc, -1_500)?;
+    rows.add_path(
+        Text::from_bytes(alloc, b"N\"D\\2")?,
+        Text::from_bytes(alloc, b"b/u2")?,
+        Text::from_bytes(alloc, b"B")?,
+        Text::from_bytes(alloc, b"Z")?,
+        Some(&rise),
+        None,
+    )?;
+    Ok(rows)
+}
+
+const WIRES_AND_PATHS: &[u8] = b"(DELAYFILE
+(SDFVERSION \"3.0\")
+(DESIGN \"top\")
+(PROGRAM \"gdc\")
+(VERSION \"1\")
+(DIVIDER /)
+(TIMESCALE 1ps)
+(CELL
+(CELLTYPE \"top\")
+(INSTANCE)
+(DELAY
+(ABSOLUTE
+(INTERCONNECT a u1/A (0.000))
+(INTERCONNECT u1/Z z (0.000))
+)
+)
+)
+(CELL
+(CELLTYPE \"INV\")
+(INSTANCE u1)
+(DELAY
+(ABSOLUTE
+(IOPATH A Z (37.500) (19.500))
+)
+)
+)
+(CELL
+(CELLTYPE \"N\\\"D\\\\2\")
+(INSTANCE b/u2)
+(DELAY
+(ABSOLUTE
+(IOPATH A Z () (0.012))
+(IOPATH B Z (-1.500) ())
+)
+)
+)
+)
+";
+
+#[test]
+fn each_cell_has_its_paths(rt: HostRuntime) -> Result<(), Fail> {
+    let rows = wires_and_paths(rt.alloc())?;
+    let mut sink = MemSink::new(rt.alloc(), 1000, 1000)?;
+    assert_eq!(rt; write(&rows, &mut sink), Ok(()));
+    assert_eq!(rt; sink.written(), WIRES_AND_PATHS);
     Ok(())
 }

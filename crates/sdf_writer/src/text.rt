@@ -1,5 +1,5 @@
 //! The whole text: the head of the file and its cell, the rows, and the end.
-ghost use Rattle.std.specs.Prelude.{◌≡◌, ◌*◌, ◌++◌, length, flat_map};
+ghost use Rattle.std.specs.Prelude.{◌≡◌, ◌*◌, [], ◌∷◌, ◌++◌, length, flat_map, codes};
 ghost use Rattle.edge_io.specs.Writing.{Writes};
 ghost use Rattle.sdf_writer.specs.SdfText.{escaped, quoted, lines_text, opening_lines, sdf_text};
 ghost use Rattle.sdf_writer.specs.Bounds.{AreWithin};
@@ -7,7 +7,9 @@ ghost use Rattle.sdf_writer.specs.Gathering.{Pushes};
 ghost use Rattle.sdf_writer.specs.WireRows.{wire_rows};
 
 use crate::buffer::Buffer;
+use crate::cells::write_cells;
 use crate::entries::write_delays;
+use crate::paths::Paths;
 use crate::rows::{Rows, Wire};
 use corner_set::CornerSet;
 use delay_units::Femto;
@@ -25,6 +27,7 @@ pub fn write<C: CornerSet, O: Sink>(rows: &Rows<C>, sink: &mut O) -> Result<(), 
         rows.design.bytes(),
         rows.wires.as_slice(),
         rows.delays.as_slice(),
+        &rows.paths,
     )?;
     buffer.flush(sink)?;
     Ok(())
@@ -37,16 +40,27 @@ fn write_rows<C: CornerSet, O: Sink>(
     design: &[u8],
     wires: &[Wire],
     delays: &[Femto],
+    paths: &Paths<C>,
 ) -> Result<(), Failed>
     requires sizes { length delays.now ≡ length wires.now * C.COUNT }
     requires within { AreWithin delays.now }
-    ensures pushes { Pushes (buffer.old ++ sdf_text (record { design = design.now; wires = wire_rows C.COUNT wires.now delays.now })) buffer.new
+    ensures pushes { Pushes (buffer.old ++ sdf_text (record { design = design.now; wires = wire_rows C.COUNT wires.now delays.now; paths = paths.now })) buffer.new
         (O.written sink.old) (O.written sink.new) (O.faults sink.old) (O.faults sink.new) result }
 {
     write_opening(buffer, sink, design)?;
     write_delays::<C, O>(buffer, sink, wires, delays)?;
-    buffer.push(sink, b")\n)\n")?;
+    write_end(buffer, sink)?;
+    write_cells::<C, O>(buffer, sink, paths)?;
+    write_end(buffer, sink)?;
     Ok(())
+}
+
+// The line that ends the cell of the design, and the file.
+fn write_end<O: Sink>(buffer: &mut Buffer, sink: &mut O) -> Result<(), Failed>
+    ensures pushes { Pushes (buffer.old ++ lines_text (codes ")" ∷ [])) buffer.new
+        (O.written sink.old) (O.written sink.new) (O.faults sink.old) (O.faults sink.new) result }
+{
+    buffer.push(sink, b")\n")
 }
 
 // The lines before the delays.
@@ -66,7 +80,11 @@ fn write_opening<O: Sink>(buffer: &mut Buffer, sink: &mut O, design: &[u8]) -> R
 }
 
 // A text in quotation marks.
-fn write_quoted<O: Sink>(buffer: &mut Buffer, sink: &mut O, text: &[u8]) -> Result<(), Failed>
+pub(crate) fn write_quoted<O: Sink>(
+    buffer: &mut Buffer,
+    sink: &mut O,
+    text: &[u8],
+) -> Result<(), Failed>
     ensures pushes { Pushes (buffer.old ++ quoted text.now) buffer.new
         (O.written sink.old) (O.written sink.new) (O.faults sink.old) (O.faults sink.new) result }
 {

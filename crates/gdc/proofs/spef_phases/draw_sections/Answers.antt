@@ -12,7 +12,7 @@ pub loop-init : goal.loop-init
 loop-init g c = (
   [],
   no_nets sole_corner c.args.file.now c.args.head.now c.args.pick c.new-reader.result c.new-reader.ensures,
-  nothing_drawn c.args.head.now.design c.new-rows.result (c.new-rows.ensures ∙ ap (λ (d : List ℕ). record { design = d; wires = [] }) (c.in_ok-design.ensures ∙ c.bytes.ensures ∙ c.design.ensures)),
+  nothing_drawn c.args.head.now.design c.new-rows.result (c.new-rows.ensures ∙ ap (λ (d : List ℕ). record { design = d; wires = []; paths = [] }) (c.in_ok-design.ensures ∙ c.bytes.ensures ∙ c.design.ensures)),
   ap length c.in_ok-delay.ensures,
 )
 

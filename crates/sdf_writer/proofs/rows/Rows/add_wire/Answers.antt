@@ -17,4 +17,4 @@ returns-clause-ok g c =
     let pushed = chosen _ _ c.push.ensures.items (c.push.ensures.succeeds (omega (arith, c.in_ok-reserve.ensures.ok))) in
     let wires = pushed ∙ ap (λ ws. ws ++ record { from = c.args.from; to = c.args.to } ∷ []) c.reserve.ensures.items in
     let more = c.in_ok-extend_from_slice.ensures.items in
-    added g.C.CornerSet.COUNT c.self.inside.design c.self.inside.wires.items c.self.inside.delays.items (record { from = c.args.from; to = c.args.to }) c.self.view_is wires more c.as_slice.ensures c.self.invariant.0 c.requires.one_row
+    added g.C.CornerSet.COUNT c.self.inside.design c.self.inside.paths c.self.inside.wires.items c.self.inside.delays.items (record { from = c.args.from; to = c.args.to }) c.self.view_is wires more c.as_slice.ensures c.self.invariant.0 c.requires.one_row

@@ -1,0 +1,119 @@
+-- How rows of paths are kept: each cell once for the paths of it that stand together, and the times of all of them in one list.
+use Rattle.std.specs.Prelude.{◌≡◌, ℕ, ◌+◌, ◌<◌, ◌≤◌, Bool, ◌&&◌, if◌then◌else◌, List, [], ◌∷◌, ◌++◌, map, length, get_or, take, drop, Option, Some, None, codes, ⊤}
+use Rattle.std.specs.List.{flat_map}
+use Rattle.std.specs.Str.{bytes_eq}
+use Rattle.delay_units.specs.declared.Femto.{Femto}
+use Rattle.sdf_writer.specs.Bounds.{AreWithin}
+use Rattle.sdf_writer.specs.SdfText.{PathRow, edge_text, path_line, cells_of, cell_opening, cell_closing, cell_lines, lines_text}
+use Rattle.sdf_writer.specs.declared.paths.Cell.{Cell}
+use Rattle.sdf_writer.specs.declared.paths.Path.{Path}
+
+-- ---- the rows that are kept
+
+abbrev pub no_cell : Cell
+no_cell = record { kind = []; instance = [] }
+
+abbrev pub cell_at : List Cell → ℕ → Cell
+cell_at cells place = get_or cells place no_cell
+
+-- the times of an edge, one a corner from a place on
+abbrev pub edge_at : ℕ → List Femto → Option ℕ → Option (List Femto)
+edge_at count times None = None
+edge_at count times (Some place) = Some (take count (drop place times))
+
+abbrev pub path_row : ℕ → List Cell → List Femto → Path → PathRow
+path_row count cells times path = record {
+  cell = (cell_at cells path.cell).kind;
+  instance = (cell_at cells path.cell).instance;
+  from = path.from;
+  to = path.to;
+  rise = edge_at count times path.rise;
+  fall = edge_at count times path.fall;
+}
+
+abbrev pub path_rows : ℕ → List Cell → List Femto → List Path → List PathRow
+path_rows count cells times paths = map (path_row count cells times) paths
+
+-- the times of an edge stand among so many
+abbrev pub IsEdgeKept : ℕ → ℕ → Option ℕ → Type 0
+IsEdgeKept count size None = ⊤
+IsEdgeKept count size (Some place) = place + count ≤ size
+
+-- the cell of a path and its times stand among so many
+pub record IsKept (count cells times : ℕ) (path : Path) : Type 0 where
+  pub cell : path.cell < cells
+  pub rise : IsEdgeKept count times path.rise
+  pub fall : IsEdgeKept count times path.fall
+
+-- ---- what is put at the end
+
+pub record Extends (old new : List Cell) : Type 0 where
+  pub more : List Cell
+  pub is : new ≡ old ++ more
+
+pub record ExtendsTimes (old new : List Femto) : Type 0 where
+  pub more : List Femto
+  pub is : new ≡ old ++ more
+  pub within : AreWithin more
+
+-- one value a corner, or none
+abbrev pub IsEdge : ℕ → Option (List Femto) → Type 0
+IsEdge count None = ⊤
+IsEdge count (Some delay) = (length delay ≡ count) × AreWithin delay
+
+-- the times that stand at a place are these
+pub record KeepsEdge (count : ℕ) (times : List Femto) (edge : Option (List Femto)) (place : Option ℕ) : Type 0 where
+  pub kept : IsEdgeKept count (length times) place
+  pub is : edge_at count times place ≡ edge
+
+-- the cell that stands at a place is this one
+pub record KeepsCell (cells : List Cell) (cell : Cell) (place : ℕ) : Type 0 where
+  pub below : place < length cells
+  pub is : cell_at cells place ≡ cell
+
+-- a path stands for this row
+pub record KeepsRow (count : ℕ) (cells : List Cell) (times : List Femto) (row : PathRow) (path : Path) : Type 0 where
+  pub kept : IsKept count (length cells) (length times) path
+  pub is : path_row count cells times path ≡ row
+
+-- ---- the text of the rows
+
+abbrev pub cell_of : PathRow → Cell
+cell_of row = record { kind = row.cell; instance = row.instance }
+
+abbrev pub is_same : Cell → Cell → Bool
+is_same one other = bytes_eq one.kind other.kind && bytes_eq one.instance other.instance
+
+-- the line of a path, with its end
+abbrev pub path_text : PathRow → List ℕ
+path_text row = path_line row ++ 10 ∷ []
+
+-- the parts of that line
+abbrev pub names_text : List ℕ → List ℕ → List ℕ
+names_text from to = codes "(IOPATH " ++ (from ++ (32 ∷ [] ++ (to ++ 32 ∷ [])))
+
+abbrev pub line_text : List ℕ → List ℕ → Option (List Femto) → Option (List Femto) → List ℕ
+line_text from to rise fall = names_text from to ++ (edge_text rise ++ (32 ∷ [] ++ (edge_text fall ++ 41 ∷ 10 ∷ [])))
+
+abbrev pub opening_text : Cell → List ℕ
+opening_text cell = lines_text (cell_opening cell.kind cell.instance)
+
+abbrev pub closing_text : List ℕ
+closing_text = lines_text cell_closing
+
+-- what stands between paths of two cells: nothing where they are one
+abbrev pub between_text : Cell → Cell → List ℕ
+between_text one other = if is_same one other then [] else closing_text ++ opening_text other
+
+-- a path behind one of some cell
+abbrev pub next_text : Cell → PathRow → List ℕ
+next_text before row = between_text before (cell_of row) ++ path_text row
+
+-- the paths behind one of some cell, up to the end of the last cell
+abbrev pub rest_text : Cell → List PathRow → List ℕ
+rest_text before [] = closing_text
+rest_text before (row ∷ rows) = next_text before row ++ rest_text (cell_of row) rows
+
+-- the cells of the paths
+abbrev pub cells_text : List PathRow → List ℕ
+cells_text rows = lines_text (flat_map cell_lines (cells_of rows))
