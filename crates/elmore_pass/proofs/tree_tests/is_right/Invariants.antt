@@ -1,0 +1,4 @@
+use Rattle.elmore_pass.proofs.tree_tests.is_right.Given as goal
+
+abbrev pub ghosts-agrees : goal.ghosts-agrees
+ghosts-agrees a = record { name = a.blank.name; parts = a.blank.parts }
