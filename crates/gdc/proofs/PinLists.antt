@@ -4,17 +4,12 @@ use Rattle.std.specs.List.{slice_get, filter}
 use Rattle.std.specs.Prelude.{IfSome, option_to_list}
 use Rattle.std.proofs.lemmas.List.{append-nil, take-append-drop, take_all}
 use Rattle.std.proofs.lemmas.List.Elements.{filter-append}
-use Rattle.name_table.specs.declared.spef_names.NodeName.{NodeName}
 use Rattle.spef_nets.specs.NetElements.{NetElements}
 use Rattle.spef_nets.specs.declared.parts.Listed.{Listed}
 use Rattle.gdc.specs.declared.net_pins.DriverEnd.TheVariants.{ManyDrivers}
-use Rattle.gdc.specs.WireNets.{drives, no_name, name_at, HasDriver}
+use Rattle.gdc.specs.WireNets.{drives, HasDriver}
 use Rattle.gdc.specs.NetPins.{conn_of, IsNextDriver, IsDriverEnd}
-use Rattle.gdc.proofs.Places.{got_below, within, index_is, front_more}
-
--- the name that stands at a connection's node
-pub name_is : (net : NetElements) (conn : Listed) (name : NodeName) → slice_get net.nodes conn.node ≡ Some name → name_at net conn ≡ name
-name_is net conn name e = index_is net.nodes conn.node name no_name e
+use Rattle.gdc.proofs.Places.{got_below, within, front_more}
 
 -- the drivers among one connection more
 more_drivers : (net : NetElements) (place : ℕ) (conn : Listed) → slice_get net.conns place ≡ Some conn → filter drives (take (place + 1) net.conns) ≡ filter drives (take place net.conns) ++ filter drives (conn ∷ [])

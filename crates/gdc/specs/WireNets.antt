@@ -1,5 +1,5 @@
 -- The nets of a file, in its order: each gives a row for each of its wires, or is refused.
-use Rattle.std.specs.Prelude.{◌≡◌, ℕ, ◌==◌, Bool, if◌then◌else◌, List, [], ◌∷◌, ◌++◌, filter, map, slice_get, slice_index_or, Some, None, Result, Ok, Err}
+use Rattle.std.specs.Prelude.{◌≡◌, ℕ, ◌==◌, Bool, if◌then◌else◌, List, [], ◌∷◌, ◌++◌, filter, map, slice_get, Some, Result, Ok, Err}
 use Rattle.name_table.specs.declared.spef_names.NodeName.{NodeName}
 use Rattle.sdf_writer.specs.SdfText.{WireRow, SdfRows}
 use Rattle.spef_nets.specs.NetElements.{NetElements}
@@ -20,13 +20,6 @@ use Rattle.gdc.specs.declared.refusal.Refusal.TheVariants.{Unreached, Mesh, Limi
 -- an output of an instance drives its net, and so does an input of the design
 abbrev pub drives : Listed → Bool
 drives conn = if conn.port then conn.direction == 73 else conn.direction == 79
-
-abbrev pub no_name : NodeName
-no_name = record { head = []; tail = None; sdf = [] }
-
--- the name of a connection's node
-abbrev pub name_at : NetElements → Listed → NodeName
-name_at net conn = slice_index_or net.nodes conn.node no_name
 
 -- the wires of a net with these pins, one for each sink, at one corner
 abbrev pub wires_of : NetElements → Pins → List Wire
