@@ -1,0 +1,12 @@
+mod Words
+mod Names
+mod Quotes
+mod Digits
+mod Times
+mod TokenLists
+mod Values
+mod Fit
+mod Lines
+mod Texts
+mod Forms
+mod Law
