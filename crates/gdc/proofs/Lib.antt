@@ -6,3 +6,4 @@ pub mod PinLists
 pub mod Places
 pub mod TreeRows
 pub mod WordPairs
+pub mod Work

@@ -13,4 +13,5 @@ pub mod SpefPhases
 pub mod Statuses
 pub mod Verdict
 pub mod WireNets
+pub mod Work
 pub mod WordsEnds

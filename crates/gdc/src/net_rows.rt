@@ -1,5 +1,5 @@
 //! The rows of a net.
-ghost use Rattle.std.specs.Prelude.{◌≡◌, ◌+◌, ◌*◌, ◌^◌, ◌<◌, ◌≤◌, [], ◌∷◌, length, OnOk, IfOk, Err};
+ghost use Rattle.std.specs.Prelude.{◌≡◌, ◌+◌, ◌*◌, ◌^◌, ◌<◌, ◌≤◌, [], ◌∷◌, length, OnOk, IfOk, IsSome, Err};
 ghost use Rattle.rc_tree.specs.Arenas.{node_count};
 ghost use Rattle.rc_tree.specs.ListedPins.{listed_pins};
 ghost use Rattle.rc_tree.specs.Builds.{IsTreeOf};
@@ -185,6 +185,8 @@ pub fn draw_next<L: Ledger>(
     requires { length delay.old ≡ 1 }
     ensures next { IfOk result (λ after. DrawsNext net.now (drawn rows.old refused) (drawn rows.new after)) }
     ensures one_row { length delay.new ≡ 1 }
+    ensures steps { steps.new ≤ steps.old + most_steps net.now }
+    ensures no_steps { IsSome refused → steps.new ≡ steps.old }
 {
     match refused {
         Some(refusal) => Ok(Some(refusal)),

@@ -1,12 +1,14 @@
 //! The phases that read a SPEF file: its grammar, its head, and its nets, whose rows are drawn.
-ghost use Rattle.std.specs.Prelude.{◌≡◌, ◌^◌, ◌<◌, length, IfOk, Err};
+ghost use Rattle.std.specs.Prelude.{◌≡◌, ◌^◌, ◌<◌, length, IfOk, OnOk, IsTrue, Err};
 ghost use Rattle.verdict_phases.specs.Phases.{Passes};
 ghost use Rattle.spef_text.specs.Heads.{IsHeadOf};
 ghost use Rattle.spef_nets.specs.Reading.{next_section, with_net};
 ghost use Rattle.spef_nets.specs.Sections.{IsNet};
+ghost use Rattle.spef_nets.specs.Faults.{IsFaultless};
 ghost use Rattle.gdc.specs.SpefPhases.{sole_corner, ParsesSpef, HeadsSpef, NetsSpef};
 ghost use Rattle.gdc.specs.NetRows.{OnRefusal};
 ghost use Rattle.gdc.specs.Drawing.{DrawsNets, DrawsText};
+ghost use Rattle.gdc.specs.Work.{SectionsWork, TextWork, IsWithin, is_early};
 
 use crate::net_rows::draw_next;
 use crate::refusal::{IndexKind, NumberKind, Refusal};
@@ -61,6 +63,7 @@ fn next_net(reader: &mut SectionReader) -> Result<Section<Single>, PureEnd<Refus
     requires { length reader.old.nets < length reader.old.file.reading.sections }
     ensures ok { IfOk result (IsNet (sole_corner reader.old.pick) reader.old.file reader.old.head (next_section reader.old)) }
     ensures read { IfOk result (λ net. reader.new ≡ with_net reader.old net.net) }
+    ensures faultless { OnOk result (IsFaultless reader.old.file reader.old.head (length reader.old.nets) (next_section reader.old)) }
     ensures refused { OnRefusal result (λ refusal. NetsSpef reader.old.pick reader.old.file reader.old.head (Err refusal)) }
 {
     match reader.read::<Single>() {
@@ -98,6 +101,7 @@ fn draw_sections<L: Ledger>(
 ) -> Result<Rows<Single>, PureEnd<Refusal>>
     requires { IsHeadOf file.now head.now }
     ensures passes { Passes (DrawsNets pick file.now head.now) result }
+    ensures steps { IsWithin (SectionsWork pick file.now head.now) steps.old steps.new }
 {
     let design = Text::from_bytes(alloc, head.design().bytes())?;
     let mut rows = Rows::new(alloc, design);
@@ -119,7 +123,7 @@ fn draw_sections<L: Ledger>(
 
 /// The rows of the nets of a SPEF file's text, one for each wire: net after net, and in each its sinks in their order. This member
 /// of each triple counts.
-#[tactic(auto, using(crate::specs::Verdict::at_grammar, crate::specs::Verdict::at_head, crate::specs::Drawing::unread, crate::proofs::Drawing::text_drawn))]
+#[tactic(auto, using(crate::specs::Verdict::at_grammar, crate::specs::Verdict::at_head, crate::specs::Drawing::unread, crate::proofs::Drawing::text_drawn, crate::proofs::Work::no_text_work, crate::proofs::Work::text_work, crate::proofs::Work::drawn_late))]
 pub fn draw_text<L: Ledger>(
     alloc: Global,
     text: Text,
@@ -128,6 +132,8 @@ pub fn draw_text<L: Ledger>(
 ) -> Result<Rows<Single>, PureEnd<Refusal>>
     requires { length text < 2 ^ 30 }
     ensures passes { Passes (DrawsText pick text) result }
+    ensures steps { IsWithin (TextWork pick text) steps.old steps.new }
+    ensures no_steps { OnRefusal result (λ refusal. IsTrue (is_early refusal) → steps.new ≡ steps.old) }
 {
     let file = parse_spef(alloc, text.bytes())?;
     let head = head_of(alloc, &file)?;

@@ -8,6 +8,7 @@ ghost use Rattle.gdc.specs.Outcomes.{OnDone, IfRefused, IfUsage, IfReadFault, On
 ghost use Rattle.gdc.specs.Saying.{Says};
 ghost use Rattle.gdc.specs.Completeness.{IsComplete};
 ghost use Rattle.gdc.specs.Ends.{MeansEnd, FollowsTop};
+ghost use Rattle.gdc.specs.Work.{WordsWork, IsWithin, OnEarlyEnd, BeforeSections};
 ghost use Rattle.verdict_phases.specs.Phases.{RefusedBy, Halt};
 
 use crate::lines::say;
@@ -56,6 +57,7 @@ impl From<PhaseEnd<Refusal, FileKey>> for End {
 }
 
 /// The rows that the words ask for.
+#[tactic(auto, using(crate::proofs::Work::no_words_work))]
 fn decide<H: Shelf, L: Ledger>(
     alloc: Global,
     words: &Words,
@@ -64,6 +66,8 @@ fn decide<H: Shelf, L: Ledger>(
 ) -> Result<Rows<Single>, End>
     ensures follows { FollowsTop words.now (H.held shelf.old) result }
     ensures fault { MeansEnd words.now (H.held shelf.old) (H.faults shelf.old) (H.faults shelf.new) (H.opens shelf.old) (H.opens shelf.new) result }
+    ensures steps { IsWithin (WordsWork words.now (H.held shelf.old)) steps.old steps.new }
+    ensures no_steps { OnEarlyEnd result (steps.new ≡ steps.old) }
 {
     let asked = read_words(alloc, words)?;
     let rows = match asked.command() {
@@ -91,6 +95,8 @@ fn answer<H: Shelf, O: Sink, L: Ledger>(
         × GivesText words.now (H.held shelf.old)
         (λ text. AppendsFrontOf text (O.written out.old) (O.written out.new))) }
     ensures untouched { UnlessWritten result (O.written out.new ≡ O.written out.old) }
+    ensures steps { IsWithin (WordsWork words.now (H.held shelf.old)) steps.old steps.new }
+    ensures no_steps { BeforeSections result (steps.new ≡ steps.old) }
 {
     match decide(alloc, words, shelf, steps) {
         Err(End::Usage(fault)) => Outcome::Usage(fault),
@@ -148,6 +154,11 @@ pub fn run<H: Shelf, O: Sink, E: Sink, L: Ledger>(
 
     // The answer's line stands behind what `err` held.
     ensures said { Says result (E.written err.old) (E.written err.new) (E.faults err.old) (E.faults err.new) }
+
+    // No more steps than 16 for each resistor, capacitance to ground and connection of the sections that were read, and none
+    // before the first of them.
+    ensures steps { IsWithin (WordsWork words.now (H.held shelf.old)) steps.old steps.new }
+    ensures no_steps { BeforeSections result (steps.new ≡ steps.old) }
 {
     let outcome = answer(alloc, words, shelf, out, steps);
     // The answer stays where its line could not be written.

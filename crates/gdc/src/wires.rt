@@ -4,6 +4,7 @@ ghost use Rattle.edge_io.specs.Counts.{Rose, RoseBy};
 ghost use Rattle.edge_io.specs.Holding.{TellsMissing};
 ghost use Rattle.verdict_phases.specs.Phases.{Follows, OnReadFault};
 ghost use Rattle.gdc.specs.Verdict.{WiresGives};
+ghost use Rattle.gdc.specs.Work.{WiresWork, IsWithin, OnEarly};
 
 use crate::refusal::{FileKey, LimitKind, Refusal};
 use crate::spef_phases::draw_text;
@@ -18,7 +19,7 @@ use verdict_phases::{PhaseEnd, read_phase};
 pub const FILE_LIMIT: usize = 268_435_456;
 
 /// The rows of the wires of the SPEF file of that name, where this member of each triple counts.
-#[tactic(auto, using(crate::specs::Verdict::at_reading, crate::proofs::Drawing::text_refused, crate::proofs::Drawing::text_rows))]
+#[tactic(auto, using(crate::specs::Verdict::at_reading, crate::proofs::Drawing::text_refused, crate::proofs::Drawing::text_rows, crate::proofs::Work::no_file_work, crate::proofs::Work::file_work))]
 pub fn wires<H: Shelf, L: Ledger>(
     alloc: Global,
     shelf: &mut H,
@@ -32,6 +33,8 @@ pub fn wires<H: Shelf, L: Ledger>(
     ensures later { H.faults shelf.old ≤ H.faults shelf.new }
     ensures opens { RoseBy 1 (H.opens shelf.old) (H.opens shelf.new) }
     ensures held { H.held shelf.new ≡ H.held shelf.old }
+    ensures steps { IsWithin (WiresWork (H.held shelf.old) pick name.now) steps.old steps.new }
+    ensures no_steps { OnEarly result (steps.new ≡ steps.old) }
 {
     let too_long = Refusal::Limit(LimitKind::File(FileKey::Spef));
     let text = read_phase(alloc, shelf, name, FILE_LIMIT, FileKey::Spef, too_long)?;
