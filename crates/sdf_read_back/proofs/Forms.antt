@@ -6,7 +6,6 @@ use Rattle.std.proofs.lemmas.List.{append-nil}
 use Rattle.std.proofs.lemmas.Slice.Eq.{bytes_eq-Decides}
 use Rattle.delay_units.specs.declared.quantities.Femto.{Femto}
 use Rattle.name_table.specs.SdfNames.{canonical}
-use Rattle.name_table.specs.WellSpelled.{IsWellSpelled}
 use Rattle.token_fronts.specs.Tokens.{numbered}
 use Rattle.sdf_reader.specs.Tokens.{Lexeme, meaning}
 use Rattle.sdf_reader.specs.Keywords.{same_word, keyword_of}
@@ -20,10 +19,10 @@ use Rattle.sdf_reader.specs.declared.rows.SdfRow.{SdfRow}
 use Rattle.sdf_reader.specs.declared.rows.SdfRow.TheVariants as kind
 use Rattle.sdf_reader.specs.declared.words.Keyword.TheVariants as key
 use Rattle.sdf_writer.specs.SdfText.{WireRow, PathRow, SdfRows, quoted, before_cells, cells_of}
+use Rattle.sdf_read_back.specs.Names.{IsSettled}
 use Rattle.sdf_read_back.specs.Rows.{value_of, edge_value, wire_back, path_back, read_back_rows}
 use Rattle.sdf_read_back.proofs.Fit.{Each, IsWire, IsPath, IsEdgeDelay}
 use Rattle.sdf_read_back.proofs.Lines.{path_tokens_shape}
-use Rattle.sdf_read_back.proofs.Names.{canonical_stays}
 use Rattle.sdf_read_back.proofs.Quotes.{quoted_means}
 use Rattle.sdf_read_back.proofs.TokenLists.{left, right, word, text_token, numbers, edge_tokens, wire_tokens, path_tokens, delay_tokens, cell_tokens, wires_tokens, head_tokens, type_tokens, instance_tokens, design_tokens, sdf_tokens}
 use Rattle.sdf_read_back.proofs.Values.{IsDelay as FewTimes, picoseconds, numbers_are_word, numbers_say, low_is_no_keyword}
@@ -130,7 +129,7 @@ number_is shape delay is number others =
     is_number refl refl (not_retained shape (numbers delay) (low_is_no_keyword (numbers delay) (numbers_are_word delay is).1)) (numbers_say delay is) refl
 
 wire_row_is : (cell : List ℕ) (row : WireRow) → IsWire row → rows_of 47 (record { cell = cell; instance = Some [] }) Wire row.from row.to (value_of row.delay ∷ []) ≡ wire_back row ∷ []
-wire_row_is cell row is = λ i. kind.Wire (canonical_stays row.from is.from i) (canonical_stays row.to is.to i) (value_of row.delay) (value_of row.delay) ∷ []
+wire_row_is cell row is = λ i. kind.Wire (is.from.stays i) (is.to.stays i) (value_of row.delay) (value_of row.delay) ∷ []
 
 wire_forms : (cell : List ℕ) (row : WireRow) → IsWire row → Forms (IsEntry IsValue head (record { cell = cell; instance = Some [] })) (wire_tokens row) (wire_back row ∷ [])
 wire_forms cell row is number others = (
@@ -158,7 +157,7 @@ abbrev place_in : List ℕ → List ℕ → Place
 place_in cell instance = record { cell = cell; instance = Some instance }
 
 path_row_is : (cell instance : List ℕ) (row : PathRow) → IsPath row → rows_of 47 (place_in cell instance) Path row.from row.to (edge_value row.rise ∷ edge_value row.fall ∷ []) ≡ path_in cell instance row ∷ []
-path_row_is cell instance row is = λ i. kind.Path cell instance (canonical_stays row.from is.from i) (canonical_stays row.to is.to i) (edge_value row.rise) (edge_value row.fall) ∷ []
+path_row_is cell instance row is = λ i. kind.Path cell instance (is.from.stays i) (is.to.stays i) (edge_value row.rise) (edge_value row.fall) ∷ []
 
 path_forms : (cell instance : List ℕ) (row : PathRow) → IsPath row → Forms (IsEntry IsValue head (place_in cell instance)) (path_tokens row) (path_in cell instance row ∷ [])
 path_forms cell instance row is number others =
@@ -189,23 +188,23 @@ delay_forms place entries rows forms number others =
 one_forms : (Part : List Tok → List SdfRow → List Tok → Type 0) (tokens : List Lexeme) (rows : List SdfRow) → Forms Part tokens rows → Forms (Many Part) tokens rows
 one_forms Part tokens rows forms number others = let part = forms number others in (part.0, more none part.1)
 
--- a well spelled name is no `*`
-no_star : (name : List ℕ) → IsWellSpelled name → bytes_eq name (codes "*") ≡ false
+-- a settled name is no `*`
+no_star : (name : List ℕ) → IsSettled name → bytes_eq name (codes "*") ≡ false
 no_star name is = by (bytes_eq name (codes "*")) refl
   where
     by : (same : Bool) → bytes_eq name (codes "*") ≡ same → same ≡ false
     by true e =
         let star : name ≡ codes "*" = (bytes_eq-Decides name (codes "*")).0 e in
-        absurd (let spelled : canonical 47 (codes "*") ≡ codes "*" = subst (λ (n : List ℕ). canonical 47 n ≡ n) star (canonical_stays name is) in cc)
+        absurd (let spelled : canonical 47 (codes "*") ≡ codes "*" = subst (λ (n : List ℕ). canonical 47 n ≡ n) star is.stays in cc)
     by false e = refl
 
-named_place : (cell instance : List ℕ) → IsWellSpelled instance → record { cell = meaning (quoted cell); instance = instance_of 47 instance } ≡ place_in cell instance
+named_place : (cell instance : List ℕ) → IsSettled instance → record { cell = meaning (quoted cell); instance = instance_of 47 instance } ≡ place_in cell instance
 named_place cell instance is = λ i. record {
   cell = quoted_means cell i;
-  instance = (ap (λ t. elim t as (λ _. Option (List ℕ)) [ true ↦ None | false ↦ Some (canonical 47 instance) ]) (no_star instance is) ∙ ap (λ n. Some n) (canonical_stays instance is)) i;
+  instance = (ap (λ t. elim t as (λ _. Option (List ℕ)) [ true ↦ None | false ↦ Some (canonical 47 instance) ]) (no_star instance is) ∙ ap (λ n. Some n) is.stays) i;
 }
 
-cell_forms : (cell instance : List ℕ) (specs : List Lexeme) (rows : List SdfRow) → IsWellSpelled instance → Forms (Many (IsSpec IsValue head (place_in cell instance))) specs rows
+cell_forms : (cell instance : List ℕ) (specs : List Lexeme) (rows : List SdfRow) → IsSettled instance → Forms (Many (IsSpec IsValue head (place_in cell instance))) specs rows
     → Forms (IsCell IsValue head) (type_tokens cell ++ (instance_tokens instance ++ (specs ++ right ∷ []))) rows
 cell_forms cell instance specs rows is forms number others =
     let inside = forms (number + 1 + 1 + 1 + 1 + 1 + 1 + 1 + 1 + 1 + 1) (right ∷ others) in (

@@ -1,5 +1,6 @@
 mod Words
 mod Names
+mod Nodes
 mod Quotes
 mod Digits
 mod Times

@@ -7,7 +7,7 @@ use Rattle.sdf_reader.specs.Tokens.{Lexeme, AreTokens}
 use Rattle.sdf_writer.specs.SdfText.{WireRow, PathRow, quoted, wire_line, path_line, edge_text, lines_text}
 use Rattle.sdf_read_back.proofs.Quotes.{quoted_at}
 use Rattle.sdf_read_back.proofs.TokenLists.{left, right, word, text_token, numbers, edge_tokens, wire_tokens, path_tokens, instance_tokens}
-use Rattle.sdf_read_back.proofs.Words.{left_at, right_at, space_at, line_at, word_space, word_line, word_close, high_word, IsWordText}
+use Rattle.sdf_read_back.proofs.Words.{left_at, right_at, space_at, line_at, word_space, word_line, word_close, high_word, IsWord}
 
 -- the tokens of a line with its end, whatever follows it
 pub record LineIs (line : List ℕ) (tokens : List Lexeme) : Type 0 where
@@ -47,7 +47,7 @@ path_shape row rest = simp append_assoc
 
 -- ---- the lines of entries
 
-pub wire_is : (row : WireRow) → IsWordText row.from → IsWordText row.to → IsWordText (numbers row.delay) → LineIs (wire_line row) (wire_tokens row)
+pub wire_is : (row : WireRow) → IsWord row.from → IsWord row.to → IsWord (numbers row.delay) → LineIs (wire_line row) (wire_tokens row)
 wire_is row from to delay = record {
   parted = λ rest others are. subst (λ (t : List ℕ). AreTokens t (wire_tokens row ++ others)) (sym (wire_shape row rest))
       (left_at _ _ (word_space (codes "INTERCONNECT") _ _ (high_word (codes "INTERCONNECT") refl)
@@ -58,7 +58,7 @@ wire_is row from to delay = record {
 -- an edge has the numbers of a value, or none
 abbrev pub IsEdgeWord : Option (List Femto) → Type 0
 IsEdgeWord None = ⊤
-IsEdgeWord (Some delay) = IsWordText (numbers delay)
+IsEdgeWord (Some delay) = IsWord (numbers delay)
 
 edge_at : (edge : Option (List Femto)) → IsEdgeWord edge → (rest : List ℕ) (others : List Lexeme) → AreTokens rest others → AreTokens (edge_text edge ++ rest) (edge_tokens edge ++ others)
 edge_at None is rest others are = left_at _ _ (right_at _ _ are)
@@ -71,7 +71,7 @@ path_tokens_shape row others =
     ap (λ l. left ∷ word (codes "IOPATH") ∷ word row.from ∷ word row.to ∷ l)
     (append_assoc (edge_tokens row.rise) (edge_tokens row.fall ++ right ∷ []) others ∙ ap (λ l. edge_tokens row.rise ++ l) (append_assoc (edge_tokens row.fall) (right ∷ []) others))
 
-pub path_is : (row : PathRow) → IsWordText row.from → IsWordText row.to → IsEdgeWord row.rise → IsEdgeWord row.fall → LineIs (path_line row) (path_tokens row)
+pub path_is : (row : PathRow) → IsWord row.from → IsWord row.to → IsEdgeWord row.rise → IsEdgeWord row.fall → LineIs (path_line row) (path_tokens row)
 path_is row from to rise fall = record {
   parted = λ rest others are. subst (λ (t : List ℕ). AreTokens t (path_tokens row ++ others)) (sym (path_shape row rest))
       (subst (λ (l : List Lexeme). AreTokens (codes "(IOPATH " ++ (row.from ++ (32 ∷ (row.to ++ (32 ∷ (edge_text row.rise ++ (32 ∷ (edge_text row.fall ++ 41 ∷ 10 ∷ rest)))))))) l) (sym (path_tokens_shape row others))
@@ -98,7 +98,7 @@ cell_is = record { parted = λ rest others are. left_at _ _ (word_line (codes "C
 text_shape : (bytes text rest : List ℕ) → ((bytes ++ (quoted text ++ codes ")")) ++ 10 ∷ []) ++ rest ≡ bytes ++ (quoted text ++ 41 ∷ 10 ∷ rest)
 text_shape bytes text rest = simp append_assoc
 
-pub text_is : (keyword text : List ℕ) → IsWordText keyword → LineIs ((40 ∷ (keyword ++ 32 ∷ [])) ++ (quoted text ++ codes ")")) (left ∷ word keyword ∷ text_token text ∷ right ∷ [])
+pub text_is : (keyword text : List ℕ) → IsWord keyword → LineIs ((40 ∷ (keyword ++ 32 ∷ [])) ++ (quoted text ++ codes ")")) (left ∷ word keyword ∷ text_token text ∷ right ∷ [])
 text_is keyword text is = record {
   parted = λ rest others are. subst (λ (t : List ℕ). AreTokens t (left ∷ word keyword ∷ text_token text ∷ right ∷ others)) (sym (text_shape (40 ∷ (keyword ++ 32 ∷ [])) text rest ∙ ap (λ t. 40 ∷ t) (append_assoc keyword (32 ∷ []) (quoted text ++ 41 ∷ 10 ∷ rest))))
       (left_at _ _ (word_space keyword _ _ is (quoted_at text _ _ (right_at _ _ (line_at _ _ are)))));
@@ -110,7 +110,7 @@ type_is cell = text_is (codes "CELLTYPE") cell (high_word (codes "CELLTYPE") ref
 instance_shape : (instance rest : List ℕ) → ((codes "(INSTANCE " ++ (instance ++ codes ")")) ++ 10 ∷ []) ++ rest ≡ codes "(INSTANCE " ++ (instance ++ 41 ∷ 10 ∷ rest)
 instance_shape instance rest = simp append_assoc
 
-pub instance_is : (instance : List ℕ) → IsWordText instance → LineIs (codes "(INSTANCE " ++ (instance ++ codes ")")) (instance_tokens instance)
+pub instance_is : (instance : List ℕ) → IsWord instance → LineIs (codes "(INSTANCE " ++ (instance ++ codes ")")) (instance_tokens instance)
 instance_is instance is = record {
   parted = λ rest others are. subst (λ (t : List ℕ). AreTokens t (instance_tokens instance ++ others)) (sym (instance_shape instance rest))
       (left_at _ _ (word_space (codes "INSTANCE") _ _ (high_word (codes "INSTANCE") refl) (word_close instance _ _ is (line_at _ _ are))));

@@ -8,12 +8,12 @@ use Rattle.sdf_writer.specs.SdfText.{WireRow, PathRow, SdfRows, wire_line, path_
 use Rattle.sdf_read_back.proofs.Fit.{Each, IsWire, IsPath, IsEdgeDelay}
 use Rattle.sdf_read_back.proofs.Lines.{LineIs, LinesAre, no_line, line_and, lines_and, IsEdgeWord, wire_is, path_is, close_is, delay_is, absolute_is, cell_is, text_is, type_is, instance_is, unnamed_is}
 use Rattle.sdf_read_back.proofs.Names.{name_is_word}
-use Rattle.sdf_read_back.proofs.TokenLists.{left, right, word, wire_tokens, path_tokens, cell_tokens, wires_tokens, head_tokens, type_tokens, sdf_tokens}
+use Rattle.sdf_read_back.proofs.TokenLists.{numbers, left, right, word, wire_tokens, path_tokens, cell_tokens, wires_tokens, head_tokens, type_tokens, sdf_tokens}
 use Rattle.sdf_read_back.proofs.Values.{numbers_are_word}
-use Rattle.sdf_read_back.proofs.Words.{word_line, left_at, line_at, word_space, word_close, slash_close, high_word}
+use Rattle.sdf_read_back.proofs.Words.{always_word, word_line, left_at, line_at, word_space, word_close, slash_alone, high_word}
 
 wire_line_is : (row : WireRow) → IsWire row → LineIs (wire_line row) (wire_tokens row)
-wire_line_is row is = wire_is row (name_is_word row.from is.from) (name_is_word row.to is.to) (numbers_are_word row.delay is.delay).0
+wire_line_is row is = wire_is row (name_is_word row.from is.from) (name_is_word row.to is.to) (always_word (numbers row.delay) (numbers_are_word row.delay is.delay).0)
 
 wires_are : (rows : List WireRow) → Each IsWire rows → LinesAre (map wire_line rows) (flat_map wire_tokens rows)
 wires_are [] each = no_line
@@ -21,7 +21,7 @@ wires_are (row ∷ rows) each = line_and (wire_line row) (map wire_line rows) (w
 
 edge_word : (edge : Option (List Femto)) → IsEdgeDelay edge → IsEdgeWord edge
 edge_word None is = tt
-edge_word (Some delay) is = (numbers_are_word delay is).0
+edge_word (Some delay) is = always_word (numbers delay) (numbers_are_word delay is).0
 
 path_line_is : (row : PathRow) → IsPath row → LineIs (path_line row) (path_tokens row)
 path_line_is row is = path_is row (name_is_word row.from is.from) (name_is_word row.to is.to) (edge_word row.rise is.rise) (edge_word row.fall is.fall)
@@ -69,7 +69,7 @@ cells_each (row ∷ rows) each = before_each row (cells_of rows) each.0 (cells_e
 -- ---- the file
 
 divider_is : LineIs (codes "(DIVIDER /)") (left ∷ word (codes "DIVIDER") ∷ word (47 ∷ []) ∷ right ∷ [])
-divider_is = record { parted = λ rest others are. left_at _ _ (word_space (codes "DIVIDER") _ _ (high_word (codes "DIVIDER") refl) (slash_close _ _ (line_at _ _ are))) }
+divider_is = record { parted = λ rest others are. left_at _ _ (word_space (codes "DIVIDER") _ _ (high_word (codes "DIVIDER") refl) (word_close (47 ∷ []) _ _ slash_alone (line_at _ _ are))) }
 
 timescale_is : LineIs (codes "(TIMESCALE 1ps)") (left ∷ word (codes "TIMESCALE") ∷ word (codes "1ps") ∷ right ∷ [])
 timescale_is = record { parted = λ rest others are. left_at _ _ (word_space (codes "TIMESCALE") _ _ (high_word (codes "TIMESCALE") refl) (word_close (codes "1ps") _ _ (high_word (codes "1ps") refl) (line_at _ _ are))) }

@@ -3,7 +3,7 @@ use Rattle.std.proofs.Common.{◌≡◌, ℕ, suc, ◌+◌, ◌<◌, ◌≤◌, 
 use Rattle.std.specs.List.{list_all}
 use Rattle.std.proofs.Math.Seq.{take-append_seam, drop-append_seam}
 use Rattle.std.proofs.lemmas.Bool.{le-leb, leb-true}
-use Rattle.sdf_reader.specs.Tokens.{is_blank, is_plain, word_length, word_cut, cut_at, Lexeme, AreTokens, skip, take_one}
+use Rattle.sdf_reader.specs.Tokens.{begins_with, is_blank, is_plain, word_length, word_cut, cut_at, Lexeme, AreTokens, skip, take_one}
 use Rattle.sdf_reader.specs.declared.scan.Kind.TheVariants.{LeftParen, RightParen, Word}
 use Rattle.sdf_reader.specs.declared.scan.Cut.TheVariants.{Take}
 use Rattle.sdf_read_back.proofs.TokenLists.{left, right, word}
@@ -79,41 +79,63 @@ word_and one other is goes = record {
   goes_on = both_go_on one other is.goes_on goes;
 }
 
--- a byte that no word goes on with
-abbrev pub ends_word : ℕ → Bool
-ends_word byte = not (is_plain byte) && not (byte == 92)
+-- The bytes are one word before a byte that no word goes on with, other than a slash and a star.
+pub record IsWord (text : List ℕ) : Type 0 where
+  pub first : ℕ
+  pub more : List ℕ
+  pub splits : text ≡ first ∷ more
+  pub cut : (stop : ℕ) (rest : List ℕ) → (stop == 47) ≡ false → (stop == 42) ≡ false → cut_at first (more ++ stop ∷ rest) ≡ word_cut (first ∷ more ++ stop ∷ rest) (word_length (first ∷ more ++ stop ∷ rest))
+  pub goes_on : GoesOn text
 
-cut_there : (first : ℕ) (more : List ℕ) (stop : ℕ) (rest : List ℕ) → BeginsWord first → GoesOn (first ∷ more) → is_plain stop ≡ false → (stop == 92) ≡ false
+pub always_word : (text : List ℕ) → IsWordText text → IsWord text
+always_word text is = record {
+  first = is.first;
+  more = is.more;
+  splits = is.splits;
+  cut = λ stop rest _ _. cut_word is.first (is.more ++ stop ∷ rest) is.begins.blank is.begins.left is.begins.right is.begins.quote is.begins.slash;
+  goes_on = is.goes_on;
+}
+
+-- what begins with a slash, and neither with `//` nor with `/*`
+pub slash_word : (more : List ℕ) → GoesOn (47 ∷ more) → ((stop : ℕ) (rest : List ℕ) → (stop == 47) ≡ false → (stop == 42) ≡ false → (begins_with 47 (more ++ stop ∷ rest) ≡ false) × (begins_with 42 (more ++ stop ∷ rest) ≡ false)) → IsWord (47 ∷ more)
+slash_word more goes none = record {
+  first = 47;
+  more = more;
+  splits = refl;
+  cut = λ stop rest slash star. cut_slash (more ++ stop ∷ rest) (none stop rest slash star).0 (none stop rest slash star).1;
+  goes_on = goes;
+}
+
+cut_there : (first : ℕ) (more : List ℕ) (stop : ℕ) (rest : List ℕ) → cut_at first (more ++ stop ∷ rest) ≡ word_cut (first ∷ more ++ stop ∷ rest) (word_length (first ∷ more ++ stop ∷ rest)) → GoesOn (first ∷ more) → is_plain stop ≡ false → (stop == 92) ≡ false
     → cut_at first (more ++ stop ∷ rest) ≡ Take (suc (length more)) Word
-cut_there first more stop rest begins goes ends other =
+cut_there first more stop rest cut goes ends other =
     let none : word_length (stop ∷ rest) ≡ 0 = word_other stop rest other ends in
     let all : word_length (first ∷ more ++ stop ∷ rest) ≡ length (first ∷ more) + word_length (stop ∷ rest) = goes (stop ∷ rest) in
     let long : word_length (first ∷ more ++ stop ∷ rest) ≡ suc (length more) = omega (arith, none, all) in
-    cut_word first (more ++ stop ∷ rest) begins.blank begins.left begins.right begins.quote begins.slash
-    ∙ ap (word_cut (first ∷ more ++ stop ∷ rest)) long
+    cut ∙ ap (word_cut (first ∷ more ++ stop ∷ rest)) long
 
-word_here : (first : ℕ) (more : List ℕ) (stop : ℕ) (rest : List ℕ) (others : List Lexeme) → BeginsWord first → GoesOn (first ∷ more) → is_plain stop ≡ false → (stop == 92) ≡ false
+word_here : (first : ℕ) (more : List ℕ) (stop : ℕ) (rest : List ℕ) (others : List Lexeme) → cut_at first (more ++ stop ∷ rest) ≡ word_cut (first ∷ more ++ stop ∷ rest) (word_length (first ∷ more ++ stop ∷ rest)) → GoesOn (first ∷ more) → is_plain stop ≡ false → (stop == 92) ≡ false
     → AreTokens (stop ∷ rest) others → AreTokens (first ∷ more ++ stop ∷ rest) (word (first ∷ more) ∷ others)
-word_here first more stop rest others begins goes ends other are =
+word_here first more stop rest others cut goes ends other are =
     subst (λ (t : List ℕ). AreTokens (first ∷ more ++ stop ∷ rest) (word t ∷ others)) (take-append_seam (first ∷ more) (stop ∷ rest))
-    (take_one (suc (length more)) Word (cut_there first more stop rest begins goes ends other)
+    (take_one (suc (length more)) Word (cut_there first more stop rest cut goes ends other)
     (subst (λ (t : List ℕ). AreTokens t others) (sym (drop-append_seam (first ∷ more) (stop ∷ rest))) are))
 
-word_at : (text : List ℕ) (stop : ℕ) (rest : List ℕ) (others : List Lexeme) → IsWordText text → is_plain stop ≡ false → (stop == 92) ≡ false
+word_at : (text : List ℕ) (stop : ℕ) (rest : List ℕ) (others : List Lexeme) → IsWord text → is_plain stop ≡ false → (stop == 92) ≡ false → (stop == 47) ≡ false → (stop == 42) ≡ false
     → AreTokens (stop ∷ rest) others → AreTokens (text ++ stop ∷ rest) (word text ∷ others)
-word_at text stop rest others is ends other are =
+word_at text stop rest others is ends other slash star are =
     subst (λ (t : List ℕ). AreTokens (t ++ stop ∷ rest) (word t ∷ others)) (sym is.splits)
-    (word_here is.first is.more stop rest others is.begins (subst GoesOn is.splits is.goes_on) ends other are)
+    (word_here is.first is.more stop rest others (is.cut stop rest slash star) (subst GoesOn is.splits is.goes_on) ends other are)
 
 -- a word with a space, with the end of a line, and with a parenthesis behind it
-pub word_space : (text rest : List ℕ) (others : List Lexeme) → IsWordText text → AreTokens rest others → AreTokens (text ++ 32 ∷ rest) (word text ∷ others)
-word_space text rest others is are = word_at text 32 rest others is refl refl (space_at rest others are)
+pub word_space : (text rest : List ℕ) (others : List Lexeme) → IsWord text → AreTokens rest others → AreTokens (text ++ 32 ∷ rest) (word text ∷ others)
+word_space text rest others is are = word_at text 32 rest others is refl refl refl refl (space_at rest others are)
 
-pub word_line : (text rest : List ℕ) (others : List Lexeme) → IsWordText text → AreTokens rest others → AreTokens (text ++ 10 ∷ rest) (word text ∷ others)
-word_line text rest others is are = word_at text 10 rest others is refl refl (line_at rest others are)
+pub word_line : (text rest : List ℕ) (others : List Lexeme) → IsWord text → AreTokens rest others → AreTokens (text ++ 10 ∷ rest) (word text ∷ others)
+word_line text rest others is are = word_at text 10 rest others is refl refl refl refl (line_at rest others are)
 
-pub word_close : (text rest : List ℕ) (others : List Lexeme) → IsWordText text → AreTokens rest others → AreTokens (text ++ 41 ∷ rest) (word text ∷ right ∷ others)
-word_close text rest others is are = word_at text 41 rest (right ∷ others) is refl refl (right_at rest others are)
+pub word_close : (text rest : List ℕ) (others : List Lexeme) → IsWord text → AreTokens rest others → AreTokens (text ++ 41 ∷ rest) (word text ∷ right ∷ others)
+word_close text rest others is are = word_at text 41 rest (right ∷ others) is refl refl refl refl (right_at rest others are)
 
 -- ---- plain words
 
@@ -188,20 +210,13 @@ high_go_on (byte ∷ text) all =
     let other : (byte == 92) ≡ false = not_true (byte == 92) own.1 in
     both_go_on (byte ∷ []) text (bare_goes_on byte (bare_from byte (leb-true 48 byte own.0) other) other) (high_go_on text parts.1)
 
-pub high_word : (text : List ℕ) → is_high_word text ≡ true → IsWordText text
+pub high_word : (text : List ℕ) → is_high_word text ≡ true → IsWord text
 high_word [] all = absurd (cc)
 high_word (byte ∷ bytes) all =
     let parts = both (is_high byte) (list_all is_high bytes) all in
     let own = both (nat_le 48 byte) (not (byte == 92)) parts.0 in
-    record { first = byte; more = bytes; splits = refl; begins = begins_from byte (leb-true 48 byte own.0); goes_on = high_go_on (byte ∷ bytes) all }
+    always_word (byte ∷ bytes) (record { first = byte; more = bytes; splits = refl; begins = begins_from byte (leb-true 48 byte own.0); goes_on = high_go_on (byte ∷ bytes) all })
 
--- a slash alone, before a parenthesis
-slash_there : (rest : List ℕ) → cut_at 47 (41 ∷ rest) ≡ Take 1 Word
-slash_there rest =
-    let none : word_length (41 ∷ rest) ≡ 0 = word_other 41 rest refl refl in
-    let step : word_length (47 ∷ 41 ∷ rest) ≡ word_length (41 ∷ rest) + 1 = word_plain 47 (41 ∷ rest) refl refl in
-    let long : word_length (47 ∷ 41 ∷ rest) ≡ 1 = omega (arith, none, step) in
-    cut_slash (41 ∷ rest) refl refl ∙ ap (word_cut (47 ∷ 41 ∷ rest)) long
-
-pub slash_close : (rest : List ℕ) (others : List Lexeme) → AreTokens rest others → AreTokens (47 ∷ 41 ∷ rest) (word (47 ∷ []) ∷ right ∷ others)
-slash_close rest others are = take_one 1 Word (slash_there rest) (right_at rest others are)
+-- a slash alone
+pub slash_alone : IsWord (47 ∷ [])
+slash_alone = slash_word [] (bare_goes_on 47 refl refl) (λ stop rest slash star. (slash, star))

@@ -1,38 +1,47 @@
 -- The read-back law: what was written is what is read.
-use Rattle.std.specs.Prelude.{◌≡◌, ℕ, ◌⊎◌, List, length}
+use Rattle.std.specs.Prelude.{◌≡◌, ◌≢◌, ℕ, false, ◌⊎◌, Bool, List, [], ◌∷◌, length}
 use Rattle.std.specs.List.{All}
-use Rattle.name_table.specs.WellSpelled.{IsWellSpelled}
+use Rattle.name_table.specs.Characters.{backslash}
+use Rattle.name_table.specs.SpefNames.{node_name}
+use Rattle.name_table.specs.declared.spef_names.SpefMarks.{SpefMarks}
 use Rattle.sdf_reader.specs.Answers.{SaysRows}
 use Rattle.sdf_reader.specs.declared.rows.SdfRow.{SdfRow}
 use Rattle.sdf_writer.specs.Bounds.{AreWithin}
 use Rattle.sdf_writer.specs.PathRows.{IsEdge}
 use Rattle.sdf_writer.specs.SdfText.{WireRow, PathRow, SdfRows, sdf_text}
+use Rattle.sdf_read_back.specs.Names.{begins_comment, IsSettled}
 use Rattle.sdf_read_back.specs.Rows.{read_back_rows}
 
--- a wire that may be added for so many corners, and whose names are well spelled
-pub record IsWireFit (count : ℕ) (row : WireRow) : Type 0 where
-  pub from : IsWellSpelled row.from
-  pub to : IsWellSpelled row.to
+-- a wire that may be added for so many corners, and whose names are such
+pub record IsWireFit (IsName : List ℕ → Type 0) (count : ℕ) (row : WireRow) : Type 0 where
+  pub from : IsName row.from
+  pub to : IsName row.to
   pub one_row : length row.delay ≡ count
   pub within : AreWithin row.delay
 
 -- The same of a path. The type of its cell is a plain text, which may be any.
-pub record IsPathFit (count : ℕ) (row : PathRow) : Type 0 where
-  pub instance : IsWellSpelled row.instance
-  pub from : IsWellSpelled row.from
-  pub to : IsWellSpelled row.to
+pub record IsPathFit (IsName : List ℕ → Type 0) (count : ℕ) (row : PathRow) : Type 0 where
+  pub instance : IsName row.instance
+  pub from : IsName row.from
+  pub to : IsName row.to
   pub rise : IsEdge count row.rise
   pub fall : IsEdge count row.fall
 
 -- the name of the design may be any text
-pub record AreFit (count : ℕ) (rows : SdfRows) : Type 0 where
-  pub wires : All (IsWireFit count) rows.wires
-  pub paths : All (IsPathFit count) rows.paths
+pub record AreFit (IsName : List ℕ → Type 0) (count : ℕ) (rows : SdfRows) : Type 0 where
+  pub wires : All (IsWireFit IsName count) rows.wires
+  pub paths : All (IsPathFit IsName count) rows.paths
 
--- the text of rows for one corner or for three says the rows that are read back
-abbrev pub ReadBack : Type 0
-ReadBack = (count : ℕ) → (count ≡ 1) ⊎ (count ≡ 3) → (rows : SdfRows) → AreFit count rows → SaysRows (sdf_text rows) (read_back_rows rows)
+-- the text of rows for one corner or for three, with such names, says the rows that are read back
+abbrev pub ReadBack : (List ℕ → Type 0) → Type 0
+ReadBack IsName = (count : ℕ) → (count ≡ 1) ⊎ (count ≡ 3) → (rows : SdfRows) → AreFit IsName count rows → SaysRows (sdf_text rows) (read_back_rows rows)
 
 -- and no others
-abbrev pub OnlyReadBack : Type 0
-OnlyReadBack = (count : ℕ) → (count ≡ 1) ⊎ (count ≡ 3) → (rows : SdfRows) → AreFit count rows → (others : List SdfRow) → SaysRows (sdf_text rows) others → others ≡ read_back_rows rows
+abbrev pub OnlyReadBack : (List ℕ → Type 0) → Type 0
+OnlyReadBack IsName =
+    (count : ℕ) → (count ≡ 1) ⊎ (count ≡ 3) → (rows : SdfRows) → AreFit IsName count rows → (others : List SdfRow) → SaysRows (sdf_text rows) others → others ≡ read_back_rows rows
+
+-- The spelling of a node of SPEF is settled, unless it begins with `//`. No file has the other words: nothing, and a backslash alone.
+abbrev pub NodesSettle : Type 0
+NodesSettle =
+    (marks : SpefMarks) (cut : Bool) (word : List ℕ) → word ≢ [] → word ≢ backslash ∷ [] → begins_comment (node_name marks cut word).sdf ≡ false → IsSettled (node_name marks cut word).sdf

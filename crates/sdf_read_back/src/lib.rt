@@ -3,4 +3,4 @@
 
 mod laws;
 
-pub use laws::read_back;
+pub use laws::{nodes_settle, read_back, settled_read_back};
