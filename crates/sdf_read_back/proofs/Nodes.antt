@@ -4,10 +4,10 @@ use Rattle.std.specs.Prelude.{◌≢◌}
 use Rattle.std.proofs.lemmas.Bool.Decides.{Decides-eqb}
 use Rattle.name_table.specs.Characters.{Character, bare, escaped, backslash, characters, after_backslash}
 use Rattle.name_table.specs.SdfNames.{slash, is_plain, spelled}
-use Rattle.name_table.specs.SpefNames.{Halves, meaning, mark_or_spelled, sdf_of, spelling_of, node_of, halves_at, node_name}
+use Rattle.name_table.specs.SpefNames.{Halves, meaning, mark_or_spelled, sdf_of, spelling_of, node_of, halves_at}
 use Rattle.name_table.specs.declared.spef_names.SpefMarks.{SpefMarks}
 use Rattle.name_table.proofs.Spelling.{stays_alone, node_stays}
-use Rattle.sdf_read_back.specs.Names.{begins_comment, IsSettled}
+use Rattle.sdf_read_back.specs.Names.{begins_comment, IsSettled, WholeSettles, HalvesSettle, NamedSettles}
 
 -- a word has a character, but for nothing and a backslash alone
 some_character : (word : List ℕ) → word ≢ [] → word ≢ backslash ∷ [] → characters word ≢ []
@@ -53,9 +53,18 @@ some_node marks name (Some halves) some e = past (spelling_of marks halves.front
     past [] f = cc
     past (byte ∷ front) f = cc
 
-pub node_settles : (marks : SpefMarks) (cut : Bool) (word : List ℕ) → word ≢ [] → word ≢ backslash ∷ [] → begins_comment (node_name marks cut word).sdf ≡ false → IsSettled (node_name marks cut word).sdf
-node_settles marks cut word some more none = record {
-  stays = stays_alone (node_name marks cut word).sdf (node_stays marks (characters word) (halves_at marks.delimiter cut (characters word)));
-  some = some_node marks (characters word) (halves_at marks.delimiter cut (characters word)) (some_character word some more);
+settles : (marks : SpefMarks) (name : List Character) (halves : Option Halves) → name ≢ [] → begins_comment (node_of marks name halves).sdf ≡ false → IsSettled (node_of marks name halves).sdf
+settles marks name halves some none = record {
+  stays = stays_alone (node_of marks name halves).sdf (node_stays marks name halves);
+  some = some_node marks name halves some;
   no_comment = none;
 }
+
+pub whole_settles : WholeSettles
+whole_settles marks name some none = settles marks name None some none
+
+pub halves_settle : HalvesSettle
+halves_settle marks front back none = settles marks (bare slash ∷ []) (Some (record { front = front; back = back })) (λ e. cc) none
+
+pub named_settles : NamedSettles
+named_settles marks cut word some more none = settles marks (characters word) (halves_at marks.delimiter cut (characters word)) (some_character word some more) none

@@ -1,15 +1,11 @@
 -- The read-back law: what was written is what is read.
-use Rattle.std.specs.Prelude.{◌≡◌, ◌≢◌, ℕ, false, ◌⊎◌, Bool, List, [], ◌∷◌, length}
+use Rattle.std.specs.Prelude.{◌≡◌, ℕ, ◌⊎◌, List, length}
 use Rattle.std.specs.List.{All}
-use Rattle.name_table.specs.Characters.{backslash}
-use Rattle.name_table.specs.SpefNames.{node_name}
-use Rattle.name_table.specs.declared.spef_names.SpefMarks.{SpefMarks}
 use Rattle.sdf_reader.specs.Answers.{SaysRows}
 use Rattle.sdf_reader.specs.declared.rows.SdfRow.{SdfRow}
 use Rattle.sdf_writer.specs.Bounds.{AreWithin}
 use Rattle.sdf_writer.specs.PathRows.{IsEdge}
 use Rattle.sdf_writer.specs.SdfText.{WireRow, PathRow, SdfRows, sdf_text}
-use Rattle.sdf_read_back.specs.Names.{begins_comment, IsSettled}
 use Rattle.sdf_read_back.specs.Rows.{read_back_rows}
 
 -- a wire that may be added for so many corners, and whose names are such
@@ -40,8 +36,3 @@ ReadBack IsName = (count : ℕ) → (count ≡ 1) ⊎ (count ≡ 3) → (rows : 
 abbrev pub OnlyReadBack : (List ℕ → Type 0) → Type 0
 OnlyReadBack IsName =
     (count : ℕ) → (count ≡ 1) ⊎ (count ≡ 3) → (rows : SdfRows) → AreFit IsName count rows → (others : List SdfRow) → SaysRows (sdf_text rows) others → others ≡ read_back_rows rows
-
--- The spelling of a node of SPEF is settled, unless it begins with `//`. No file has the other words: nothing, and a backslash alone.
-abbrev pub NodesSettle : Type 0
-NodesSettle =
-    (marks : SpefMarks) (cut : Bool) (word : List ℕ) → word ≢ [] → word ≢ backslash ∷ [] → begins_comment (node_name marks cut word).sdf ≡ false → IsSettled (node_name marks cut word).sdf

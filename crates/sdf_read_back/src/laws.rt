@@ -1,7 +1,7 @@
 //! The laws of what is written and read.
 ghost use Rattle.name_table.specs.WellSpelled.{IsWellSpelled};
-ghost use Rattle.sdf_read_back.specs.Names.{IsSettled};
-ghost use Rattle.sdf_read_back.specs.ReadBack.{ReadBack, OnlyReadBack, NodesSettle};
+ghost use Rattle.sdf_read_back.specs.Names.{IsSettled, WholeSettles, HalvesSettle, NamedSettles};
+ghost use Rattle.sdf_read_back.specs.ReadBack.{ReadBack, OnlyReadBack};
 
 /// The read-back law, which its contract states: of rows for one corner or for three that may be written, and whose names are
 /// well spelled, the SDF grammar relates the text to the rows that are read back, and to no others. It does nothing when it is
@@ -21,5 +21,7 @@ pub fn settled_read_back()
 /// The law of the names that stand in the rows of SPEF's wires, which its contract states: each is settled, unless it begins
 /// with `//`. It does nothing when it is called.
 pub fn nodes_settle()
-    ensures law { NodesSettle }
+    ensures whole { WholeSettles }
+    ensures halves { HalvesSettle }
+    ensures named { NamedSettles }
 {}
