@@ -1,0 +1,2 @@
+pub mod NeededKeys
+pub mod WordPairs

@@ -1,0 +1,72 @@
+-- The texts of the commands `--help` and `--version`. That of help is made of the tables of commands and keys by which the words
+-- are read.
+use Rattle.std.specs.Prelude.{ℕ, List, [], ◌∷◌, ◌++◌, codes}
+use Rattle.std.specs.List.{flat_map}
+use Rattle.gdc_words.specs.declared.commands.Command.{Command}
+use Rattle.gdc_words.specs.declared.commands.Command.TheVariants.{Wires, Show, Help, Version}
+use Rattle.gdc_words.specs.declared.commands.Key.{Key}
+use Rattle.gdc_words.specs.declared.commands.Key.TheVariants.{Spef, Triple, Sdf}
+use Rattle.gdc_words.specs.CommandLine.{key_word, needed_keys, further_keys}
+
+-- the commands, in the order in which they are told
+abbrev pub commands : List Command
+commands = Wires ∷ Show ∷ Help ∷ Version ∷ []
+
+-- the word of a command
+abbrev pub command_word : Command → List ℕ
+command_word Wires = codes "wires"
+command_word Show = codes "show"
+command_word Help = codes "--help"
+command_word Version = codes "--version"
+
+-- what stands for the value of a key
+abbrev pub value_word : Key → List ℕ
+value_word Spef = codes "FILE"
+value_word Triple = codes "min|typ|max"
+value_word Sdf = codes "FILE"
+
+-- what a command does
+abbrev pub purpose : Command → List ℕ
+purpose Wires = codes "writes the delays of the wires of a SPEF file as SDF"
+purpose Show = codes "prints the rows of an SDF file, and their summary"
+purpose Help = codes "prints this text"
+purpose Version = codes "prints the version"
+
+-- a line, ended by the byte 10
+abbrev pub line : List ℕ → List ℕ
+line text = text ++ 10 ∷ []
+
+-- a key that is needed, with its value, and one that may be left out, which stands in brackets
+abbrev pub needed_text : Key → List ℕ
+needed_text key = codes " " ++ (key_word key ++ (codes " " ++ value_word key))
+
+abbrev pub further_text : Key → List ℕ
+further_text key = codes " [" ++ (key_word key ++ (codes " " ++ (value_word key ++ codes "]")))
+
+-- the two lines of a command: its word with its keys, and what it does
+abbrev pub command_lines : Command → List ℕ
+command_lines command =
+    line (codes "  " ++ (command_word command ++ (flat_map needed_text (needed_keys command) ++ flat_map further_text (further_keys command))))
+    ++ line (codes "      " ++ purpose command)
+
+-- the statuses with which the program ends
+abbrev pub status_lines : List ℕ
+status_lines =
+    line (codes "Status:")
+    ++ (line (codes "  0  done")
+    ++ (line (codes "  1  an input is refused")
+    ++ (line (codes "  2  the words are faulty")
+    ++ (line (codes "  3  a file could not be read")
+    ++ (line (codes "  4  the output could not be written")
+    ++ line (codes "  5  memory ran out"))))))
+
+-- what `--help` prints
+abbrev pub help_text : List ℕ
+help_text =
+    line (codes "gdc computes the delays of wires for chip sign-off, from SPEF to SDF.")
+    ++ (line (codes "Commands, each with its keys:")
+    ++ (flat_map command_lines commands ++ status_lines))
+
+-- what `--version` prints: the version that stands in the SDF files that the program writes, too
+abbrev pub version_text : List ℕ
+version_text = line (codes "gdc 1")

@@ -1,0 +1,34 @@
+//! The texts of the commands `--help` and `--version`.
+ghost use Rattle.std.specs.Prelude.{◌≡◌};
+ghost use Rattle.gdc_words.specs.HelpText as texts;
+
+/// What `--help` prints: each command with its keys and what it does, and the statuses of the program.
+pub fn help_text() -> &'static [u8]
+    ensures { result.now ≡ texts.help_text }
+{
+    b"gdc computes the delays of wires for chip sign-off, from SPEF to SDF.
+Commands, each with its keys:
+  wires --spef FILE [--triple min|typ|max]
+      writes the delays of the wires of a SPEF file as SDF
+  show --sdf FILE
+      prints the rows of an SDF file, and their summary
+  --help
+      prints this text
+  --version
+      prints the version
+Status:
+  0  done
+  1  an input is refused
+  2  the words are faulty
+  3  a file could not be read
+  4  the output could not be written
+  5  memory ran out
+"
+}
+
+/// What `--version` prints.
+pub fn version_text() -> &'static [u8]
+    ensures { result.now ≡ texts.version_text }
+{
+    b"gdc 1\n"
+}

@@ -1,0 +1,19 @@
+//! The words of the command line of gdc: what they ask for, or their first fault. `read_words` reads them by the tables of
+//! commands and keys; `help_text` and `version_text` are what `--help` and `--version` print.
+#![tactic(auto)]
+
+mod asked;
+mod commands;
+mod faults;
+mod help;
+mod reading;
+#[cfg(test)]
+mod tests;
+mod words;
+
+pub use asked::{Asked, Given};
+pub use commands::{Command, Key};
+pub use faults::{UsageFault, UsageKind, WordsEnd};
+pub use help::{help_text, version_text};
+pub use reading::read_words;
+pub use words::Words;

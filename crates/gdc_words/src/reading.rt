@@ -1,0 +1,103 @@
+//! Reading the words.
+ghost use Rattle.std.specs.Prelude.{◌≡◌, MatchResult, Some, Ok, []};
+ghost use Rattle.gdc_words.specs.WordsEnds.{FaultsWith};
+ghost use Rattle.gdc_words.specs.CommandLine.{key_of, new_key, good_value, pairs_from, request_for, request_of};
+
+use crate::asked::{Asked, Given, first_missing, stands};
+use crate::commands::{Command, Key};
+use crate::faults::{UsageFault, UsageKind, WordsEnd, fault_at};
+use crate::words::Words;
+use edge_io::Text;
+use std::alloc::{AllocFailed, Global};
+
+impl From<AllocFailed<Given>> for WordsEnd {
+    ghost use Rattle.std.specs.Prelude.{◌≡◌};
+    ghost use Rattle.gdc_words.specs.declared.faults.WordsEnd.TheVariants.{OutOfMemory};
+
+    ghost from_gives = { λ _ end. end ≡ OutOfMemory };
+
+    fn from(_: AllocFailed<Given>) -> WordsEnd {
+        WordsEnd::OutOfMemory
+    }
+}
+
+/// The key that a word names, where the command takes it and it does not stand yet.
+fn new_key(command: Command, given: &[Given], place: usize, word: &[u8]) -> Result<Key, UsageFault>
+    ensures { result ≡ new_key command given.now place (key_of word.now) }
+{
+    match Key::of(word) {
+        None => Err(fault_at(UsageKind::UnknownWord, place)),
+        Some(key) => {
+            if !command.takes(key) {
+                Err(fault_at(UsageKind::UnknownWord, place))
+            } else if stands(given, key) {
+                Err(fault_at(UsageKind::Repeated, place))
+            } else {
+                Ok(key)
+            }
+        }
+    }
+}
+
+/// The key and its value, where the value has the key's form.
+fn good_value(alloc: Global, key: Key, place: usize, value: &[u8]) -> Result<Given, WordsEnd>
+    ensures { MatchResult result (λ pair. good_value key place value.now ≡ Ok pair) (λ end. FaultsWith (good_value key place value.now) end) }
+{
+    if !key.is_value(value) {
+        return Err(WordsEnd::Usage(fault_at(UsageKind::BadValue, place)));
+    }
+    let value = Text::from_bytes(alloc, value)?;
+    Ok(Given { key, value })
+}
+
+/// The pairs after the command.
+fn read_pairs(alloc: Global, command: Command, words: &[Text]) -> Result<Vec<Given>, WordsEnd>
+    ensures { MatchResult result (λ given. pairs_from command [] 2 words.now ≡ Ok given.items) (λ end. FaultsWith (pairs_from command [] 2 words.now) end) }
+{
+    let mut given = Vec::new(alloc);
+    let mut place = 2;
+    let mut rest = words;
+    while let [word, value, after @ ..] = rest {
+        let key = new_key(command, &given, place, word.bytes())?;
+        let pair = good_value(alloc, key, place + 1, value.bytes())?;
+        given.push(pair)?;
+        place += 2;
+        rest = after;
+    }
+    if let [word] = rest {
+        let _key = new_key(command, &given, place, word.bytes())?;
+        return Err(WordsEnd::Usage(fault_at(UsageKind::MissingValue, place)));
+    }
+    Ok(given)
+}
+
+/// What the words after the command ask for.
+fn read_request(alloc: Global, command: Command, words: &[Text]) -> Result<Asked, WordsEnd>
+    ensures { MatchResult result (λ asked. request_for (Some command) words.now ≡ Ok asked) (λ end. FaultsWith (request_for (Some command) words.now) end) }
+{
+    let given = read_pairs(alloc, command, words)?;
+    match first_missing(command, &given) {
+        None => Ok(Asked { command, given }),
+        Some(key) => {
+            let word = Text::from_bytes(alloc, key.word())?;
+            Err(WordsEnd::Usage(UsageFault {
+                kind: UsageKind::MissingKey,
+                place: 0,
+                key: Some(word),
+            }))
+        }
+    }
+}
+
+/// What the words ask for, or their first fault.
+pub fn read_words(alloc: Global, words: &Words) -> Result<Asked, WordsEnd>
+    ensures { MatchResult result (λ asked. request_of words.now ≡ Ok asked) (λ end. FaultsWith (request_of words.now) end) }
+{
+    match words.as_slice() {
+        [] => Err(WordsEnd::Usage(fault_at(UsageKind::NoCommand, 1))),
+        [word, rest @ ..] => match Command::of(word.bytes()) {
+            None => Err(WordsEnd::Usage(fault_at(UsageKind::UnknownCommand, 1))),
+            Some(command) => read_request(alloc, command, rest),
+        },
+    }
+}

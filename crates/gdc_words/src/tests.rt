@@ -1,0 +1,134 @@
+//! Words, with what they ask for or their first fault. The faults are worked from the tables of commands and keys.
+
+use crate::{
+    Asked, Command, Key, UsageFault, UsageKind, Words, WordsEnd, help_text, read_words,
+    version_text,
+};
+use corner_set::Pick;
+use edge_io::{OutOfMemory, Text};
+use std::alloc::Global;
+use std::process::Abort;
+use std::test::Fail;
+
+/// Words, one a line, with the kind and the place of their first fault.
+const FAULTS: [(&[u8], UsageKind, usize); 18] = [
+    (b"", UsageKind::NoCommand, 1),
+    (b"\n", UsageKind::UnknownCommand, 1),
+    (b"wire\n", UsageKind::UnknownCommand, 1),
+    (b"help\n", UsageKind::UnknownCommand, 1),
+    (b"Wires\n--spef\na\n", UsageKind::UnknownCommand, 1),
+    (b"wires\n--spec\n", UsageKind::UnknownWord, 2),
+    (b"wires\n--sdf\na\n", UsageKind::UnknownWord, 2),
+    (b"wires\n--spef\na\n--nets\n3\n", UsageKind::UnknownWord, 4),
+    (b"wires\n--spef\n--spef\n--spef\n", UsageKind::Repeated, 4),
+    (b"wires\n--spef\na\n--triple\n", UsageKind::MissingValue, 4),
+    (b"wires\n--spef\n\n", UsageKind::BadValue, 3),
+    (
+        b"wires\n--triple\nmid\n--spef\na\n--spef\nb\n",
+        UsageKind::BadValue,
+        3,
+    ),
+    (b"wires\n--triple\n--spef\na\n", UsageKind::BadValue, 3),
+    (b"show\n--spef\na\n", UsageKind::UnknownWord, 2),
+    (b"show\n--sdf\n", UsageKind::MissingValue, 2),
+    (b"show\n--sdf\n\n", UsageKind::BadValue, 3),
+    (b"--help\nwires\n", UsageKind::UnknownWord, 2),
+    (b"--version\n--help\n", UsageKind::UnknownWord, 2),
+];
+
+/// Up to the byte, and behind it; the whole where the byte does not stand.
+fn cut_at(bytes: &[u8], byte: u8) -> (&[u8], &[u8]) {
+    match bytes.iter().position(|b| *b == byte) {
+        Some(place) => (bytes.split_at(place).0, bytes.split_at(place + 1).1),
+        None => (bytes, &[]),
+    }
+}
+
+fn words_of(alloc: Global, lines: &[u8]) -> Result<Words, OutOfMemory> {
+    let mut words = Words::new(alloc);
+    let mut rest = lines;
+    for _ in 0..lines.len() {
+        if rest.is_empty() {
+            break;
+        }
+        let (line, after) = cut_at(rest, b'\n');
+        words.push(Text::from_bytes(alloc, line)?)?;
+        rest = after;
+    }
+    Ok(words)
+}
+
+/// The first fault of these words.
+fn fault_of(alloc: Global, lines: &[u8]) -> Result<Option<UsageFault>, OutOfMemory> {
+    let words = words_of(alloc, lines)?;
+    match read_words(alloc, &words) {
+        Ok(_) => Ok(None),
+        Err(WordsEnd::Usage(fault)) => Ok(Some(fault)),
+        Err(WordsEnd::OutOfMemory) => Err(OutOfMemory),
+    }
+}
+
+/// What words without a fault ask for.
+fn asked_by(alloc: Global, lines: &[u8]) -> Result<Asked, OutOfMemory> {
+    let words = words_of(alloc, lines)?;
+    read_words(alloc, &words).map_err(|_| OutOfMemory)
+}
+
+fn misses(rt: &impl Abort, alloc: Global, lines: &[u8], key: &[u8]) -> Result<(), OutOfMemory> {
+    let Some(fault) = fault_of(alloc, lines)? else {
+        return Err(OutOfMemory);
+    };
+    assert_eq!(rt; fault.kind, UsageKind::MissingKey);
+    assert_eq!(rt; fault.place, 0);
+    assert!(rt; fault.key.is_some_and(|named| named.bytes() == key));
+    Ok(())
+}
+
+#[test]
+fn each_fault_comes_first(rt: HostRuntime) -> Result<(), Fail> {
+    let alloc = rt.alloc();
+    for row in &FAULTS {
+        let fault = fault_of(alloc, row.0)?;
+        assert!(rt; fault.is_some_and(|f| f.kind == row.1 && f.place == row.2 && f.key.is_none()));
+    }
+    misses(&rt, alloc, b"wires\n", b"--spef")?;
+    misses(&rt, alloc, b"wires\n--triple\nmin\n", b"--spef")?;
+    misses(&rt, alloc, b"show\n", b"--sdf")?;
+    Ok(())
+}
+
+#[test]
+fn words_ask_for_a_command_and_values(rt: HostRuntime) -> Result<(), Fail> {
+    let alloc = rt.alloc();
+    let asked = asked_by(alloc, b"wires\n--triple\nmax\n--spef\n--sdf\n")?;
+    assert_eq!(rt; asked.command(), Command::Wires);
+    assert_eq!(rt; asked.pick(), Pick::Max);
+    assert!(rt;
+        asked
+            .value(b"--spef")
+            .is_some_and(|value| value.bytes() == b"--sdf".as_slice())
+    );
+    assert!(rt; asked.value(Key::Sdf.word()).is_none());
+    let asked = asked_by(alloc, b"show\n--sdf\na.sdf\n")?;
+    assert_eq!(rt; asked.command(), Command::Show);
+    assert_eq!(rt; asked.pick(), Pick::Typ);
+    assert!(rt;
+        asked
+            .value(b"--sdf")
+            .is_some_and(|value| value.bytes() == b"a.sdf".as_slice())
+    );
+    Ok(())
+}
+
+#[test]
+fn help_and_version_are_commands(rt: HostRuntime) -> Result<(), Fail> {
+    let alloc = rt.alloc();
+    assert_eq!(rt; asked_by(alloc, b"--help\n")?.command(), Command::Help);
+    assert_eq!(rt;
+        asked_by(alloc, b"--version\n")?.command(),
+        Command::Version
+    );
+    assert!(rt; help_text().starts_with(b"gdc computes the delays of wires"));
+    assert_eq!(rt; version_text(), b"gdc 1\n".as_slice());
+    Ok(())
+}
