@@ -3,29 +3,42 @@ use Rattle.std.proofs.Common.{◌≡◌, ℕ, inl, inr, refl, List, Option}
 use Rattle.edge_io.specs.Counts.{Rose}
 use Rattle.edge_io.specs.Holding.{Held, TellsMissing}
 use Rattle.edge_io.specs.Told.{appended, AppendsFrontOf}
-use Rattle.verdict_phases.specs.Phases.{RefusedBy, Unread, Go, Halt}
-use Rattle.gdc.specs.declared.words.Command.{Command}
-use Rattle.gdc.specs.declared.words.Command.TheVariants.{Wires}
+use Rattle.verdict_phases.specs.Phases.{RefusedBy, Unread, Reads, Go, Halt}
+use Rattle.corner_set.specs.declared.pick.Pick.{Pick}
+use Rattle.gdc_words.specs.declared.commands.Command.{Command}
+use Rattle.gdc_words.specs.declared.commands.Command.TheVariants.{Wires, Show, Help, Version}
 use Rattle.gdc.specs.declared.refusal.FileKey.{FileKey}
-use Rattle.gdc.specs.declared.refusal.FileKey.TheVariants.{Spef}
+use Rattle.gdc.specs.declared.refusal.FileKey.TheVariants.{Spef, Sdf}
 use Rattle.gdc.specs.declared.outcome.Outcome.{Outcome}
 use Rattle.gdc.specs.declared.outcome.Outcome.TheVariants.{Done, Refused, Usage, ReadFault, WriteFault, OutOfMemory}
-use Rattle.gdc.specs.CommandLine.{Request}
-use Rattle.gdc.specs.Verdict.{Faulty, Answers, Gives, CommandGives, at_reading}
+use Rattle.gdc_words.specs.CommandLine.{Request}
+use Rattle.gdc.specs.Verdict.{Faulty, Answers, Gives, CommandGives, WiresGives, ShowGives, at_reading, at_sdf_reading}
 use Rattle.gdc.specs.Outcomes.{OnDone, IfRefused, IfUsage, IfReadFault, OnWriteFault, GivesText, HasReadFault, name_of}
 use Rattle.gdc.specs.Completeness.{AnswersVerdict, IsComplete}
 
+-- the one file that `wires` reads, and that of `show`
+wires_reads : (held : Option Held) (pick : Pick) (name : List ℕ) (key : FileKey) → WiresGives held pick name (Halt (Reads key)) → key ≡ Spef
+wires_reads held pick name key (at_reading why reads) = reads
+
+show_reads : (held : Option Held) (name : List ℕ) (key : FileKey) → ShowGives held name (Halt (Reads key)) → key ≡ Sdf
+show_reads held name key (at_sdf_reading why reads) = reads
+
 -- the phases of a command come to the file that the shelf tells is not held
-unread_file : (held : Option Held) (command : Command) (request : Request) (key : FileKey) → TellsMissing held (name_of request key) → CommandGives held command request (Halt (Unread key))
-unread_file held Wires request Spef missing = at_reading (Unread Spef) (missing, refl)
+unread_file : (held : Option Held) (command : Command) (request : Request) (key : FileKey) → CommandGives held command request (Halt (Reads key)) → TellsMissing held (name_of request key) → CommandGives held command request (Halt (Unread key))
+unread_file held Wires request Spef reached missing = at_reading (Unread Spef) (missing, refl)
+unread_file held Wires request Sdf reached missing = cc (wires_reads _ _ _ Sdf reached)
+unread_file held Show request Sdf reached missing = at_sdf_reading (Unread Sdf) (missing, refl)
+unread_file held Show request Spef reached missing = cc (show_reads _ _ Spef reached)
+unread_file held Help request key reached missing = cc
+unread_file held Version request key reached missing = cc
 
 -- a read fault without a count that rose is at a file that is not held
 read_fault_wanted : (words : List (List ℕ)) (held : Option Held) (key : FileKey) (faults faults' opens opens' : ℕ) → HasReadFault words held key faults faults' opens opens' → (Rose faults faults' → ⊥) → AnswersVerdict words held (ReadFault key)
-read_fault_wanted words held key faults faults' opens opens' fault calm = elim fault.cause [
+read_fault_wanted words held key faults faults' opens opens' fault calm = elim fault.fault.cause [
   | inl rose ↦ absurd (calm rose)
   | inr missing ↦ record {
     verdict = Answers (Halt (Unread key));
-    given = (fault.request, fault.asked, unread_file held fault.request.command fault.request key missing);
+    given = (fault.request, fault.asked, unread_file held fault.request.command fault.request key fault.reached missing);
     wanted = refl;
   }
 ]

@@ -1,9 +1,7 @@
 pub mod Completing
 pub mod Drawing
-pub mod NeededKeys
 pub mod NetRows
 pub mod PinLists
 pub mod Places
 pub mod TreeRows
-pub mod WordPairs
 pub mod Work

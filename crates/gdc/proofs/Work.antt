@@ -13,11 +13,11 @@ use Rattle.spef_nets.specs.Faults.{IsFaultless}
 use Rattle.spef_nets.specs.Reading.{Reading, AreFaultlessBefore, next_section}
 use Rattle.spef_nets.proofs.ReadingLemmas.{AreRead, its_place, section_stands}
 use Rattle.verdict_phases.specs.Phases.{Go}
-use Rattle.gdc.specs.declared.words.Command.{Command}
-use Rattle.gdc.specs.declared.words.Command.TheVariants.{Wires}
-use Rattle.gdc.specs.declared.words.UsageFault.{UsageFault}
+use Rattle.gdc_words.specs.declared.commands.Command.{Command}
+use Rattle.gdc_words.specs.declared.commands.Command.TheVariants.{Wires, Show, Help, Version}
+use Rattle.gdc_words.specs.declared.faults.UsageFault.{UsageFault}
+use Rattle.gdc_words.specs.CommandLine.{Request, request_of}
 use Rattle.gdc.specs.declared.refusal.Refusal.{Refusal}
-use Rattle.gdc.specs.CommandLine.{Request, request_of}
 use Rattle.gdc.specs.SpefPhases.{sole_corner, ParsesSpef, HeadsSpef, NetsSpef, unknown_index, bad_number, value_too_large, repeated_net, foreign_coupling}
 use Rattle.gdc.specs.WireNets.{too_large, unreached, mesh, NetGives, no_driver, many_drivers, no_tree, NetsGive, refused}
 use Rattle.gdc.specs.Drawing.{DrawsNets, faulty_section, of_nets}
@@ -112,6 +112,12 @@ file_work held pick name bytes before after reads within = record { work = withi
 -- any words may give no work
 no_command_work : (held : Option Held) (command : Command) (request : Request) → CommandWork held command request 0
 no_command_work held Wires request = no_file
+no_command_work held Show request = refl
+no_command_work held Help request = refl
+no_command_work held Version request = refl
+
+pub no_work_of_command : (held : Option Held) (command : Command) (request : Request) (steps : ℕ) → IsWithin (CommandWork held command request) steps steps
+no_work_of_command held command request steps = record { work = 0; given = no_command_work held command request; bound = omega arith }
 
 no_request_work : (held : Option Held) (request : Result Request UsageFault) → RequestWork held request 0
 no_request_work held (Err fault) = refl

@@ -10,7 +10,7 @@ use Rattle.gdc.specs.Verdict.{Verdict, Faulty, Answers, Gives}
 -- the answer that a verdict wants: the reading of a file is no verdict by itself
 abbrev pub Wants : Verdict → Outcome → Type 0
 Wants (Faulty fault) outcome = outcome ≡ Usage fault
-Wants (Answers (Go rows)) outcome = outcome ≡ Done
+Wants (Answers (Go output)) outcome = outcome ≡ Done
 Wants (Answers (Halt (RefusedBy refusal))) outcome = outcome ≡ Refused refusal
 Wants (Answers (Halt (Unread key))) outcome = outcome ≡ ReadFault key
 Wants (Answers (Halt (Reads key))) outcome = ⊥

@@ -1,5 +1,4 @@
 pub mod AnnotationRows
-pub mod CommandLine
 pub mod Completeness
 pub mod Drawing
 pub mod Ends
@@ -7,6 +6,7 @@ pub mod Lines
 pub mod NetPins
 pub mod NetRows
 pub mod Outcomes
+pub mod Outputs
 pub mod RefusalText
 pub mod Saying
 pub mod SpefPhases
@@ -14,4 +14,3 @@ pub mod Statuses
 pub mod Verdict
 pub mod WireNets
 pub mod Work
-pub mod WordsEnds

@@ -1,7 +1,7 @@
 -- The line that is printed for every answer but done. It begins with the program's name and ends with the byte 10.
 use Rattle.std.specs.Prelude.{ℕ, List, [], ◌∷◌, ◌++◌, Option, Some, None, codes, decimal}
-use Rattle.gdc.specs.declared.words.UsageKind.{UsageKind}
-use Rattle.gdc.specs.declared.words.UsageKind.TheVariants.{NoCommand, UnknownCommand, UnknownWord, Repeated, MissingValue, BadValue, Mixed, MissingKey}
+use Rattle.gdc_words.specs.declared.faults.UsageKind.{UsageKind}
+use Rattle.gdc_words.specs.declared.faults.UsageKind.TheVariants.{NoCommand, UnknownCommand, UnknownWord, Repeated, MissingValue, BadValue, Mixed, MissingKey}
 use Rattle.gdc.specs.declared.outcome.Outcome.{Outcome}
 use Rattle.gdc.specs.declared.outcome.Outcome.TheVariants.{Done, Refused, Usage, ReadFault, WriteFault, OutOfMemory}
 use Rattle.gdc.specs.RefusalText.{key_text, refusal_line}

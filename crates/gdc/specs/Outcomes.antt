@@ -2,19 +2,20 @@
 use Rattle.std.specs.Prelude.{◌≡◌, ℕ, ◌⊎◌, List, Option, Result, Ok, Err}
 use Rattle.edge_io.specs.Counts.{Rose, RoseBy}
 use Rattle.edge_io.specs.Holding.{Held, TellsMissing}
-use Rattle.sdf_writer.specs.SdfText.{SdfRows, sdf_text}
 use Rattle.verdict_phases.specs.Phases.{Reads, Go, Halt}
-use Rattle.gdc.specs.declared.words.Command.{Command}
-use Rattle.gdc.specs.declared.words.Command.TheVariants.{Wires}
-use Rattle.gdc.specs.declared.words.Key.TheVariants as key
-use Rattle.gdc.specs.declared.words.UsageFault.{UsageFault}
+use Rattle.gdc_words.specs.declared.commands.Command.{Command}
+use Rattle.gdc_words.specs.declared.commands.Command.TheVariants.{Wires, Show}
+use Rattle.gdc_words.specs.declared.commands.Key.TheVariants as key
+use Rattle.gdc_words.specs.declared.faults.UsageFault.{UsageFault}
 use Rattle.gdc.specs.declared.refusal.FileKey.{FileKey}
-use Rattle.gdc.specs.declared.refusal.FileKey.TheVariants.{Spef}
+use Rattle.gdc.specs.declared.refusal.FileKey.TheVariants.{Spef, Sdf}
 use Rattle.gdc.specs.declared.refusal.Refusal.{Refusal}
 use Rattle.gdc.specs.declared.outcome.Outcome.{Outcome}
 use Rattle.gdc.specs.declared.outcome.Outcome.TheVariants.{Done, Refused, Usage, ReadFault, WriteFault, OutOfMemory}
-use Rattle.gdc.specs.CommandLine.{Request, request_of, value_of}
-use Rattle.gdc.specs.Verdict.{Gives, Answers}
+use Rattle.gdc_words.specs.CommandLine.{Request, request_of, value_of}
+use Rattle.gdc.specs.declared.output.Output.{Output}
+use Rattle.gdc.specs.Outputs.{output_text}
+use Rattle.gdc.specs.Verdict.{Gives, Answers, CommandGives}
 
 -- a fact of the run where it is done
 abbrev pub OnDone : Outcome → Type 0 → Type 0
@@ -70,26 +71,33 @@ UnlessWritten (ReadFault key) fact = fact
 UnlessWritten WriteFault fact = Unit {0}
 UnlessWritten OutOfMemory fact = fact
 
--- the verdict gives rows, of whose text this holds
+-- the verdict gives what is to be written, of whose text this holds
 abbrev pub GivesText : List (List ℕ) → Option Held → (List ℕ → Type 0) → Type 0
-GivesText words held fact = (rows : SdfRows) × Gives words held (Answers (Go rows)) × fact (sdf_text rows)
+GivesText words held fact = (output : Output) × Gives words held (Answers (Go output)) × fact (output_text output)
 
 -- the name of the file of a key
 abbrev pub name_of : Request → FileKey → List ℕ
 name_of request Spef = value_of request.given key.Spef
+name_of request Sdf = value_of request.given key.Sdf
 
--- the place of the file of a key in the order in which a command reads its files, from 1
+-- the place of the file of a key in the order in which a command reads its files, from 1; 0 where it does not read it
 abbrev pub reading_place : Command → FileKey → ℕ
 reading_place Wires Spef = 1
+reading_place Show Sdf = 1
+reading_place _ _ = 0
 
--- The cause of a read fault at the file of a key: the phases of the command come to its reading; the shelf's count of
--- faults rose, or the shelf tells that it does not hold the file; and so many files were opened as stand up to it.
+-- Why the file of a key could not be read: the shelf's count of faults rose, or the shelf tells that it does not hold the
+-- file. So many files were opened as stand up to it.
+pub record HasCause (held : Option Held) (request : Request) (faults faults' opens opens' : ℕ) (key : FileKey) : Type 0 where
+  pub cause : Rose faults faults' ⊎ TellsMissing held (name_of request key)
+  pub opened : RoseBy (reading_place request.command key) opens opens'
+
+-- A read fault at the file of a key: the phases of the command come to its reading, and it has its cause.
 pub record HasReadFault (words : List (List ℕ)) (held : Option Held) (key : FileKey) (faults faults' opens opens' : ℕ) : Type 0 where
   pub request : Request
   pub asked : request_of words ≡ Ok request
-  pub reached : Gives words held (Answers (Halt (Reads key)))
-  pub cause : Rose faults faults' ⊎ TellsMissing held (name_of request key)
-  pub opened : RoseBy (reading_place request.command key) opens opens'
+  pub reached : CommandGives held request.command request (Halt (Reads key))
+  pub fault : HasCause held request faults faults' opens opens' key
 
 -- where the words have a first fault, the run answers it, unless memory runs out
 abbrev pub AnswersUsage : Result Request UsageFault → Outcome → Type 0

@@ -2,7 +2,7 @@
 use Rattle.std.specs.Prelude.{ℕ, List, [], ◌∷◌, ◌++◌, Option, Some, None, codes, decimal}
 use Rattle.name_table.specs.declared.spef_names.NodeName.{NodeName}
 use Rattle.gdc.specs.declared.refusal.FileKey.{FileKey}
-use Rattle.gdc.specs.declared.refusal.FileKey.TheVariants.{Spef}
+use Rattle.gdc.specs.declared.refusal.FileKey.TheVariants.{Spef, Sdf}
 use Rattle.gdc.specs.declared.refusal.LimitKind.{LimitKind}
 use Rattle.gdc.specs.declared.refusal.LimitKind.TheVariants.{File, Net}
 use Rattle.gdc.specs.declared.refusal.NumberKind.{NumberKind}
@@ -10,11 +10,12 @@ use Rattle.gdc.specs.declared.refusal.NumberKind.TheVariants.{BadUnit, BadNumber
 use Rattle.gdc.specs.declared.refusal.IndexKind.{IndexKind}
 use Rattle.gdc.specs.declared.refusal.IndexKind.TheVariants.{Unknown, Repeated}
 use Rattle.gdc.specs.declared.refusal.Refusal.{Refusal}
-use Rattle.gdc.specs.declared.refusal.Refusal.TheVariants.{SpefSyntax, SpefForm, SpefNumber, NameIndex, RepeatedNet, Unreached, Mesh, ForeignCoupling, Limit, NoDriver, ManyDrivers}
+use Rattle.gdc.specs.declared.refusal.Refusal.TheVariants.{SpefSyntax, SpefForm, SpefNumber, NameIndex, RepeatedNet, Unreached, Mesh, ForeignCoupling, Limit, NoDriver, ManyDrivers, SdfSyntax}
 
 -- the key of a file
 abbrev pub key_text : FileKey → List ℕ
 key_text Spef = codes "--spef"
+key_text Sdf = codes "--sdf"
 
 -- the words for a limit, and what names the place where it is passed
 abbrev pub limit_head : LimitKind → List ℕ
@@ -49,6 +50,7 @@ head_text (ForeignCoupling net token) = codes "E37 foreign coupling "
 head_text (Limit kind) = limit_head kind
 head_text (NoDriver net) = codes "E60 no driver "
 head_text (ManyDrivers net) = codes "E61 several drivers "
+head_text (SdfSyntax token) = codes "E62 sdf syntax"
 
 -- what a refusal names first
 abbrev pub field_text : Refusal → List ℕ
@@ -63,6 +65,7 @@ field_text (ForeignCoupling net token) = net
 field_text (Limit kind) = limit_field kind
 field_text (NoDriver net) = net
 field_text (ManyDrivers net) = net
+field_text (SdfSyntax token) = []
 
 -- the token that a refusal names
 abbrev pub token_in : Refusal → Option ℕ
@@ -77,6 +80,7 @@ token_in (ForeignCoupling net token) = Some token
 token_in (Limit kind) = None
 token_in (NoDriver net) = None
 token_in (ManyDrivers net) = None
+token_in (SdfSyntax token) = Some token
 
 -- the node that a refusal names
 abbrev pub node_in : Refusal → Option NodeName
@@ -91,6 +95,7 @@ node_in (ForeignCoupling net token) = None
 node_in (Limit kind) = None
 node_in (NoDriver net) = None
 node_in (ManyDrivers net) = None
+node_in (SdfSyntax token) = None
 
 -- a node is printed as its head, and where it has a tail as `:` and the tail after it
 abbrev pub node_text : List ℕ → Option (List ℕ) → List ℕ

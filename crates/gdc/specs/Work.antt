@@ -12,21 +12,21 @@ use Rattle.spef_nets.specs.Sections.{IsNet}
 use Rattle.verdict_phases.specs.Phases.{Go}
 use Rattle.verdict_phases.specs.declared.ends.PhaseEnd.{PhaseEnd}
 use Rattle.verdict_phases.specs.declared.ends.PhaseEnd.TheVariants as phase
-use Rattle.gdc.specs.declared.words.Command.{Command}
-use Rattle.gdc.specs.declared.words.Command.TheVariants.{Wires}
-use Rattle.gdc.specs.declared.words.Key.TheVariants as key
-use Rattle.gdc.specs.declared.words.UsageFault.{UsageFault}
+use Rattle.gdc_words.specs.declared.commands.Command.{Command}
+use Rattle.gdc_words.specs.declared.commands.Command.TheVariants.{Wires, Show, Help, Version}
+use Rattle.gdc_words.specs.declared.commands.Key.TheVariants as key
+use Rattle.gdc_words.specs.declared.faults.UsageFault.{UsageFault}
+use Rattle.gdc_words.specs.CommandLine.{Request, request_of, value_of, pick_from}
 use Rattle.gdc.specs.declared.refusal.FileKey.{FileKey}
 use Rattle.gdc.specs.declared.refusal.IndexKind.TheVariants.{Repeated}
 use Rattle.gdc.specs.declared.refusal.LimitKind.TheVariants.{File}
 use Rattle.gdc.specs.declared.refusal.NumberKind.TheVariants.{BadUnit}
 use Rattle.gdc.specs.declared.refusal.Refusal.{Refusal}
-use Rattle.gdc.specs.declared.refusal.Refusal.TheVariants.{SpefSyntax, SpefForm, SpefNumber, NameIndex, Limit}
+use Rattle.gdc.specs.declared.refusal.Refusal.TheVariants.{SpefSyntax, SpefForm, SpefNumber, NameIndex, SdfSyntax, Limit}
 use Rattle.gdc.specs.declared.outcome.Outcome.{Outcome}
 use Rattle.gdc.specs.declared.outcome.Outcome.TheVariants as outcome
 use Rattle.gdc.specs.declared.top.End.{End}
 use Rattle.gdc.specs.declared.top.End.TheVariants as end
-use Rattle.gdc.specs.CommandLine.{Request, request_of, value_of, pick_from}
 use Rattle.gdc.specs.SpefPhases.{sole_corner, ParsesSpef, HeadsSpef}
 use Rattle.gdc.specs.Verdict.{ReadsSpef}
 use Rattle.gdc.specs.NetRows.{most_steps}
@@ -55,8 +55,12 @@ pub data WiresWork (held : Option Held) (pick : Pick) (name : List ℕ) : ℕ �
   no_file : WiresWork held pick name 0
   of_file : {work : ℕ} (bytes : List ℕ) → ReadsSpef held name (Go bytes) → TextWork pick bytes work → WiresWork held pick name work
 
+-- no other command takes a step
 abbrev pub CommandWork : Option Held → Command → Request → ℕ → Type 0
 CommandWork held Wires request work = WiresWork held (pick_from request.given) (value_of request.given key.Spef) work
+CommandWork held Show request work = work ≡ 0
+CommandWork held Help request work = work ≡ 0
+CommandWork held Version request work = work ≡ 0
 
 -- faulty words give no work
 abbrev pub RequestWork : Option Held → Result Request UsageFault → ℕ → Type 0
@@ -73,12 +77,13 @@ pub record IsWithin (Work : ℕ → Type 0) (before after : ℕ) : Type 0 where
   pub given : Work work
   pub bound : after ≤ before + work
 
--- a refusal that comes before a section is read: of a file's length, of the grammar, or of the head
+-- a refusal that comes before a section is read: of a file's length, of a grammar, or of the head
 abbrev pub is_early : Refusal → Bool
 is_early (SpefSyntax token) = true
 is_early (SpefForm word token) = true
 is_early (SpefNumber BadUnit token) = true
 is_early (NameIndex Repeated token) = true
+is_early (SdfSyntax token) = true
 is_early (Limit (File key)) = true
 is_early _ = false
 

@@ -1,6 +1,6 @@
 //! Collects the words that the program is started with.
-use crate::words::Words;
 use edge_io::{OutOfMemory, Text};
+use gdc_words::Words;
 use std::alloc::Global;
 use std::env::{Env, FillError};
 

@@ -6,33 +6,31 @@ ghost use Rattle.gdc.specs.RefusalText.{head_text, field_text, token_in, node_in
 
 use crate::outcome::Outcome;
 use crate::refusal::Refusal;
-use crate::words::{UsageFault, UsageKind};
 use edge_io::{Failed, Sink, write_2, write_3, write_5, write_all};
+use gdc_words::{UsageFault, UsageKind};
 use itoa::Buffer;
 use name_table::NodeName;
 
-impl UsageKind {
-    /// The words that the line has for it.
-    fn text(self) -> &'static [u8]
-        ensures { result.now ≡ kind_text self }
-    {
-        match self {
-            UsageKind::NoCommand => b"no command",
-            UsageKind::UnknownCommand => b"unknown command",
-            UsageKind::UnknownWord => b"unknown word",
-            UsageKind::Repeated => b"repeated",
-            UsageKind::MissingValue => b"missing value",
-            UsageKind::BadValue => b"bad value",
-            UsageKind::Mixed => b"mixed",
-            UsageKind::MissingKey => b"missing",
-        }
+/// The words that the line has for a kind of fault.
+fn kind_text(kind: UsageKind) -> &'static [u8]
+    ensures { result.now ≡ kind_text kind }
+{
+    match kind {
+        UsageKind::NoCommand => b"no command",
+        UsageKind::UnknownCommand => b"unknown command",
+        UsageKind::UnknownWord => b"unknown word",
+        UsageKind::Repeated => b"repeated",
+        UsageKind::MissingValue => b"missing value",
+        UsageKind::BadValue => b"bad value",
+        UsageKind::Mixed => b"mixed",
+        UsageKind::MissingKey => b"missing",
     }
 }
 
 fn say_usage<E: Sink>(fault: &UsageFault, err: &mut E) -> Result<(), Failed>
     ensures writes { Writes (usage_line fault.now.kind fault.now.place fault.now.key) (E.written err.old) (E.written err.new) (E.faults err.old) (E.faults err.new) result }
 {
-    let kind = fault.kind.text();
+    let kind = kind_text(fault.kind);
     match &fault.key {
         Some(key) => write_5(err, b"gdc: usage: ", kind, b" ", key.bytes(), b"\n"),
         None => {

@@ -1,4 +1,4 @@
-//! gdc: the delays of wires for chip sign-off, from SPEF to SDF.
+//! gdc: the delays of wires for chip sign-off, from SPEF to SDF, and the rows of SDF files.
 //!
 //! `main` is the edge of the program: it collects the words, makes the shelf and the streams of the
 //! system, and ends with the status of what `top::run` answers, in whose contract the theorem of the
@@ -12,13 +12,15 @@ mod lines;
 mod net_pins;
 mod net_rows;
 mod outcome;
+mod output;
+mod performing;
 mod refusal;
+mod show;
 mod spef_phases;
 #[cfg(test)]
 mod tests;
 mod top;
 mod wires;
-mod words;
 
 use crate::command_line::read_command_line;
 use crate::outcome::Outcome;

@@ -3,7 +3,7 @@ ghost use Rattle.std.specs.Prelude.{◌≡◌};
 ghost use Rattle.gdc.specs.Statuses.{status_of};
 
 use crate::refusal::{FileKey, Refusal};
-use crate::words::UsageFault;
+use gdc_words::UsageFault;
 
 /// How a run ends.
 #[derive(Debug, Drop)]

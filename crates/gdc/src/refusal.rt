@@ -11,6 +11,8 @@ use name_table::NodeName;
 pub enum FileKey {
     /// The file of `--spef`.
     Spef,
+    /// The file of `--sdf`.
+    Sdf,
 }
 
 /// A limit that an input passes.
@@ -67,6 +69,8 @@ pub enum Refusal {
     NoDriver { net: Text },
     /// E61: several connections drive a net.
     ManyDrivers { net: Text },
+    /// E62: no SDF file begins with the tokens up to this one, or the file ends in front of it.
+    SdfSyntax { token: u64 },
 }
 
 impl FileKey {
@@ -76,6 +80,7 @@ impl FileKey {
     {
         match self {
             FileKey::Spef => b"--spef",
+            FileKey::Sdf => b"--sdf",
         }
     }
 }
@@ -141,6 +146,7 @@ impl Refusal {
             Refusal::Limit(kind) => kind.head(),
             Refusal::NoDriver { .. } => b"E60 no driver ",
             Refusal::ManyDrivers { .. } => b"E61 several drivers ",
+            Refusal::SdfSyntax { .. } => b"E62 sdf syntax",
         }
     }
 
@@ -160,6 +166,7 @@ impl Refusal {
             Refusal::Limit(kind) => kind.field(),
             Refusal::NoDriver { net } => net.bytes(),
             Refusal::ManyDrivers { net } => net.bytes(),
+            Refusal::SdfSyntax { .. } => b"",
         }
     }
 
@@ -179,6 +186,7 @@ impl Refusal {
             Refusal::Limit(_) => None,
             Refusal::NoDriver { .. } => None,
             Refusal::ManyDrivers { .. } => None,
+            Refusal::SdfSyntax { token } => Some(*token),
         }
     }
 
@@ -198,6 +206,7 @@ impl Refusal {
             Refusal::Limit(_) => None,
             Refusal::NoDriver { .. } => None,
             Refusal::ManyDrivers { .. } => None,
+            Refusal::SdfSyntax { .. } => None,
         }
     }
 }

@@ -4,8 +4,8 @@
 ghost use Rattle.std.specs.Prelude.{◌≡◌, ◌<◌};
 
 use crate::top::run;
-use crate::words::Words;
 use edge_io::{MemShelf, MemSink, OutOfMemory, Steps, Text};
+use gdc_words::Words;
 use std::alloc::Global;
 use std::marker::Brand;
 use std::process::Abort;
@@ -14,13 +14,15 @@ use std::test::Fail;
 
 mod refusals;
 mod rows;
+mod show;
 mod words;
 
-/// A run to try: its words, one a line, the bytes of the file `a.spef`, and the faults of the outside.
+/// A run to try: its words, one a line, the bytes of its file, and the faults of the outside.
 #[derive(Clone, Copy)]
 struct Plan<'a> {
     words: &'a [u8],
-    spef: &'a [u8],
+    /// What stands in `a.spef`, and in `a.sdf` too.
+    file: &'a [u8],
     /// How many bytes a call of the sink for the text takes.
     most: usize,
     /// The call of that sink that fails, or 0.
@@ -36,10 +38,10 @@ impl<'a> Plan<'a> {
     }
 
     /// These words over these bytes, with no fault.
-    fn of(words: &'a [u8], spef: &'a [u8]) -> Plan<'a> {
+    fn of(words: &'a [u8], file: &'a [u8]) -> Plan<'a> {
         Plan {
             words,
-            spef,
+            file,
             most: 1000,
             failing_write: 0,
             failing_read: 0,
@@ -79,9 +81,11 @@ fn words_of(alloc: Global, lines: &[u8]) -> Result<Words, OutOfMemory> {
 
 fn shelf_of(alloc: Global, plan: &Plan) -> Result<MemShelf, OutOfMemory> {
     let mut shelf = MemShelf::new(alloc, 7);
-    let name = Text::from_bytes(alloc, b"a.spef")?;
-    let held = Text::from_bytes(alloc, plan.spef)?;
-    shelf.put(name, held)?;
+    for name in [b"a.spef".as_slice(), b"a.sdf".as_slice()] {
+        let name = Text::from_bytes(alloc, name)?;
+        let held = Text::from_bytes(alloc, plan.file)?;
+        shelf.put(name, held)?;
+    }
     shelf.fail_at(plan.failing_read)?;
     Ok(shelf)
 }

@@ -2,7 +2,7 @@
 ghost use Rattle.std.specs.Prelude.{◌≡◌, Result, Err};
 ghost use Rattle.edge_io.specs.Counts.{Rose};
 ghost use Rattle.edge_io.specs.Told.{appended, AppendsFrontOf};
-ghost use Rattle.gdc.specs.CommandLine.{request_of};
+ghost use Rattle.gdc_words.specs.CommandLine.{request_of};
 ghost use Rattle.gdc.specs.Verdict.{Gives, Answers};
 ghost use Rattle.gdc.specs.Outcomes.{OnDone, IfRefused, IfUsage, IfReadFault, OnWriteFault, UnlessWritten, GivesText, HasReadFault, AnswersUsage};
 ghost use Rattle.gdc.specs.Saying.{Says};
@@ -13,17 +13,16 @@ ghost use Rattle.verdict_phases.specs.Phases.{RefusedBy, Halt};
 
 use crate::lines::say;
 use crate::outcome::Outcome;
+use crate::output::{Output, write_output};
+use crate::performing::perform;
 use crate::refusal::{FileKey, Refusal};
-use crate::wires::wires;
-use crate::words::{Asked, Command, Key, UsageFault, Words, WordsEnd, read_words};
-use corner_set::Single;
 use edge_io::{Failed, Shelf, Sink, Steps};
-use sdf_writer::{Rows, write};
+use gdc_words::{UsageFault, Words, WordsEnd, read_words};
 use std::alloc::Global;
 use std::sync::ledger::Ledger;
 use verdict_phases::PhaseEnd;
 
-/// Why there are no rows to write.
+/// Why there is nothing to write.
 #[derive(Drop)]
 enum End {
     Usage(UsageFault),
@@ -56,27 +55,25 @@ impl From<PhaseEnd<Refusal, FileKey>> for End {
     }
 }
 
-/// The rows that the words ask for.
+/// What the words ask for, as it is to be written.
 #[tactic(auto, using(crate::proofs::Work::no_words_work))]
 fn decide<H: Shelf, L: Ledger>(
     alloc: Global,
     words: &Words,
     shelf: &mut H,
     steps: &mut Steps<L>,
-) -> Result<Rows<Single>, End>
+) -> Result<Output, End>
     ensures follows { FollowsTop words.now (H.held shelf.old) result }
     ensures fault { MeansEnd words.now (H.held shelf.old) (H.faults shelf.old) (H.faults shelf.new) (H.opens shelf.old) (H.opens shelf.new) result }
     ensures steps { IsWithin (WordsWork words.now (H.held shelf.old)) steps.old steps.new }
     ensures no_steps { OnEarlyEnd result (steps.new ≡ steps.old) }
 {
     let asked = read_words(alloc, words)?;
-    let rows = match asked.command() {
-        Command::Wires => wires(alloc, shelf, asked.needed(Key::Spef), asked.pick(), steps)?,
-    };
-    Ok(rows)
+    let output = perform(alloc, &asked, shelf, steps)?;
+    Ok(output)
 }
 
-/// Decides, and writes the text where there are rows.
+/// Decides, and writes what there is to write.
 fn answer<H: Shelf, O: Sink, L: Ledger>(
     alloc: Global,
     words: &Words,
@@ -104,7 +101,7 @@ fn answer<H: Shelf, O: Sink, L: Ledger>(
         Err(End::Phase(PhaseEnd::ReadFault(key))) => Outcome::ReadFault(key),
         Err(End::Phase(PhaseEnd::OutOfMemory)) => Outcome::OutOfMemory,
         Err(End::OutOfMemory) => Outcome::OutOfMemory,
-        Ok(rows) => match write(&rows, out) {
+        Ok(output) => match write_output(&output, out) {
             Ok(()) => Outcome::Done,
             Err(Failed) => Outcome::WriteFault,
         },
@@ -124,7 +121,7 @@ pub fn run<H: Shelf, O: Sink, E: Sink, L: Ledger>(
     err: &mut E,
     steps: &mut Steps<L>,
 ) -> Outcome
-    // Done: the verdict gives rows, and their text stands behind what `out` held.
+    // Done: the verdict gives what is to be written, and its text stands behind what `out` held.
     ensures done { OnDone result (GivesText words.now (H.held shelf.old)
         (λ text. O.written out.new ≡ appended (O.written out.old) text)) }
 

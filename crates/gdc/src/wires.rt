@@ -1,8 +1,10 @@
 //! The command `wires`: the delays of the wires of a SPEF file.
-ghost use Rattle.std.specs.Prelude.{◌≡◌, ◌≤◌, ◌⊎◌};
+ghost use Rattle.std.specs.Prelude.{◌≡◌, ◌⊎◌};
 ghost use Rattle.edge_io.specs.Counts.{Rose, RoseBy};
 ghost use Rattle.edge_io.specs.Holding.{TellsMissing};
-ghost use Rattle.verdict_phases.specs.Phases.{Follows, OnReadFault};
+ghost use Rattle.verdict_phases.specs.Phases.{Follows};
+ghost use Rattle.gdc.specs.Ends.{AtReadFault};
+ghost use Rattle.gdc.specs.declared.refusal.FileKey.TheVariants.{Spef};
 ghost use Rattle.gdc.specs.Verdict.{WiresGives};
 ghost use Rattle.gdc.specs.Work.{WiresWork, IsWithin, OnEarly};
 
@@ -28,11 +30,9 @@ pub fn wires<H: Shelf, L: Ledger>(
     steps: &mut Steps<L>,
 ) -> Result<Rows<Single>, PhaseEnd<Refusal, FileKey>>
     ensures follows { Follows (WiresGives (H.held shelf.old) pick name.now) result }
-    ensures fault { OnReadFault result
-        (Rose (H.faults shelf.old) (H.faults shelf.new) ⊎ TellsMissing (H.held shelf.old) name.now) }
-    ensures later { H.faults shelf.old ≤ H.faults shelf.new }
+    ensures fault { AtReadFault result (λ key. (key ≡ Spef)
+        × (Rose (H.faults shelf.old) (H.faults shelf.new) ⊎ TellsMissing (H.held shelf.old) name.now)) }
     ensures opens { RoseBy 1 (H.opens shelf.old) (H.opens shelf.new) }
-    ensures held { H.held shelf.new ≡ H.held shelf.old }
     ensures steps { IsWithin (WiresWork (H.held shelf.old) pick name.now) steps.old steps.new }
     ensures no_steps { OnEarly result (steps.new ≡ steps.old) }
 {

@@ -71,6 +71,8 @@ fn each_fault_of_the_words_has_its_line(rt: HostRuntime) -> Result<(), Fail> {
     )?;
     let plan = Plan::of(b"wires\n--triple\nmin\n", b"");
     expects(&rt, alloc, &plan, 2, none, b"gdc: usage: missing --spef\n")?;
+    let plan = Plan::of(b"show\n", b"");
+    expects(&rt, alloc, &plan, 2, none, b"gdc: usage: missing --sdf\n")?;
     Ok(())
 }
 
@@ -80,6 +82,8 @@ fn faults_of_the_outside_have_their_lines(rt: HostRuntime) -> Result<(), Fail> {
     let none = b"".as_slice();
     let plan = Plan::of(b"wires\n--spef\nb.spef\n", b"");
     expects(&rt, alloc, &plan, 3, none, b"gdc: read fault --spef\n")?;
+    let plan = Plan::of(b"show\n--sdf\nb.sdf\n", b"");
+    expects(&rt, alloc, &plan, 3, none, b"gdc: read fault --sdf\n")?;
     let mut plan = Plan::wires(b"*SPEF \"x\"");
     plan.failing_read = 2;
     expects(&rt, alloc, &plan, 3, none, b"gdc: read fault --spef\n")?;
