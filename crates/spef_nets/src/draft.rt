@@ -25,7 +25,7 @@ pub struct Draft<'t> {
     pub refs: Referred<'t>,
     conns: Vec<Listed>,
     loads: Vec<Farads>,
-    caps: Vec<usize>,
+    caps: Vec<u32>,
     farads: Vec<Farads>,
     joints: Vec<Ends>,
     ohms: Vec<Ohms>,
@@ -102,7 +102,7 @@ impl<'t> Draft<'t> {
     {
         let node = self.refs.number(spelling)?;
         let listed = Listed {
-            node,
+            node: node as usize,
             port: conn.port,
             direction: conn.direction,
         };

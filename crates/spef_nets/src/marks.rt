@@ -10,5 +10,5 @@ pub struct Mark {
     pub belongs: bool,
 
     /// Its number among the nodes of the section, once an element stands at it.
-    pub number: Option<usize>,
+    pub number: Option<u32>,
 }

@@ -6,7 +6,7 @@ ghost use Rattle.spef_nets.specs.Drafts.{BelongsBy};
 
 use crate::marks::Mark;
 use crate::node_table::NodeTable;
-use crate::pushing::push;
+use crate::pushing::{kept, push};
 use crate::spellings::Spellings;
 use edge_io::{OutOfMemory, Text};
 use name_table::NodeName;
@@ -17,7 +17,7 @@ use std::alloc::Global;
 pub struct Referred<'t> {
     words: Spellings<'t>,
     // of each spelling the place of its node, and its name until an element stands at it
-    places: Vec<usize>,
+    places: Vec<u32>,
     names: Vec<Option<NodeName>>,
     table: NodeTable,
     // of each node
@@ -59,7 +59,7 @@ impl<'t> Referred<'t> {
         let place = self.table.intern(&node)?;
         let belongs = net.bytes() == node.head.bytes();
         mark_new(&mut self.marks, place, belongs)?;
-        push(&mut self.places, place)?;
+        push(&mut self.places, kept(place)?)?;
         push(&mut self.names, Some(node))?;
         self.words.add(word)?;
         Ok(())
@@ -78,7 +78,7 @@ impl<'t> Referred<'t> {
         requires placed { ArePlaced (refs_of self.now) }
         ensures { Belongs (refs_of self.now) spelling result }
     {
-        let place = self.places[spelling];
+        let place = self.places[spelling] as usize;
         self.marks[place].belongs
     }
 
@@ -100,7 +100,7 @@ impl<'t> Referred<'t> {
         requires placed { ArePlaced (refs_of self.old) }
         ensures { Joins (refs_of self.old) (refs_of self.new) spelling }
     {
-        let place = self.places[spelling];
+        let place = self.places[spelling] as usize;
         let mark = self.marks[place];
         self.marks[place] = Mark {
             listed: mark.listed,
@@ -115,7 +115,7 @@ impl<'t> Referred<'t> {
         requires placed { ArePlaced (refs_of self.old) }
         ensures { Lists (refs_of self.old) (refs_of self.new) spelling result }
     {
-        let place = self.places[spelling];
+        let place = self.places[spelling] as usize;
         let mark = self.marks[place];
         self.marks[place] = Mark {
             listed: true,
@@ -126,18 +126,18 @@ impl<'t> Referred<'t> {
     }
 
     /// The number of a node in the section: its own, and else that of a new last one, with this spelling.
-    pub fn number(&mut self, spelling: usize) -> Result<usize, OutOfMemory>
+    pub fn number(&mut self, spelling: usize) -> Result<u32, OutOfMemory>
         requires within { spelling < length (refs_of self.old).places }
         requires named { spelling < length (refs_of self.old).names }
         requires placed { ArePlaced (refs_of self.old) }
         ensures { IfOk result (Numbers (refs_of self.old) (refs_of self.new) spelling) }
     {
-        let place = self.places[spelling];
+        let place = self.places[spelling] as usize;
         let mark = self.marks[place];
         match mark.number {
             Some(number) => Ok(number),
             None => {
-                let number = self.nodes.len();
+                let number = kept(self.nodes.len())?;
                 let name = self.names[spelling].take();
                 push_name(&mut self.nodes, name)?;
                 self.marks[place] = Mark {

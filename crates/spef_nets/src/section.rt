@@ -21,7 +21,7 @@ pub struct Section<C: CornerSet> {
     pub(crate) conns: Vec<Listed>,
     // values stand row after row, and in each row by corner
     pub(crate) loads: Vec<Farads>,
-    pub(crate) caps: Vec<usize>,
+    pub(crate) caps: Vec<u32>,
     pub(crate) farads: Vec<Farads>,
     pub(crate) joints: Vec<Ends>,
     pub(crate) ohms: Vec<Ohms>,
@@ -160,7 +160,10 @@ impl<C: CornerSet> Section<C> {
         ensures step { steps.new ≡ steps.old + 1 }
     {
         steps.tick();
-        (self.caps[i], self.farads[i * C::COUNT + C::number(corner)])
+        (
+            self.caps[i] as usize,
+            self.farads[i * C::COUNT + C::number(corner)],
+        )
     }
 
     /// How many resistors there are.
@@ -183,8 +186,8 @@ impl<C: CornerSet> Section<C> {
         steps.tick();
         let Ends { a, b } = self.joints[i];
         Resistor {
-            a,
-            b,
+            a: a as usize,
+            b: b as usize,
             ohms: self.ohms[i * C::COUNT + C::number(corner)],
         }
     }

@@ -14,7 +14,7 @@ ghost use Rattle.spef_nets.specs.DraftOf.{drafted};
 use crate::amounts::Grains;
 use crate::draft::Draft;
 use crate::ends::SectionEnd;
-use crate::parts::Joined;
+use crate::parts::{Joined, spelling_of};
 use crate::pushing::push;
 use crate::referred::Referred;
 use crate::section::Section;
@@ -82,7 +82,7 @@ impl<'r, 'f> Source<'r, 'f> {
             let res = self.file.res(s, i);
             let first = self.joined_at(refs, net, res.first)?;
             let second = self.joined_at(refs, net, res.second)?;
-            push(&mut joints, Joined { first, second })?;
+            push(&mut joints, Joined::of(first, second)?)?;
         }
         Ok(joints)
     }
@@ -281,8 +281,8 @@ impl<'r, 'f> Source<'r, 'f> {
         ensures err { IfErr result (IsStop self.now.file.now self.now.head.now s) }
     {
         let res = self.file.res(s, i);
-        let first = known(joined.first, res.first)?;
-        let second = known(joined.second, res.second)?;
+        let first = known(spelling_of(joined.first), res.first)?;
+        let second = known(spelling_of(joined.second), res.second)?;
         let value = self.ohms_at(res.value)?;
         draft.put_res::<C>(first, second, value, self.pick)?;
         Ok(())

@@ -5,9 +5,9 @@ use Rattle.spef_nets.proofs.referred.Referred.list.Goals as goal
 
 pub returns : goal.returns
 returns c = record {
-  place = c.index-place.result.now;
+  place = c.index.result.now;
   mark = c.index-mark.result.now;
-  marked = marked_at (refs_of c.args.self.now) c.args.spelling c.index-place.result.now c.index-mark.result.now c.requires.within c.requires.placed c.index-place.ensures c.index-mark.ensures;
+  marked = marked_at (refs_of c.args.self.now) c.args.spelling c.index.result.now c.index-mark.result.now c.requires.within c.requires.placed c.index.ensures c.index-mark.ensures;
   listed = refl;
   is = refl;
 }

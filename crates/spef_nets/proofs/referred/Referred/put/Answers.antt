@@ -15,7 +15,7 @@ returns c =
     (λ e. c.in_ok-mark_new.ensures.held e)
     (λ i. record {
       words = c.in_ok-add.ensures.added i;
-      places = c.in_ok-push.ensures i;
+      places = (c.in_ok-push.ensures ∙ ap (λ n. c.args.self.now.places.items ++ n ∷ []) c.in_ok-kept.ensures) i;
       names = c.in_ok-push-2.ensures i;
       keys = c.intern.new.self;
       marks = c.mark_new.new.marks.items;

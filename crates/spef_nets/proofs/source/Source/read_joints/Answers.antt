@@ -1,5 +1,6 @@
 use Rattle.std.proofs.Common.{◌≡◌, ap, ◌∙◌, subst, arith, length, take}
-use Rattle.std.specs.Prelude.{List, []}
+use Rattle.std.specs.Prelude.{List, [], ◌∷◌, ◌++◌}
+use Rattle.spef_nets.specs.declared.parts.Joined.{Joined}
 use Rattle.std.proofs.Math.Seq.{take-length}
 use Rattle.spef_text.specs.Entries.{section_at}
 use Rattle.spef_text.specs.declared.entries.Res.{Res}
@@ -22,7 +23,7 @@ pub loop-i-preserved : goal.loop-i-preserved
 loop-i-preserved c =
     joined_more c.args.self.now.file.now c.args.net.now (refs_of c.args.refs.now) (refs_of c.loop-i.refs) (refs_of c.joined_at.new.refs) (refs_of c.joined_at-in-loop-i.new.refs)
     (section_at c.args.self.now.file.now.reading.sections c.args.s).ress c.loop-i.joints.items c.push.new.items.items c.loop-i.i c.res-res.result c.in_ok-first.first c.in_ok-second.second
-    c.res-res.ensures c.loop-i.invariant c.in_ok-first.ensures c.in_ok-second.ensures c.in_ok-push.ensures
+    c.res-res.ensures c.loop-i.invariant c.in_ok-first.ensures c.in_ok-second.ensures (c.in_ok-push.ensures ∙ ap (λ (j : Joined). c.loop-i.joints.items ++ j ∷ []) c.in_ok-of.ensures)
 
 pub returns : goal.returns
 returns c =
