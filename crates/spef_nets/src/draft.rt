@@ -77,7 +77,8 @@ impl<'t> Draft<'t> {
     {
         Ok(Draft {
             net,
-            refs: Referred::new(alloc),
+            // a net that is a tree has one node more than resistors
+            refs: Referred::with_room(alloc, ress.saturating_add(1))?,
             conns: Vec::with_capacity(alloc, conns)?,
             loads: Vec::with_capacity(alloc, conns.saturating_mul(C::COUNT))?,
             caps: Vec::with_capacity(alloc, caps)?,

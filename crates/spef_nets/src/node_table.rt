@@ -49,14 +49,12 @@ impl Model for NodeTable {
 }
 
 impl NodeTable {
-    /// No node. It takes no memory.
-    pub fn new(alloc: Global) -> NodeTable
-        ensures { result ≡ [] }
+    /// No node, with room for so many.
+    pub fn with_room(alloc: Global, many: usize) -> Result<NodeTable, OutOfMemory>
+        ensures { IfOk result (λ table. table ≡ []) }
     {
-        NodeTable {
-            keys: IndexSet::new(alloc),
-            alloc,
-        }
+        let keys = IndexSet::with_capacity(alloc, many)?;
+        Ok(NodeTable { keys, alloc })
     }
 
     /// The place of a node: its own where it is held, and else a new last one. It is one look-up.

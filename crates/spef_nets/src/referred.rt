@@ -27,18 +27,18 @@ pub struct Referred<'t> {
 }
 
 impl<'t> Referred<'t> {
-    /// No spelling yet. It takes no memory.
-    pub fn new(alloc: Global) -> Referred<'t>
-        ensures { refs_of result ≡ no_refs }
+    /// No spelling yet, with room for those of so many nodes.
+    pub fn with_room(alloc: Global, nodes: usize) -> Result<Referred<'t>, OutOfMemory>
+        ensures { IfOk result (λ refs. refs_of refs ≡ no_refs) }
     {
-        Referred {
-            words: Spellings::new(alloc),
-            places: Vec::new(alloc),
-            names: Vec::new(alloc),
-            table: NodeTable::new(alloc),
-            marks: Vec::new(alloc),
-            nodes: Vec::new(alloc),
-        }
+        Ok(Referred {
+            words: Spellings::with_room(alloc, nodes)?,
+            places: Vec::with_capacity(alloc, nodes)?,
+            names: Vec::with_capacity(alloc, nodes)?,
+            table: NodeTable::with_room(alloc, nodes)?,
+            marks: Vec::with_capacity(alloc, nodes)?,
+            nodes: Vec::with_capacity(alloc, nodes)?,
+        })
     }
 
     /// The number of a spelling that stood before.

@@ -24,14 +24,12 @@ impl<'t> Model for Spellings<'t> {
 }
 
 impl<'t> Spellings<'t> {
-    /// No spelling. It takes no memory.
-    pub fn new(alloc: Global) -> Spellings<'t>
-        ensures { result ≡ [] }
+    /// No spelling, with room for so many.
+    pub fn with_room(alloc: Global, many: usize) -> Result<Spellings<'t>, OutOfMemory>
+        ensures { IfOk result (λ spellings. spellings ≡ []) }
     {
-        Spellings {
-            words: IndexSet::with_hasher(alloc, NameHash::default()),
-            last: 0,
-        }
+        let words = IndexSet::with_capacity_and_hasher(alloc, many, NameHash::default())?;
+        Ok(Spellings { words, last: 0 })
     }
 
     /// The number of a spelling, if it is held.
