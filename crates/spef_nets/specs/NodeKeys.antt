@@ -1,7 +1,24 @@
 -- What a key of the table of nodes stands for.
-use Rattle.std.specs.Option.{option_map}
+use Rattle.std.specs.Prelude.{ℕ, ◌≤◌, List, [], ◌∷◌, length, take, drop, Option, Some, None, ⊤}
 use Rattle.spef_nets.specs.Nodes.{Key}
 use Rattle.spef_nets.specs.declared.node_table.NodeKey.{NodeKey}
 
+-- head and tail stand one behind the other
+abbrev pub cut_key : List ℕ → Option ℕ → Key
+cut_key text None = record { head = text; tail = None }
+cut_key text (Some cut) = record { head = take cut text; tail = Some (drop cut text) }
+
 abbrev pub key_in : NodeKey → Key
-key_in key = record { head = key.head.items; tail = option_map (λ tail. tail.items) key.tail }
+key_in key = cut_key key.text.items key.cut
+
+-- the tail begins within the text, or at its end
+abbrev pub IsCutWithin : List ℕ → Option ℕ → Type 0
+IsCutWithin text None = ⊤
+IsCutWithin text (Some cut) = cut ≤ length text
+
+abbrev pub IsCut : NodeKey → Type 0
+IsCut key = IsCutWithin key.text.items key.cut
+
+abbrev pub AreCut : List NodeKey → Type 0
+AreCut [] = ⊤
+AreCut (key ∷ keys) = IsCut key × AreCut keys

@@ -1,34 +1,53 @@
 //! The nodes that a section names, each at its place.
-ghost use Rattle.std.specs.Prelude.{◌≡◌, [], map, IfOk, IfSome, IfNone};
+ghost use Rattle.std.specs.Prelude.{◌≡◌, [], map, Some, IfOk, OnOk};
 ghost use Rattle.spef_nets.specs.Nodes.{key_of};
-ghost use Rattle.spef_nets.specs.NodeKeys.{key_in};
+ghost use Rattle.spef_nets.specs.NodeKeys.{key_in, IsCut, AreCut};
 ghost use Rattle.spef_nets.specs.Refs.{IsInterned};
 
+use crate::pushing::kept;
 use edge_io::OutOfMemory;
 use indexmap::IndexSet;
 use name_table::NodeName;
 use std::alloc::Global;
 use std::marker::Model;
 
-/// What makes a node the one that it is: its head and its tail, however they are written.
+/// What makes a node the one that it is: its head and its tail, however they are written, one behind the other.
 #[derive(PartialEq, Eq, Hash, Debug, Drop)]
 pub struct NodeKey {
-    pub head: Vec<u8>,
-    pub tail: Option<Vec<u8>>,
+    pub text: Vec<u8>,
+    // where the tail begins, if there is one
+    pub cut: Option<u32>,
 }
 
 impl NodeKey {
     /// The key of a node.
     fn of(alloc: Global, node: &NodeName) -> Result<NodeKey, OutOfMemory>
-        ensures { IfOk result (λ key. key_in key ≡ key_of node.now) }
+        ensures key { IfOk result (λ key. key_in key ≡ key_of node.now) }
+        ensures cut { IfOk result IsCut }
     {
-        let head = Vec::from_slice(alloc, node.head.bytes())?;
-        let tail = match &node.tail {
-            Some(tail) => Some(Vec::from_slice(alloc, tail.bytes())?),
-            None => None,
-        };
-        Ok(NodeKey { head, tail })
+        let head = node.head.bytes();
+        match &node.tail {
+            Some(tail) => halves_key(alloc, head, tail.bytes()),
+            None => {
+                let text = Vec::from_slice(alloc, head)?;
+                Ok(NodeKey { text, cut: None })
+            }
+        }
     }
+}
+
+fn halves_key(alloc: Global, head: &[u8], tail: &[u8]) -> Result<NodeKey, OutOfMemory>
+    ensures key { IfOk result (λ key. key_in key ≡ record { head = head.now; tail = Some tail.now }) }
+    ensures cut { IfOk result IsCut }
+{
+    let cut = kept(head.len())?;
+    let mut text = Vec::with_capacity(alloc, head.len().saturating_add(tail.len()))?;
+    text.extend_from_slice(head)?;
+    text.extend_from_slice(tail)?;
+    Ok(NodeKey {
+        text,
+        cut: Some(cut),
+    })
 }
 
 /// Nodes, each once, in the order in which they came.
@@ -41,11 +60,13 @@ pub struct NodeTable {
 impl Model for NodeTable {
     ghost use Rattle.std.specs.Prelude.{List, map};
     ghost use Rattle.spef_nets.specs.Nodes.{Key};
-    ghost use Rattle.spef_nets.specs.NodeKeys.{key_in};
+    ghost use Rattle.spef_nets.specs.NodeKeys.{key_in, AreCut};
 
     ghost Value = { List Key };
 
     ghost view = { λ table. map key_in table.keys.keys };
+
+    ghost invariant = { λ table. AreCut table.keys.keys };
 }
 
 impl NodeTable {
@@ -67,7 +88,10 @@ impl NodeTable {
 }
 
 fn intern(keys: &mut IndexSet<NodeKey>, key: NodeKey) -> Result<usize, OutOfMemory>
-    ensures { IfOk result (IsInterned (map key_in keys.old.keys) (map key_in keys.new.keys) (key_in key)) }
+    requires key { IsCut key }
+    requires keys { AreCut keys.old.keys }
+    ensures cut { AreCut keys.new.keys }
+    ensures interned { IfOk result (IsInterned (map key_in keys.old.keys) (map key_in keys.new.keys) (key_in key)) }
 {
     let Ok((place, _)) = keys.insert_full(key) else {
         return Err(OutOfMemory);
