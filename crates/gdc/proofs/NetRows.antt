@@ -1,5 +1,5 @@
 -- The rows of a net, and of several nets one after another.
-use Rattle.std.proofs.Common.{◌≡◌, ℕ, suc, ◌+◌, ◌<◌, ◌≤◌, List, [], ◌∷◌, ◌++◌, length, map, take, Some, Result, Err, refl, sym, ◌∙◌, ap, subst, arith, drop, Contains, length-append, length-drop, length-take-le, inl, inr}
+use Rattle.std.proofs.Common.{◌≡◌, ℕ, suc, ◌<◌, ◌≤◌, List, [], ◌∷◌, length, map, take, Some, Result, Err, refl, sym, ◌∙◌, ap, subst, arith, drop, Contains, length-append, length-drop, length-take-le, inl, inr}
 use Rattle.std.proofs.lemmas.Bool.{cases_lt}
 use Rattle.std.proofs.lemmas.List.{length-map, take_all}
 use Rattle.std.specs.List.{slice_get, slice_index_or, AllZip}

@@ -1,5 +1,5 @@
 -- The driver of a net, as its connections are gone through.
-use Rattle.std.proofs.Common.{◌≡◌, ℕ, ◌+◌, ◌<◌, ◌≤◌, true, cond, List, [], ◌∷◌, ◌++◌, length, take, drop, Option, Some, Ok, inl, inr, sym, ◌∙◌, ap, ap₂, subst}
+use Rattle.std.proofs.Common.{◌≡◌, ℕ, ◌+◌, ◌<◌, ◌≤◌, true, cond, [], ◌∷◌, ◌++◌, length, take, drop, Option, Some, Ok, inl, inr, sym, ◌∙◌, ap, ap₂, subst}
 use Rattle.std.specs.List.{slice_get, filter}
 use Rattle.std.specs.Prelude.{IfSome, option_to_list}
 use Rattle.std.proofs.lemmas.List.{append-nil, take-append-drop, take_all}

@@ -1,5 +1,5 @@
 -- How the driver of a net is found.
-use Rattle.std.specs.Prelude.{◌≡◌, ◌<◌, ◌⊎◌, ℕ, true, List, [], ◌∷◌, ◌++◌, filter, length, slice_get, Option, Some, None, option_to_list, Result, Ok, Err}
+use Rattle.std.specs.Prelude.{◌≡◌, ◌⊎◌, ℕ, true, List, [], ◌∷◌, filter, slice_get, Option, Some, None, option_to_list, Result, Ok, Err}
 use Rattle.spef_nets.specs.NetElements.{NetElements}
 use Rattle.spef_nets.specs.declared.parts.Listed.{Listed}
 use Rattle.gdc.specs.declared.net_pins.DriverEnd.{DriverEnd}
