@@ -1,6 +1,7 @@
 mod Words
 mod Names
 mod Nodes
+mod WellSpelledNodes
 mod Quotes
 mod Digits
 mod Times

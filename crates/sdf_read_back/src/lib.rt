@@ -5,4 +5,4 @@ mod laws;
 #[cfg(test)]
 mod tests;
 
-pub use laws::{nodes_settle, read_back, settled_read_back};
+pub use laws::{nodes_settle, read_back, settled_read_back, well_spelled_nodes};

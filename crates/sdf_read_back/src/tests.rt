@@ -85,5 +85,6 @@ fn the_laws_do_nothing(_rt: HostRuntime) -> Result<(), Fail> {
     crate::read_back();
     crate::settled_read_back();
     crate::nodes_settle();
+    crate::well_spelled_nodes();
     Ok(())
 }
