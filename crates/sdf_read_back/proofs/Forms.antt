@@ -31,6 +31,10 @@ use Rattle.sdf_read_back.proofs.Values.{IsDelay as FewTimes, picoseconds, number
 abbrev pub head : Head
 head = record { divider = 47; scale = picoseconds }
 
+-- the number of the token behind four
+abbrev pub four : ℕ → ℕ
+four number = number + 1 + 1 + 1 + 1
+
 -- wherever the tokens stand, they are such a form, and others follow it
 abbrev pub Forms : (List Tok → List SdfRow → List Tok → Type 0) → List Lexeme → List SdfRow → Type 0
 Forms Part tokens rows = (number : ℕ) (others : List Lexeme) → (next : ℕ) × Part (numbered number (tokens ++ others)) rows (numbered next others)
@@ -133,10 +137,10 @@ wire_row_is cell row is = λ i. kind.Wire (is.from.stays i) (is.to.stays i) (val
 
 wire_forms : (cell : List ℕ) (row : WireRow) → IsWire row → Forms (IsEntry IsValue head (record { cell = cell; instance = Some [] })) (wire_tokens row) (wire_back row ∷ [])
 wire_forms cell row is number others = (
-  number + 1 + 1 + 1 + 1 + 1 + 1 + 1 + 1,
-  subst (λ (rows : List SdfRow). IsEntry IsValue head (record { cell = cell; instance = Some [] }) (numbered number (wire_tokens row ++ others)) rows (numbered (number + 1 + 1 + 1 + 1 + 1 + 1 + 1 + 1) others))
+  four (four number),
+  subst (λ (rows : List SdfRow). IsEntry IsValue head (record { cell = cell; instance = Some [] }) (numbered number (wire_tokens row ++ others)) rows (numbered (four (four number)) others))
       (wire_row_is cell row is)
-      (is_entry (and_value (named refl is_interconnect refl refl) (number_is Wire row.delay is.delay (number + 1 + 1 + 1 + 1) (right ∷ others))) refl),
+      (is_entry (and_value (named refl is_interconnect refl refl) (number_is Wire row.delay is.delay (four number) (right ∷ others))) refl),
 )
 
 wires_forms : (cell : List ℕ) (rows : List WireRow) → Each IsWire rows → Forms (Many (IsEntry IsValue head (record { cell = cell; instance = Some [] }))) (flat_map wire_tokens rows) (map wire_back rows)
@@ -161,7 +165,7 @@ path_row_is cell instance row is = λ i. kind.Path cell instance (is.from.stays 
 
 path_forms : (cell instance : List ℕ) (row : PathRow) → IsPath row → Forms (IsEntry IsValue head (place_in cell instance)) (path_tokens row) (path_in cell instance row ∷ [])
 path_forms cell instance row is number others =
-    let first = edge_forms row.rise is.rise (number + 1 + 1 + 1 + 1) (edge_tokens row.fall ++ right ∷ others) in
+    let first = edge_forms row.rise is.rise (four number) (edge_tokens row.fall ++ right ∷ others) in
     let second = edge_forms row.fall is.fall first.0 (right ∷ others) in (
       second.0 + 1,
       subst (λ (l : List Lexeme). IsEntry IsValue head (place_in cell instance) (numbered number l) (path_in cell instance row ∷ []) (numbered (second.0 + 1) others)) (sym (path_tokens_shape row others))
@@ -179,7 +183,7 @@ paths_forms cell instance (row ∷ rows) each =
 
 delay_forms : (place : Place) (entries : List Lexeme) (rows : List SdfRow) → Forms (Many (IsEntry IsValue head place)) entries rows → Forms (IsSpec IsValue head place) (delay_tokens entries) rows
 delay_forms place entries rows forms number others =
-    let inside = forms (number + 1 + 1 + 1 + 1) (right ∷ right ∷ others) in (
+    let inside = forms (four number) (right ∷ right ∷ others) in (
       inside.0 + 1 + 1,
       subst (λ (l : List Lexeme). IsSpec IsValue head place (numbered number (left ∷ word (codes "DELAY") ∷ left ∷ word (codes "ABSOLUTE") ∷ l)) rows (numbered (inside.0 + 1 + 1) others)) (sym (append_assoc entries (right ∷ right ∷ []) others))
           (is_delay refl is_delay_word (more none (is_absolute refl is_absolute_word inside.1 refl)) refl),
@@ -207,11 +211,11 @@ named_place cell instance is = λ i. record {
 cell_forms : (cell instance : List ℕ) (specs : List Lexeme) (rows : List SdfRow) → IsSettled instance → Forms (Many (IsSpec IsValue head (place_in cell instance))) specs rows
     → Forms (IsCell IsValue head) (type_tokens cell ++ (instance_tokens instance ++ (specs ++ right ∷ []))) rows
 cell_forms cell instance specs rows is forms number others =
-    let inside = forms (number + 1 + 1 + 1 + 1 + 1 + 1 + 1 + 1 + 1 + 1) (right ∷ others) in (
+    let inside = forms (four (four number) + 1 + 1) (right ∷ others) in (
       inside.0 + 1,
       subst (λ (l : List Lexeme). IsCell IsValue head (numbered number (type_tokens cell ++ (instance_tokens instance ++ l))) rows (numbered (inside.0 + 1) others)) (sym (append_assoc specs (right ∷ []) others))
           (is_cell refl is_cell_word refl is_celltype refl refl (with_instance refl is_instance refl refl)
-          (subst (λ (place : Place). Many (IsSpec IsValue head place) (numbered (number + 1 + 1 + 1 + 1 + 1 + 1 + 1 + 1 + 1 + 1) (specs ++ right ∷ others)) rows (numbered inside.0 (right ∷ others))) (sym (named_place cell instance is)) inside.1)
+          (subst (λ (place : Place). Many (IsSpec IsValue head place) (numbered (four (four number) + 1 + 1) (specs ++ right ∷ others)) rows (numbered inside.0 (right ∷ others))) (sym (named_place cell instance is)) inside.1)
           refl),
     )
 
@@ -262,7 +266,7 @@ wires_cell design (row ∷ rows) each =
 
 design_forms : (design : List ℕ) (wires : List WireRow) → Each IsWire wires → Forms (IsCell IsValue head) (design_tokens design wires) (map wire_back wires)
 design_forms design wires each number others =
-    let inside = wires_cell design wires each (number + 1 + 1 + 1 + 1 + 1 + 1 + 1 + 1 + 1) (right ∷ others) in (
+    let inside = wires_cell design wires each (four (four number) + 1) (right ∷ others) in (
       inside.0 + 1,
       subst (λ (l : List Lexeme). IsCell IsValue head (numbered number (type_tokens design ++ (left ∷ word (codes "INSTANCE") ∷ right ∷ l))) (map wire_back wires) (numbered (inside.0 + 1) others)) (sym (append_assoc (wires_tokens wires) (right ∷ []) others))
           (is_cell refl is_cell_word refl is_celltype refl refl (unnamed refl is_instance refl) inside.1 refl),
@@ -271,16 +275,16 @@ design_forms design wires each number others =
 -- ---- the heads
 
 over_is : (bytes text : List ℕ) (others : List Lexeme) (number : ℕ) (set : Head) → keyword_of bytes ≡ None
-    → IsHead (numbered number (left ∷ word bytes ∷ text_token text ∷ right ∷ others)) set set (numbered (number + 1 + 1 + 1 + 1) others)
+    → IsHead (numbered number (left ∷ word bytes ∷ text_token text ∷ right ∷ others)) set set (numbered (four number) others)
 over_is bytes text others number set e = head_over (is_over refl (refl, ap (holds_of own_in_heads) e) (and_piece nothing_more refl) refl)
 
-design_is : (text : List ℕ) (others : List Lexeme) (number : ℕ) (set : Head) → IsHead (numbered number (left ∷ word (codes "DESIGN") ∷ text_token text ∷ right ∷ others)) set set (numbered (number + 1 + 1 + 1 + 1) others)
+design_is : (text : List ℕ) (others : List Lexeme) (number : ℕ) (set : Head) → IsHead (numbered number (left ∷ word (codes "DESIGN") ∷ text_token text ∷ right ∷ others)) set set (numbered (four number) others)
 design_is text others number set = with_design refl is_design refl refl
 
-divider_is : (others : List Lexeme) (number : ℕ) (set : Head) → IsHead (numbered number (left ∷ word (codes "DIVIDER") ∷ word (47 ∷ []) ∷ right ∷ others)) set (record { divider = 47; scale = set.scale }) (numbered (number + 1 + 1 + 1 + 1) others)
+divider_is : (others : List Lexeme) (number : ℕ) (set : Head) → IsHead (numbered number (left ∷ word (codes "DIVIDER") ∷ word (47 ∷ []) ∷ right ∷ others)) set (record { divider = 47; scale = set.scale }) (numbered (four number) others)
 divider_is others number set = with_divider refl is_divider_word refl refl refl refl
 
-timescale_is : (others : List Lexeme) (number : ℕ) (set : Head) → IsHead (numbered number (left ∷ word (codes "TIMESCALE") ∷ word (codes "1ps") ∷ right ∷ others)) set (record { divider = set.divider; scale = picoseconds }) (numbered (number + 1 + 1 + 1 + 1) others)
+timescale_is : (others : List Lexeme) (number : ℕ) (set : Head) → IsHead (numbered number (left ∷ word (codes "TIMESCALE") ∷ word (codes "1ps") ∷ right ∷ others)) set (record { divider = set.divider; scale = picoseconds }) (numbered (four number) others)
 timescale_is others number set = with_timescale refl is_timescale refl is_1ps refl
 
 heads_are : (design : List ℕ) (number : ℕ) (others : List Lexeme) → (next : ℕ) × AreHeads (numbered number (head_tokens design ++ others)) head (numbered next others)
@@ -290,14 +294,14 @@ heads_are design number others =
     let version : List Lexeme = left ∷ word (codes "VERSION") ∷ text_token (codes "1") ∷ right ∷ divider in
     let program : List Lexeme = left ∷ word (codes "PROGRAM") ∷ text_token (codes "gdc") ∷ right ∷ version in
     let name : List Lexeme = left ∷ word (codes "DESIGN") ∷ text_token design ∷ right ∷ program in (
-      number + 1 + 1 + 1 + 1 + 1 + 1 + 1 + 1 + 1 + 1 + 1 + 1 + 1 + 1 + 1 + 1 + 1 + 1 + 1 + 1 + 1 + 1 + 1 + 1,
+      four (four (four (four (four (four number))))),
       and_head (and_head (and_head (and_head (and_head (and_head no_head
           (over_is (codes "SDFVERSION") (codes "3.0") name number plain_head no_sdfversion))
-          (design_is design program (number + 1 + 1 + 1 + 1) plain_head))
-          (over_is (codes "PROGRAM") (codes "gdc") version (number + 1 + 1 + 1 + 1 + 1 + 1 + 1 + 1) plain_head no_program))
-          (over_is (codes "VERSION") (codes "1") divider (number + 1 + 1 + 1 + 1 + 1 + 1 + 1 + 1 + 1 + 1 + 1 + 1) plain_head no_version))
-          (divider_is scale (number + 1 + 1 + 1 + 1 + 1 + 1 + 1 + 1 + 1 + 1 + 1 + 1 + 1 + 1 + 1 + 1) plain_head))
-          (timescale_is others (number + 1 + 1 + 1 + 1 + 1 + 1 + 1 + 1 + 1 + 1 + 1 + 1 + 1 + 1 + 1 + 1 + 1 + 1 + 1 + 1) (record { divider = 47; scale = plain_head.scale })),
+          (design_is design program (four number) plain_head))
+          (over_is (codes "PROGRAM") (codes "gdc") version (four (four number)) plain_head no_program))
+          (over_is (codes "VERSION") (codes "1") divider (four (four (four number))) plain_head no_version))
+          (divider_is scale (four (four (four (four number)))) plain_head))
+          (timescale_is others (four (four (four (four (four number))))) (record { divider = 47; scale = plain_head.scale })),
     )
 
 -- ---- the file

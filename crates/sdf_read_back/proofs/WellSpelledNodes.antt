@@ -201,6 +201,12 @@ right_is_mark = (refl, λ e. absurd (omega (arith, e)))
 slash_is_mark : IsMark slash
 slash_is_mark = (refl, λ e. absurd (omega (arith, e)))
 
+piece_splits : (byte : ℕ) (symbols opened numbered number closed digits others : List Symbol) → symbols ≡ letter byte ∷ opened → opened ≡ mark left_bracket ∷ numbered → numbered ≡ number ++ closed → number ≡ digits → closed ≡ mark right_bracket ∷ others
+    → symbols ≡ (letter byte ∷ mark left_bracket ∷ (digits ++ mark right_bracket ∷ [])) ++ others
+piece_splits byte symbols opened numbered number closed digits others a b c d e =
+    a ∙ ap (λ l. letter byte ∷ l) b
+    ∙ ap (λ l. letter byte ∷ mark left_bracket ∷ l) (c ∙ ap₂ (λ x y. x ++ y) d e ∙ sym (append_assoc digits (mark right_bracket ∷ []) others))
+
 take_piece : (symbols : List Symbol) (front rest : List ℕ) → AreMarks symbols → IsPiece front → text symbols ≡ front ++ rest → Takes IsPieceOf symbols rest
 take_piece symbols front rest are (sdf.alone {letter = own} is) e =
     let first = take_letter symbols own rest are is e in
@@ -215,9 +221,7 @@ take_piece symbols front rest are (sdf.with_bit {letter = own} one digits is all
     record {
       front = letter first.byte ∷ mark left_bracket ∷ (map letter (one ∷ digits) ++ mark right_bracket ∷ []);
       others = closes.others;
-      splits =
-          first.splits ∙ ap (λ l. letter first.byte ∷ l) (opens.splits ∙ ap (λ l. mark left_bracket ∷ l)
-          (number.splits ∙ ap₂ (λ a b. a ++ b) number.is closes.splits ∙ sym (append_assoc (map letter (one ∷ digits)) (mark right_bracket ∷ []) closes.others)));
+      splits = piece_splits first.byte symbols first.others opens.others number.front number.others (map letter (one ∷ digits)) closes.others first.splits opens.splits number.splits number.is closes.splits;
       is = with_bit first.byte one digits all;
       behind = closes.behind;
       marks = closes.marks;
