@@ -55,7 +55,7 @@ pub data WiresWork (held : Option Held) (pick : Pick) (name : List ℕ) : ℕ �
   no_file : WiresWork held pick name 0
   of_file : {work : ℕ} (bytes : List ℕ) → ReadsSpef held name (Go bytes) → TextWork pick bytes work → WiresWork held pick name work
 
--- no other command takes a step
+-- the work of a command: `wires` takes steps, and no other
 abbrev pub CommandWork : Option Held → Command → Request → ℕ → Type 0
 CommandWork held Wires request work = WiresWork held (pick_from request.given) (value_of request.given key.Spef) work
 CommandWork held Show request work = work ≡ 0
