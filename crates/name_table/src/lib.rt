@@ -11,7 +11,7 @@ mod spef_names;
 pub use laws::{one_cut, one_reading, well_spelled_stays};
 pub use names::{NameId, Names};
 pub use sdf_names::{canonical_sdf, escape_sdf};
-pub use spef_names::{NodeName, SpefMarks, read_spef_node};
+pub use spef_names::{NodeName, SpefMarks, cut_node, read_spef_node};
 
 #[cfg(test)]
 mod tests;

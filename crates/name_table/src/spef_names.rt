@@ -75,8 +75,8 @@ fn spelled_whole(alloc: Global, word: &[u8], marks: &SpefMarks) -> Result<NodeNa
     })
 }
 
-// A name that is cut into these two.
-fn cut_node(
+/// Reads a name that is cut already: what stands before the delimiter, and what stands after it.
+pub fn cut_node(
     alloc: Global,
     front: &[u8],
     back: &[u8],

@@ -4,14 +4,14 @@ ghost use Rattle.spef_text.specs.Heads.{text_of, IsHeadOf};
 ghost use Rattle.spef_text.specs.Classes.{index_digits};
 ghost use Rattle.spef_text.specs.References.{is_starred, marks_of, index_end, before, mapped_node, IsMapped, IsNodeOf, IsResolveEnd};
 ghost use Rattle.name_table.specs.Characters.{characters};
-ghost use Rattle.name_table.specs.SpefNames.{whole_node, cut_node};
+ghost use Rattle.name_table.specs.SpefNames.{whole_node};
 ghost use Rattle.name_table.specs.declared.spef_names.NodeName.{NodeName};
 
 use crate::classes::index_digits;
 use crate::file::SpefFile;
 use crate::head::Head;
 use edge_io::{OutOfMemory, Text};
-use name_table::{NodeName, SpefMarks, read_spef_node};
+use name_table::{NodeName, SpefMarks, cut_node, read_spef_node};
 use std::alloc::Global;
 
 /// Why a reference names nothing. Tokens count from 1.
@@ -65,27 +65,6 @@ impl<'a> SpefFile<'a> {
     }
 }
 
-// A name with a tail, of which neither is cut.
-fn node_with_tail(
-    alloc: Global,
-    name: &[u8],
-    tail: &[u8],
-    marks: &SpefMarks,
-) -> Result<NodeName, OutOfMemory>
-    ensures { IfOk result (λ node. node ≡ cut_node marks.now (characters name.now) (characters tail.now)) }
-{
-    let head = read_spef_node(alloc, name, false, marks)?;
-    let tail = read_spef_node(alloc, tail, false, marks)?;
-    let mut sdf = head.sdf;
-    sdf.push_all(b"/")?;
-    sdf.push_all(tail.sdf.bytes())?;
-    Ok(NodeName {
-        head: head.head,
-        tail: Some(tail.head),
-        sdf,
-    })
-}
-
 // A name and what follows it as one head.
 fn joined_node(
     alloc: Global,
@@ -116,7 +95,7 @@ fn mapped_node(
         None => read_spef_node(alloc, name, false, marks),
         Some(place) => {
             if cut {
-                node_with_tail(alloc, name, &word[place + 1..], marks)
+                cut_node(alloc, name, &word[place + 1..], marks)
             } else {
                 joined_node(alloc, name, &word[place..], marks)
             }
