@@ -26,3 +26,4 @@ pub mod Causing
 pub mod Within
 pub mod SoFar
 pub mod OneFault
+pub mod Gatherings

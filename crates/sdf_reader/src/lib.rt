@@ -17,6 +17,7 @@ mod tests;
 mod texts;
 mod times;
 mod timescales;
+mod waiting;
 mod words;
 
 pub use ends::{SdfCause, SdfEnd};

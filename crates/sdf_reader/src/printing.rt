@@ -2,9 +2,11 @@
 ghost use Rattle.edge_io.specs.Writing.{Writes};
 ghost use Rattle.std.specs.Prelude.{◌≡◌, ◌∷◌, ◌++◌, codes};
 ghost use Rattle.sdf_reader.specs.Lines.{member_text, is_single, members_text, value_text, instance_text, both_text, same_member, same_value, wire_values_text, names_text, wire_line, path_line, row_line, rows_text};
+ghost use Rattle.sdf_reader.specs.Gathering.{Keeps, Puts};
 
 use crate::rows::{SdfRow, SdfRows, Value};
 use crate::times::print_time;
+use crate::waiting::Waiting;
 use delay_units::Femto;
 use edge_io::{Failed, Sink, write_2, write_4, write_all};
 
@@ -175,6 +177,32 @@ fn print_row<O: Sink>(row: &SdfRow, sink: &mut O) -> Result<(), Failed>
     }
 }
 
+/// Puts the line of a row behind those that wait, where there is room for it.
+fn keep_row(row: &SdfRow, waiting: &mut Waiting) -> bool
+    ensures keeps { Keeps (row_line row.now) waiting.old.bytes waiting.new.bytes result }
+{
+    let before = waiting.len();
+    match print_row(row, waiting) {
+        Ok(()) => true,
+        Err(Failed) => {
+            waiting.cut_to(before);
+            false
+        }
+    }
+}
+
+/// Puts the line of a row behind those that wait. Where there is no room, these are written, and then the line.
+fn put_row<O: Sink>(row: &SdfRow, waiting: &mut Waiting, sink: &mut O) -> Result<(), Failed>
+    ensures puts { Puts (waiting.old.bytes ++ row_line row.now) waiting.new.bytes (O.written sink.old) (O.written sink.new) (O.faults sink.old) (O.faults sink.new) result }
+{
+    if keep_row(row, waiting) {
+        return Ok(());
+    }
+    waiting.flush(sink)?;
+    print_row(row, sink)?;
+    Ok(())
+}
+
 /// Writes a line for each row: `wire FROM TO V`, or `wire FROM TO V V` where the rise and the fall differ, or
 /// `path INSTANCE IN OUT V V`, with `-` for an empty instance. A value is `-` where it has no number, one time in picoseconds
 /// with three decimals where all its members are equal, or else its three members with colons between them and `-` for one
@@ -182,8 +210,10 @@ fn print_row<O: Sink>(row: &SdfRow, sink: &mut O) -> Result<(), Failed>
 pub fn print_rows<O: Sink>(rows: &SdfRows, sink: &mut O) -> Result<(), Failed>
     ensures writes { Writes (rows_text rows.now) (O.written sink.old) (O.written sink.new) (O.faults sink.old) (O.faults sink.new) result }
 {
+    let mut waiting = Waiting::new();
     for row in &rows.rows {
-        print_row(row, sink)?;
+        put_row(row, &mut waiting, sink)?;
     }
+    waiting.flush(sink)?;
     Ok(())
 }

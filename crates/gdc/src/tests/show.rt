@@ -62,7 +62,8 @@ fn help_and_the_version_are_written(rt: HostRuntime) -> Result<(), Fail> {
 fn a_cut_listing_is_a_write_fault(rt: HostRuntime) -> Result<(), Fail> {
     let alloc = rt.alloc();
     let mut plan = shown(WIRES);
-    plan.failing_write = 3;
-    expects(&rt, alloc, &plan, 4, b"wire d", b"gdc: write fault\n")?;
+    plan.failing_write = 2;
+    let rows = b"wire d s1 3.500\nwire d s2 2.300\n";
+    expects(&rt, alloc, &plan, 4, rows, b"gdc: write fault\n")?;
     Ok(())
 }
