@@ -58,11 +58,16 @@ lookup (keyword ∷ later) text = if bytes_eq keyword.0 text then Some keyword.1
 unfoldable pub word_of : List ℕ → Option Word
 word_of text = lookup keywords text
 
--- each of them begins with a star and a capital
+-- the capital of a keyword of one letter: `I`, `P`, `N`, `L` or `V`
+abbrev pub is_lone_letter : ℕ → Bool
+is_lone_letter byte = byte == 73 || byte == 80 || byte == 78 || byte == 76 || byte == 86
+
+-- each of them begins with a star and a capital, which is one of these five where nothing follows it
 abbrev pub begins_as_keyword : List ℕ → Bool
 begins_as_keyword [] = false
 begins_as_keyword (first ∷ []) = false
-begins_as_keyword (first ∷ second ∷ rest) = first == 42 && is_ascii_uppercase second
+begins_as_keyword (first ∷ second ∷ []) = first == 42 && is_lone_letter second
+begins_as_keyword (first ∷ second ∷ third ∷ rest) = first == 42 && is_ascii_uppercase second
 
 -- a keyword of the file's head, or `*D_NET`, or one that is refused there
 abbrev pub is_top : Word → Bool

@@ -1,6 +1,6 @@
 //! The keywords of SPEF.
 ghost use Rattle.std.specs.Prelude.{◌≡◌, map};
-ghost use Rattle.spef_text.specs.Classes.{word_of, lookup, is_top, is_tight, begins_as_keyword};
+ghost use Rattle.spef_text.specs.Classes.{word_of, lookup, is_top, is_tight, is_lone_letter, begins_as_keyword};
 
 /// What a keyword stands for in the grammar.
 #[derive(Clone, Copy, PartialEq, Eq, Debug)]
@@ -100,7 +100,8 @@ fn look_up(table: &[(&[u8], Word)], text: &[u8]) -> Option<Word>
     None
 }
 
-/// Whether a text begins as each keyword does, with a star and a capital.
+/// Whether a text begins as each keyword does, with a star and a capital; where nothing follows it, with one of the few that
+/// are keywords alone. Extractors write `*C` and `*D` at each connection, which then take no look at the table.
 #[inline]
 fn begins_as_keyword(text: &[u8]) -> bool
     ensures { result ≡ begins_as_keyword text.now }
@@ -108,8 +109,16 @@ fn begins_as_keyword(text: &[u8]) -> bool
     match text {
         [] => false,
         [_] => false,
-        [first, second, ..] => *first == b'*' && second.is_ascii_uppercase(),
+        [first, second] => *first == b'*' && is_lone_letter(*second),
+        [first, second, _, ..] => *first == b'*' && second.is_ascii_uppercase(),
     }
+}
+
+#[inline]
+fn is_lone_letter(byte: u8) -> bool
+    ensures { result ≡ is_lone_letter byte }
+{
+    byte == b'I' || byte == b'P' || byte == b'N' || byte == b'L' || byte == b'V'
 }
 
 /// The keyword that a token is, if any. Keywords are in capitals.
