@@ -12,3 +12,7 @@ step state byte = (bit_xor state byte * 1099511628211) % 2 ^ 64
 
 abbrev pub write : NameHasher → List ℕ → NameHasher
 write hasher bytes = record { state = fold step hasher.state bytes }
+
+-- the last bytes reach all higher bits by a product with the odd number next to 2^64 divided by the golden ratio
+abbrev pub mixed : ℕ → ℕ
+mixed state = (state * 11400714819323198485) % 2 ^ 64

@@ -18,6 +18,9 @@ use spef_text::Conn;
 use std::alloc::Global;
 use std::marker::PhantomData;
 
+/// With fewer capacitances a net is small.
+const FEW_CAPS: usize = 32;
+
 /// The elements that have been read of the section of a net.
 #[derive(Drop)]
 pub struct Draft<'t> {
@@ -64,6 +67,17 @@ fn push_ohms<C: CornerSet>(
     Ok(())
 }
 
+// For how many spellings there is room at first. A net that is a tree has one node more than resistors; a small one gets room for
+// the far nodes of its couplings besides, so that nothing has to move.
+fn room_for(caps: usize, ress: usize) -> usize {
+    let nodes = ress.saturating_add(1);
+    if caps < FEW_CAPS {
+        nodes.saturating_add(caps)
+    } else {
+        nodes
+    }
+}
+
 impl<'t> Draft<'t> {
     /// No element, with room for so many connections, capacitances and resistors.
     pub fn with_room<C: CornerSet>(
@@ -77,8 +91,7 @@ impl<'t> Draft<'t> {
     {
         Ok(Draft {
             net,
-            // a net that is a tree has one node more than resistors
-            refs: Referred::with_room(alloc, ress.saturating_add(1))?,
+            refs: Referred::with_room(alloc, room_for(caps, ress))?,
             conns: Vec::with_capacity(alloc, conns)?,
             loads: Vec::with_capacity(alloc, conns.saturating_mul(C::COUNT))?,
             caps: Vec::with_capacity(alloc, caps)?,
