@@ -58,16 +58,22 @@ lookup (keyword ∷ later) text = if bytes_eq keyword.0 text then Some keyword.1
 unfoldable pub word_of : List ℕ → Option Word
 word_of text = lookup keywords text
 
--- the capital of a keyword of one letter: `I`, `P`, `N`, `L` or `V`
-abbrev pub is_lone_letter : ℕ → Bool
-is_lone_letter byte = byte == 73 || byte == 80 || byte == 78 || byte == 76 || byte == 86
+-- the keyword of a star and one letter, if there is one
+abbrev pub lone_word : ℕ → Option Word
+lone_word byte =
+    if byte == 73 then Some Internal
+    else (if byte == 80 then Some Port
+    else (if byte == 78 then Some Node
+    else (if byte == 76 then Some Load
+    else (if byte == 86 then Some Confidence
+    else None))))
 
--- each of them begins with a star and a capital, which is one of these five where nothing follows it
-abbrev pub begins_as_keyword : List ℕ → Bool
-begins_as_keyword [] = false
-begins_as_keyword (first ∷ []) = false
-begins_as_keyword (first ∷ second ∷ []) = first == 42 && is_lone_letter second
-begins_as_keyword (first ∷ second ∷ third ∷ rest) = first == 42 && is_ascii_uppercase second
+-- the same, found in fewer steps: each keyword is a star and one letter, or begins with a star and a capital
+abbrev pub sifted_word : List ℕ → Option Word
+sifted_word [] = None
+sifted_word (first ∷ []) = None
+sifted_word (first ∷ letter ∷ []) = if first == 42 then lone_word letter else None
+sifted_word (first ∷ second ∷ third ∷ rest) = if first == 42 && is_ascii_uppercase second then lookup keywords (first ∷ second ∷ third ∷ rest) else None
 
 -- a keyword of the file's head, or `*D_NET`, or one that is refused there
 abbrev pub is_top : Word → Bool

@@ -8,7 +8,7 @@ ghost use Rattle.spef_text.specs.Classes.{is_other, is_loose, marks, is_mark, is
 
 use crate::broken::is_broken;
 use crate::places::{begins_as_literal, is_literal};
-use crate::words::word_of;
+use crate::words::{Word, word_of};
 
 /// A token that is no keyword of the head, as what stands behind `*DATE`.
 #[tactic(auto, unfolding(crate::specs::Classes::is_other))]
@@ -28,17 +28,25 @@ fn is_top_text(text: &[u8]) -> bool
 }
 
 /// A token that may stand in a connection behind what is read of it.
-#[tactic(auto, unfolding(crate::specs::Classes::is_loose))]
 pub fn is_loose(text: &[u8]) -> bool
     ensures { result ≡ is_loose text.now }
 {
-    !is_broken(text) && !is_tight_text(text)
+    is_loose_as(text, word_of(text))
 }
 
-fn is_tight_text(text: &[u8]) -> bool
-    ensures { result ≡ holds_of is_tight (word_of text.now) }
+/// The same of a token that is this keyword, or none.
+#[tactic(auto, unfolding(crate::specs::Classes::is_loose))]
+pub fn is_loose_as(text: &[u8], word: Option<Word>) -> bool
+    requires { word ≡ word_of text.now }
+    ensures { result ≡ is_loose text.now }
 {
-    match word_of(text) {
+    !is_broken(text) && !is_tight_word(word)
+}
+
+fn is_tight_word(word: Option<Word>) -> bool
+    ensures { result ≡ holds_of is_tight word }
+{
+    match word {
         None => false,
         Some(word) => word.is_tight(),
     }

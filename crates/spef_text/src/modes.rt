@@ -1,10 +1,11 @@
 //! What the reader waits for, and what each token does.
 ghost use Rattle.std.specs.Prelude.{◌≡◌, ℕ, if◌then◌else◌, slice_index};
+ghost use Rattle.spef_text.specs.Classes.{is_loose, word_of};
 ghost use Rattle.spef_text.specs.Modes.{start_step, top_step, sections_step, total_step, confident_step, conns_step, left_step, tail_step, caps_step, ress_step, next_mode, may_end};
 
 use crate::classes::{
-    is_direction, is_id, is_index, is_loose, is_map_name, is_mark, is_other, is_ref, is_two_marks,
-    is_value,
+    is_direction, is_id, is_index, is_loose, is_loose_as, is_map_name, is_mark, is_other, is_ref,
+    is_two_marks, is_value,
 };
 use crate::entries::{CapAt, ConnAt, HeadItem, MapEntry, ResAt};
 use crate::places::is_literal;
@@ -228,6 +229,14 @@ fn tail_step(conn: ConnAt, word: Option<Word>, loose: bool) -> Step
         Some(Word::Load) => Step::Go(Mode::ConnLoad(conn)),
         _ => left_step(conn, word),
     }
+}
+
+/// The same, of a token whose keyword is looked for once.
+fn conn_tail_step(conn: ConnAt, text: &[u8]) -> Step
+    ensures { result ≡ tail_step conn (is_loose text.now) (word_of text.now) }
+{
+    let word = word_of(text);
+    tail_step(conn, word, is_loose_as(text, word))
 }
 
 /// What a keyword does where a capacitance may begin.
@@ -492,7 +501,7 @@ impl Mode {
             Mode::Conns => conns_step(word_of(text)),
             Mode::ConnNode(port) => go_if(is_ref(mark, text), Mode::ConnDirection(port, number)),
             Mode::ConnDirection(port, node) => direction_step(port, node, text),
-            Mode::ConnTail(conn) => tail_step(conn, word_of(text), is_loose(text)),
+            Mode::ConnTail(conn) => conn_tail_step(conn, text),
             Mode::ConnLoad(conn) => load_step(conn, number, text),
             Mode::NodeLine => node_line_step(text),
             Mode::Caps => cap_id_step(text),

@@ -1,6 +1,6 @@
 //! The keywords of SPEF.
-ghost use Rattle.std.specs.Prelude.{◌≡◌, map};
-ghost use Rattle.spef_text.specs.Classes.{word_of, lookup, is_top, is_tight, is_lone_letter, begins_as_keyword};
+ghost use Rattle.std.specs.Prelude.{◌≡◌, map, None, if◌then◌else◌};
+ghost use Rattle.spef_text.specs.Classes.{word_of, keywords, lookup, is_top, is_tight, lone_word, sifted_word};
 
 /// What a keyword stands for in the grammar.
 #[derive(Clone, Copy, PartialEq, Eq, Debug)]
@@ -100,36 +100,60 @@ fn look_up(table: &[(&[u8], Word)], text: &[u8]) -> Option<Word>
     None
 }
 
-/// Whether a text begins as each keyword does, with a star and a capital; where nothing follows it, with one of the few that
-/// are keywords alone. Extractors write `*C` and `*D` at each connection, which then take no look at the table.
+/// The keyword of a star and this letter, if there is one.
 #[inline]
-fn begins_as_keyword(text: &[u8]) -> bool
-    ensures { result ≡ begins_as_keyword text.now }
+fn lone_word(letter: u8) -> Option<Word>
+    ensures { result ≡ lone_word letter }
 {
-    match text {
-        [] => false,
-        [_] => false,
-        [first, second] => *first == b'*' && is_lone_letter(*second),
-        [first, second, _, ..] => *first == b'*' && second.is_ascii_uppercase(),
+    match letter {
+        b'I' => Some(Word::Internal),
+        b'P' => Some(Word::Port),
+        b'N' => Some(Word::Node),
+        b'L' => Some(Word::Load),
+        b'V' => Some(Word::Confidence),
+        _ => None,
     }
 }
 
 #[inline]
-fn is_lone_letter(byte: u8) -> bool
-    ensures { result ≡ is_lone_letter byte }
+fn listed_word(begins: bool, text: &[u8]) -> Option<Word>
+    ensures { result ≡ (if begins then lookup keywords text.now else None) }
 {
-    byte == b'I' || byte == b'P' || byte == b'N' || byte == b'L' || byte == b'V'
+    if begins {
+        look_up(&KEYWORDS, text)
+    } else {
+        None
+    }
+}
+
+/// What a token can be told to be by its first bytes: a keyword of one letter, or one of those in the table. The `*C` and `*D`
+/// that extractors write at each connection take no look there.
+#[inline]
+fn sifted_word(text: &[u8]) -> Option<Word>
+    ensures { result ≡ sifted_word text.now }
+{
+    match text {
+        [] => None,
+        [_] => None,
+        [first, letter] => {
+            if *first == b'*' {
+                lone_word(*letter)
+            } else {
+                None
+            }
+        }
+        [first, second, _, ..] => {
+            let begins = *first == b'*' && second.is_ascii_uppercase();
+            listed_word(begins, text)
+        }
+    }
 }
 
 /// The keyword that a token is, if any. Keywords are in capitals.
 pub fn word_of(text: &[u8]) -> Option<Word>
     ensures { result ≡ word_of text.now }
 {
-    if begins_as_keyword(text) {
-        look_up(&KEYWORDS, text)
-    } else {
-        None
-    }
+    sifted_word(text)
 }
 
 impl Word {
