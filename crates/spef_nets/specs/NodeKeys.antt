@@ -22,3 +22,8 @@ IsCut key = IsCutWithin key.text.items key.cut
 abbrev pub AreCut : List NodeKey → Type 0
 AreCut [] = ⊤
 AreCut (key ∷ keys) = IsCut key × AreCut keys
+
+-- where the tail begins, as it is hashed
+abbrev pub cut_mark : Option ℕ → ℕ
+cut_mark None = 0
+cut_mark (Some cut) = cut

@@ -7,10 +7,12 @@ use std::hash::{BuildHasherDefault, Hasher};
 /// Makes the hasher of a table of spellings.
 pub type NameHash = BuildHasherDefault<NameHasher>;
 
-/// The hash of Fowler, Noll and Vo over 64 bits (FNV-1a): each byte is joined by exclusive or, and then the
-/// state is multiplied by their prime. Spellings are short, for which this takes half of the time of the
-/// standard hasher. One more product carries the last bytes to all higher bits: their prime leaves most of these as
-/// they were, and the spellings of one net differ in their last bytes alone.
+/// The hash of Fowler, Noll and Vo over 64 bits (FNV-1): the state is multiplied by their prime, and then a byte is joined by
+/// exclusive or. Spellings are short, for which this takes half of the time of the standard hasher.
+///
+/// The byte that is joined last stands in the last eight bits alone. From them comes the tag by which a table tells its entries
+/// apart, and from the others, but for two bits, the place. So names that differ in their last byte, as those of a net's nodes do
+/// in the order of the file, have different tags and stand side by side, where a large table need not wait for memory.
 #[derive(Clone, Copy)]
 pub struct NameHasher {
     state: u64,
@@ -33,15 +35,16 @@ impl Hasher for NameHasher {
 
     #[inline(always)]
     fn finish(&self) -> u64 {
-        self.state.wrapping_mul(0x9e37_79b9_7f4a_7c15)
+        let place = (self.state >> 8).wrapping_mul(0x9e37_79b9_7f4a_7c15) >> 40;
+        (place ^ (self.state & 3)) | ((self.state & 0xff) << 24)
     }
 
     #[inline(always)]
     fn write(&mut self, bytes: &[u8]) {
         let mut state = self.state;
         for byte in bytes {
-            state ^= u64::from(*byte);
             state = state.wrapping_mul(0x100_0000_01b3);
+            state ^= u64::from(*byte);
         }
         self.state = state;
     }

@@ -1,22 +1,48 @@
 //! The nodes that a section names, each at its place.
 ghost use Rattle.std.specs.Prelude.{◌≡◌, [], map, Some, IfOk, OnOk};
 ghost use Rattle.spef_nets.specs.Nodes.{key_of};
-ghost use Rattle.spef_nets.specs.NodeKeys.{key_in, IsCut, AreCut};
+ghost use Rattle.spef_nets.specs.NodeKeys.{key_in, cut_mark, IsCut, AreCut};
 ghost use Rattle.spef_nets.specs.Refs.{IsInterned};
 
+use crate::name_hash::NameHash;
 use crate::pushing::kept;
 use edge_io::OutOfMemory;
 use indexmap::IndexSet;
 use name_table::NodeName;
 use std::alloc::Global;
+use std::hash::{Hash, Hasher};
 use std::marker::Model;
 
 /// What makes a node the one that it is: its head and its tail, however they are written, one behind the other.
-#[derive(PartialEq, Eq, Hash, Debug, Drop)]
+#[derive(PartialEq, Eq, Debug, Drop)]
 pub struct NodeKey {
     pub text: Vec<u8>,
     // where the tail begins, if there is one
     pub cut: Option<u32>,
+}
+
+// The text comes last, so that nodes whose tails differ in their last byte stand side by side in the table.
+impl Hash for NodeKey {
+    ghost use Rattle.std.specs.Prelude.{[], ◌∷◌, ◌++◌};
+    ghost use Rattle.std.specs.Hash as fed;
+    ghost use Rattle.std.specs.Cmp.Rules.{hashing};
+    ghost use Rattle.std.proofs.Common.{rules};
+    ghost use Rattle.spef_nets.specs.NodeKeys.{cut_mark};
+
+    ghost hash_input = { λ key. fed.u32 (cut_mark key.cut) ++ key.text.items ∷ [] };
+
+    ghost respects_eq = { Prim.search (hashing, rules) };
+
+    fn hash<H: Hasher>(&self, state: &mut H) {
+        state.write_u32(cut_mark(self.cut));
+        state.write(self.text.as_slice());
+    }
+}
+
+fn cut_mark(cut: Option<u32>) -> u32
+    ensures { result ≡ cut_mark cut }
+{
+    cut.unwrap_or(0)
 }
 
 impl NodeKey {
@@ -53,7 +79,7 @@ fn halves_key(alloc: Global, head: &[u8], tail: &[u8]) -> Result<NodeKey, OutOfM
 /// Nodes, each once, in the order in which they came.
 #[derive(Drop)]
 pub struct NodeTable {
-    keys: IndexSet<NodeKey>,
+    keys: IndexSet<NodeKey, NameHash>,
     alloc: Global,
 }
 
@@ -74,7 +100,7 @@ impl NodeTable {
     pub fn with_room(alloc: Global, many: usize) -> Result<NodeTable, OutOfMemory>
         ensures { IfOk result (λ table. table ≡ []) }
     {
-        let keys = IndexSet::with_capacity(alloc, many)?;
+        let keys = IndexSet::with_capacity_and_hasher(alloc, many, NameHash::default())?;
         Ok(NodeTable { keys, alloc })
     }
 
@@ -87,7 +113,7 @@ impl NodeTable {
     }
 }
 
-fn intern(keys: &mut IndexSet<NodeKey>, key: NodeKey) -> Result<usize, OutOfMemory>
+fn intern(keys: &mut IndexSet<NodeKey, NameHash>, key: NodeKey) -> Result<usize, OutOfMemory>
     requires key { IsCut key }
     requires keys { AreCut keys.old.keys }
     ensures cut { AreCut keys.new.keys }
