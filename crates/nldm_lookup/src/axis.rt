@@ -89,6 +89,14 @@ impl Axis {
         }
     }
 
+    /// An axis of the same points.
+    pub(crate) fn copied(&self, alloc: Global) -> Result<Axis, OutOfMemory>
+        ensures { IfOk result (λ axis. axis ≡ self.now) }
+    {
+        let points = Vec::from_slice(alloc, self.points.as_slice())?;
+        Ok(Axis { points })
+    }
+
     /// How many points there are.
     pub(crate) fn len(&self) -> usize
         ensures len { result ≡ length self.now }

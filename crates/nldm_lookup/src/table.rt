@@ -13,7 +13,7 @@ use crate::between::Between;
 use crate::faults::{Outside, TableFault, Which};
 use crate::grain::Grain;
 use delay_units::{Atto, Farads, half_up};
-use edge_io::Steps;
+use edge_io::{OutOfMemory, Steps};
 use std::alloc::Global;
 use std::marker::Model;
 use std::sync::ledger::Ledger;
@@ -108,6 +108,19 @@ impl Table {
             }),
             Err(_) => Err(TableFault::OutOfMemory),
         }
+    }
+
+    /// A table of the same axes and values.
+    pub fn copied(&self, alloc: Global) -> Result<Table, OutOfMemory>
+        ensures { IfOk result (λ table. table ≡ self.now) }
+    {
+        let values = Vec::from_slice(alloc, self.values.as_slice())?;
+        Ok(Table {
+            slew: self.slew.copied(alloc)?,
+            load: self.load.copied(alloc)?,
+            order: self.order,
+            values,
+        })
     }
 
     // The place of the value at a point of the slew and one of the load.

@@ -1,0 +1,27 @@
+pub mod AddingLemmas
+pub mod AttributeLemmas
+pub mod AxisLemmas
+mod CornerLemmas
+pub mod DirectionLemmas
+pub mod EdgeLemmas
+pub mod Fronts
+pub mod HandingOn
+pub mod KeptLemmas
+pub mod ModelLemmas
+pub mod NameLemmas
+pub mod OneAnswer
+pub mod OneDecimal
+mod OneFault
+pub mod OneTable
+pub mod OneUnits
+pub mod PieceLemmas
+pub mod PinLemmas
+pub mod PlaceLemmas
+pub mod ReadingLemmas
+pub mod Refusals
+mod ShapeLemmas
+pub mod SizeLemmas
+pub mod TableLemmas
+pub mod TemplateLemmas
+pub mod TextLemmas
+pub mod UnitLemmas

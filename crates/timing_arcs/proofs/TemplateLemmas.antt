@@ -1,0 +1,120 @@
+-- The templates among some groups, and one group more.
+use Rattle.std.proofs.Common.{◌≡◌, ℕ, zero, suc, ◌+◌, ◌<◌, ◌⊎◌, inl, inr, Bool, true, false, cond, List, [], ◌∷◌, ◌++◌, length, take, Some, None, Contains, slice_index_or, length-append, refl, sym, ap, subst, ◌∙◌, arith}
+use Rattle.std.specs.Prelude.{slice_get}
+use Rattle.std.specs.List.{find}
+use Rattle.std.specs.Str.{bytes_eq}
+use Rattle.std.proofs.lemmas.List.Elements.{Contains-append_left, Contains-push}
+use Rattle.std.proofs.lemmas.Slice.Eq.{bytes_eq-Decides}
+use Rattle.liberty_groups.specs.Groups.{Group}
+use Rattle.liberty_groups.specs.Tables.{Tables, group_at, IsGroup}
+use Rattle.liberty_groups.specs.declared.rows.GroupId.{GroupId}
+use Rattle.timing_arcs.specs.Templates.{name_of_template, is_text, is_template, template_in}
+use Rattle.timing_arcs.specs.TemplateIndex.{IsTemplateOf, AreTemplates, Adds, is_held, is_added}
+
+stays : {X : Type 0} (p : X → Bool) (xs ys : List X) (x : X) → find p xs ≡ Some x → find p (xs ++ ys) ≡ Some x
+stays p [] ys x e = absurd (cc)
+stays p (y ∷ xs) ys x e = by (p y) (stays p xs ys x) e
+  where
+    by : (here : Bool) → (find p xs ≡ Some x → find p (xs ++ ys) ≡ Some x) → cond here (Some y) (find p xs) ≡ Some x → cond here (Some y) (find p (xs ++ ys)) ≡ Some x
+    by true rest e = e
+    by false rest e = rest e
+
+pushed : {X : Type 0} (p : X → Bool) (xs : List X) (y : X) → find p xs ≡ None → find p (xs ++ y ∷ []) ≡ cond (p y) (Some y) None
+pushed p [] y e = refl
+pushed p (x ∷ xs) y e = by (p x) (pushed p xs y) e
+  where
+    by : (here : Bool) → (find p xs ≡ None → find p (xs ++ y ∷ []) ≡ cond (p y) (Some y) None) → cond here (Some x) (find p xs) ≡ None → cond here (Some x) (find p (xs ++ y ∷ [])) ≡ cond (p y) (Some y) None
+    by true rest e = absurd (cc)
+    by false rest e = rest e
+
+got_push : {X : Type 0} (xs : List X) (x y : X) (k : ℕ) → slice_get (xs ++ x ∷ []) k ≡ Some y → (slice_get xs k ≡ Some y) ⊎ ((k ≡ length xs) × (x ≡ y))
+got_push [] x y zero e = inr (refl, cc)
+got_push [] x y (suc k) e = absurd (cc)
+got_push (z ∷ xs) x y zero e = inl e
+got_push (z ∷ xs) x y (suc k) e = elim (got_push xs x y k e) [ inl got ↦ inl got | inr end ↦ inr (let l = end.0 in omega (arith, l), end.1) ]
+
+got_within : {X : Type 0} (xs : List X) (x : X) (k : ℕ) → slice_get xs k ≡ Some x → k < length xs
+got_within [] x k e = absurd (cc)
+got_within (y ∷ xs) x zero e = omega arith
+got_within (y ∷ xs) x (suc k) e = let h = got_within xs x k e in omega (arith, h)
+
+contains_got : {X : Type 0} (xs : List X) (x : X) (k : ℕ) → slice_get xs k ≡ Some x → Contains xs x
+contains_got xs x k e = (k, got_within xs x k e, index_is xs x k e)
+  where
+    index_is : {X : Type 0} (xs : List X) (x : X) (k : ℕ) → slice_get xs k ≡ Some x → slice_index_or xs k x ≡ x
+    index_is [] x k e = refl
+    index_is (y ∷ xs) x zero e = cc
+    index_is (y ∷ xs) x (suc k) e = index_is xs x k e
+
+more_template : (tree : Tables) (groups : List Group) (last : Group) (name : List ℕ) (id : GroupId) → IsTemplateOf tree groups name id → IsTemplateOf tree (groups ++ last ∷ []) name id
+more_template tree groups last name id is = record { within = is.within; first = stays (is_template name) groups (last ∷ []) (group_at tree id.0) is.first }
+
+other_name : (name other : List ℕ) (last : Group) → name_of_template last ≡ Some other → (other ≡ name → ⊥) → is_template name last ≡ false
+other_name name other last named differs = ap (is_text name) named ∙ otherwise (bytes_eq other name) (λ same. differs ((bytes_eq-Decides other name).0 same))
+  where
+    otherwise : (b : Bool) → (b ≡ true → ⊥) → b ≡ false
+    otherwise true differs = absurd (differs refl)
+    otherwise false differs = refl
+
+none_more : (groups : List Group) (last : Group) (name : List ℕ) → template_in groups name ≡ None → is_template name last ≡ false → template_in (groups ++ last ∷ []) name ≡ None
+none_more groups last name none other = pushed (is_template name) groups last none ∙ ap (λ b. cond b (Some last) None) other
+
+-- no group yet
+pub no_templates : (tree : Tables) (names : List (List ℕ)) (ids : List GroupId) → names ≡ [] → ids ≡ [] → AreTemplates tree [] names ids
+no_templates tree names ids no_name no_id = record {
+  even = ap length no_id ∙ sym (ap length no_name);
+  held = λ place name id at here. absurd (cc);
+  absent = λ name none. refl;
+}
+
+-- a group that is no template with a name
+pub passed_over : (tree : Tables) (groups : List Group) (names : List (List ℕ)) (ids : List GroupId) (last : Group) → AreTemplates tree groups names ids → name_of_template last ≡ None → AreTemplates tree (groups ++ last ∷ []) names ids
+passed_over tree groups names ids last so_far none = record {
+  even = so_far.even;
+  held = λ place name id at here. more_template tree groups last name id (so_far.held place name id at here);
+  absent = λ name out. none_more groups last name (so_far.absent name out) (ap (is_text name) none);
+}
+
+-- a template that is added
+pub added : (tree : Tables) (groups : List Group) (names : List (List ℕ)) (ids : List GroupId) (name : List ℕ) (id : GroupId) (names' : List (List ℕ)) (ids' : List GroupId)
+    → IsGroup tree id.0 → name_of_template (group_at tree id.0) ≡ Some name → AreTemplates tree groups names ids → Adds name id names ids names' ids' → AreTemplates tree (groups ++ group_at tree id.0 ∷ []) names' ids'
+added tree groups names ids name id names' ids' within named so_far (is_held held same_names same_ids) =
+    subst (λ ns. AreTemplates tree (groups ++ group_at tree id.0 ∷ []) ns ids') (sym same_names) (subst (AreTemplates tree (groups ++ group_at tree id.0 ∷ []) names) (sym same_ids) record {
+      even = so_far.even;
+      held = λ place other of at here. more_template tree groups (group_at tree id.0) other of (so_far.held place other of at here);
+      absent = λ other out. none_more groups (group_at tree id.0) other (so_far.absent other out) (other_name other name (group_at tree id.0) named (λ same. out (subst (Contains names) same held)));
+    })
+added tree groups names ids name id names' ids' within named so_far (is_added out more_names more_ids) =
+    subst (λ ns. AreTemplates tree (groups ++ group_at tree id.0 ∷ []) ns ids') (sym more_names) (subst (AreTemplates tree (groups ++ group_at tree id.0 ∷ []) (names ++ name ∷ [])) (sym more_ids) record {
+      even = length-append ids (id ∷ []) ∙ ap (λ (n : ℕ). n + 1) so_far.even ∙ sym (length-append names (name ∷ []));
+      held = λ place other of at here. elim (got_push names name other place at) [
+        | inl old ↦ elim (got_push ids id of place here) [
+          | inl before ↦ more_template tree groups (group_at tree id.0) other of (so_far.held place other of old before)
+          | inr end ↦ (let below = got_within names other place old in let even = so_far.even in let l = end.0 in absurd (omega (arith, below, even, l)))
+        ]
+        | inr end ↦ elim (got_push ids id of place here) [
+          | inl before ↦ (let below = got_within ids of place before in let even = so_far.even in let l = end.0 in absurd (omega (arith, below, even, l)))
+          | inr last ↦ subst (λ n. IsTemplateOf tree (groups ++ group_at tree id.0 ∷ []) n of) end.1 (subst (IsTemplateOf tree (groups ++ group_at tree id.0 ∷ []) name) last.1 (newest))
+        ]
+      ];
+      absent = λ other none. none_more groups (group_at tree id.0) other (so_far.absent other (λ among. none (Contains-append_left names (name ∷ []) other among)))
+          (other_name other name (group_at tree id.0) named (λ same. none (subst (Contains (names ++ name ∷ [])) same (Contains-push names name))));
+    })
+  where
+    newest : IsTemplateOf tree (groups ++ group_at tree id.0 ∷ []) name id
+    newest = record { within = within; first = pushed (is_template name) groups (group_at tree id.0) (so_far.absent name out) ∙ ap (λ b. cond b (Some (group_at tree id.0)) None) (ap (is_text name) named ∙ (bytes_eq-Decides name name).1 refl) }
+
+-- what stands under a name is the first template of it
+pub under : (tree : Tables) (groups : List Group) (names : List (List ℕ)) (ids : List GroupId) (name : List ℕ) (id : GroupId) (place : ℕ) → AreTemplates tree groups names ids → slice_get names place ≡ Some name → slice_get ids place ≡ Some id → IsTemplateOf tree groups name id
+under tree groups names ids name id place are at here = are.held place name id at here
+
+-- the same of one group after another
+pub taken : (tree : Tables) (groups : List Group) (place : ℕ) (last : Group) (names : List (List ℕ)) (ids : List GroupId) → slice_get groups place ≡ Some last → AreTemplates tree (take place groups ++ last ∷ []) names ids → AreTemplates tree (take (place + 1) groups) names ids
+taken tree groups place last names ids at are =
+    let next : suc place ≡ place + 1 = omega arith in
+    subst (λ (n : ℕ). AreTemplates tree (take n groups) names ids) next (subst (λ gs. AreTemplates tree gs names ids) (sym (take_suc groups place last at)) are)
+  where
+    take_suc : {X : Type 0} (xs : List X) (k : ℕ) (x : X) → slice_get xs k ≡ Some x → take (suc k) xs ≡ take k xs ++ x ∷ []
+    take_suc [] k x e = absurd (cc)
+    take_suc (y ∷ xs) zero x e = let same : y ≡ x = cc in ap (λ z. z ∷ []) same
+    take_suc (y ∷ xs) (suc k) x e = ap (λ zs. y ∷ zs) (take_suc xs k x e)

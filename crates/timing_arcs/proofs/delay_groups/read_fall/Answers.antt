@@ -1,0 +1,9 @@
+use Rattle.liberty_groups.specs.Tables.{tree_of}
+use Rattle.timing_arcs.proofs.EdgeLemmas.{sound_found, refused_found}
+use Rattle.timing_arcs.proofs.delay_groups.read_fall.Goals as goal
+
+pub returns-clause-sound : goal.returns-clause-sound
+returns-clause-sound c = sound_found c.read_edge.result (tree_of c.args.tree.now) c.first_group-delay.ensures.first c.first_group-slew.ensures.first c.read_edge.ensures.sound
+
+pub returns-clause-refused : goal.returns-clause-refused
+returns-clause-refused c = refused_found c.read_edge.result (tree_of c.args.tree.now) c.first_group-delay.ensures.first c.first_group-slew.ensures.first c.read_edge.ensures.refused

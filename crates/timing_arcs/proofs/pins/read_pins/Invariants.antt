@@ -1,0 +1,14 @@
+-- The pins so far, of which no question has a fault.
+use Rattle.std.proofs.Common.{take}
+use Rattle.std.specs.List.{flat_map, All, AllZip}
+use Rattle.liberty_groups.specs.Tables.{tree_of}
+use Rattle.timing_arcs.specs.PinModel.{IsPin}
+use Rattle.timing_arcs.specs.PinTable.{entries_in}
+use Rattle.timing_arcs.specs.CellFaults.{pin_questions, IsSound}
+use Rattle.timing_arcs.proofs.pins.read_pins.Given as goal
+
+abbrev pub invariant-loop-place : goal.invariant-loop-place
+invariant-loop-place l = record {
+  pins : AllZip (IsPin (tree_of l.tree)) (take l.place (entries_in l.tree l.table.names l.table.groups.items)) l.pins.items;
+  sound : All (IsSound (tree_of l.tree)) (flat_map pin_questions (take l.place (entries_in l.tree l.table.names l.table.groups.items)));
+}

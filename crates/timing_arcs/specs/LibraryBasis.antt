@@ -1,0 +1,51 @@
+-- What the tables of all cells of a library stand on.
+use Rattle.std.specs.Prelude.{◌≡◌, ℕ, List, [], ◌++◌, map, Option, All, if◌then◌else◌}
+use Rattle.std.specs.List.{AllZip}
+use Rattle.liberty_groups.specs.Groups.{Group, groups_of}
+use Rattle.liberty_groups.specs.Tables.{Tables, tree_of}
+use Rattle.liberty_groups.specs.declared.rows.GroupId.{GroupId}
+use Rattle.timing_arcs.specs.LibraryUnits.{AreUnits}
+use Rattle.timing_arcs.specs.PinModel.{PinEntry}
+use Rattle.timing_arcs.specs.DelayGroups.{is_delay_group, kind_of, ArcEntry, arcs_in, IsRise, IsFall, IsArc}
+use Rattle.timing_arcs.specs.CellFaults.{Question, delay_questions, IsSound}
+use Rattle.timing_arcs.specs.TemplateIndex.{AreTemplates}
+use Rattle.timing_arcs.specs.declared.library_units.LibraryUnits.{LibraryUnits}
+use Rattle.timing_arcs.specs.declared.cell.ArcKind.{ArcKind}
+use Rattle.timing_arcs.specs.declared.cell.EdgeTables.{EdgeTables}
+use Rattle.timing_arcs.specs.declared.cell.Arc.{Arc}
+use Rattle.timing_arcs.specs.declared.faults.CellFault.{CellFault}
+use Rattle.timing_arcs.specs.declared.faults.CellFault.TheVariants.{OutOfMemory}
+
+-- its units, and its templates by their names
+pub record IsBasis (tree : Tables) (units : LibraryUnits) (names : List (List ℕ)) (ids : List GroupId) : Type 0 where
+  pub known : AreUnits (tree_of tree) units
+  pub indexed : AreTemplates tree (groups_of (tree_of tree)) names ids
+
+-- an arc of one kind and with the same tables from each place
+abbrev pub arc_from : ArcKind → Option EdgeTables → Option EdgeTables → ℕ → ℕ → Arc
+arc_from kind rise fall to from = record { from = from; to = to; kind = kind; rise = rise; fall = fall }
+
+-- such arcs are added
+abbrev pub AddsArcs : ArcKind → Option EdgeTables → Option EdgeTables → List ℕ → ℕ → List Arc → List Arc → Type 0
+AddsArcs kind rise fall places to old new = new ≡ old ++ map (arc_from kind rise fall to) places
+
+abbrev pub IsNoMemory : CellFault → Type 0
+IsNoMemory fault = fault ≡ OutOfMemory
+
+-- what the arcs of a delay group have in common
+pub record IsTiming (library timing : Group) (kind : ArcKind) (rise fall : Option EdgeTables) : Type 0 where
+  pub kind_is : kind ≡ kind_of timing
+  pub rise_is : IsRise library timing rise
+  pub fall_is : IsFall library timing fall
+
+-- arcs are added that are those of some entries, and none of these questions has a fault
+pub record AreAdded (library : Group) (names : List (List ℕ)) (entries : List ArcEntry) (questions : List Question) (old new : List Arc) : Type 0 where
+  pub sound : All (IsSound library) questions
+  pub arcs : (before : List ArcEntry) → AllZip (IsArc library names) before old → AllZip (IsArc library names) (before ++ entries) new
+
+-- those of a group in a pin of a name
+abbrev pub arcs_from : List PinEntry → List ℕ → Group → List ArcEntry
+arcs_from pins name timing = if is_delay_group timing then arcs_in pins (record { to = name; group = timing }) else []
+
+abbrev pub questions_from : List PinEntry → List ℕ → Group → List Question
+questions_from pins name timing = if is_delay_group timing then delay_questions pins (record { to = name; group = timing }) else []

@@ -1,0 +1,408 @@
+//! The delay groups of a cell and their arcs (Liberty, `timing`).
+ghost use Rattle.std.specs.Prelude.{◌≡◌, ℕ, ◌<◌, ◌++◌, ◌∷◌, [], length, List, All, Some, IfOk, OnOk, IfErr, IfSome, IfNone, slice_get, flat_map, filter, map, codes, is_some, unwrap_or};
+ghost use Rattle.std.specs.Option.{option_map};
+ghost use Rattle.std.specs.List.{AllZip};
+ghost use Rattle.liberty_groups.specs.Groups.{Group, groups_of};
+ghost use Rattle.liberty_groups.specs.Tables.{tree_of, group_at, IsGroup};
+ghost use Rattle.timing_arcs.specs.Library.{value_in, first_group};
+ghost use Rattle.timing_arcs.specs.PinModel.{PinEntry, is_output, IsPin};
+ghost use Rattle.timing_arcs.specs.PinTable.{entry_at, entries_in};
+ghost use Rattle.timing_arcs.specs.DelayGroups.{is_delay_type, is_delay_group, delays_in, kind_by, kind_of, ArcEntry, arcs_in, AreEdgeTables, IsRise, IsFall, IsArc};
+ghost use Rattle.timing_arcs.specs.LibraryBasis.{IsBasis, IsTiming, AddsArcs, AreAdded, arcs_from, questions_from, IsNoMemory};
+ghost use Rattle.timing_arcs.specs.CellFaults.{edge_questions, rise_questions, fall_questions, delay_questions, IsSound, IsRefusal};
+
+use crate::cell::{Arc, ArcKind, Direction, EdgeTables, Pin};
+use crate::faults::CellFault;
+use crate::groups::{first_group, is_named, value_in};
+use crate::library_units::LibraryUnits;
+use crate::pins::PinTable;
+use crate::related_pins::related_places;
+use crate::tables::{build_table, build_transition};
+use crate::templates::Templates;
+use edge_io::OutOfMemory;
+use liberty_groups::{GroupId, GroupTree};
+use std::alloc::Global;
+
+/// What the tables of all cells of a library stand on: its units and its templates.
+#[derive(Drop)]
+pub(crate) struct LibraryBasis {
+    pub units: LibraryUnits,
+    pub templates: Templates,
+}
+
+fn is_delay_type(text: &[u8]) -> bool
+    ensures { result ≡ is_delay_type (Some text.now) }
+{
+    text == b"combinational".as_slice()
+        || text == b"combinational_rise".as_slice()
+        || text == b"combinational_fall".as_slice()
+        || text == b"rising_edge".as_slice()
+        || text == b"falling_edge".as_slice()
+        || text == b"preset".as_slice()
+        || text == b"clear".as_slice()
+}
+
+fn has_delay_type(tree: &GroupTree, group: GroupId) -> bool
+    requires { IsGroup tree.now group.0 }
+    ensures { result ≡ is_delay_type (value_in (codes "timing_type") (group_at tree.now group.0)) }
+{
+    match value_in(tree, group, b"timing_type") {
+        Some(text) => is_delay_type(text),
+        None => true,
+    }
+}
+
+fn has_group(tree: &GroupTree, group: GroupId, name: &[u8]) -> bool
+    requires { IsGroup tree.now group.0 }
+    ensures { result ≡ is_some (first_group name.now (group_at tree.now group.0)) }
+{
+    first_group(tree, group, name).is_some()
+}
+
+/// Whether a `timing` group is a delay group: of a type that is a delay, with a delay table.
+#[tactic(auto, unfolding(crate::specs::DelayGroups::is_delay_group))]
+fn is_delay_group(tree: &GroupTree, group: GroupId) -> bool
+    requires { IsGroup tree.now group.0 }
+    ensures { result ≡ is_delay_group (group_at tree.now group.0) }
+{
+    is_named(tree, group, b"timing")
+        && has_delay_type(tree, group)
+        && (has_group(tree, group, b"cell_rise") || has_group(tree, group, b"cell_fall"))
+}
+
+fn kind_by(type_: &[u8], sense: &[u8]) -> ArcKind
+    ensures { result ≡ kind_by type_.now sense.now }
+{
+    if type_ == b"rising_edge".as_slice() {
+        ArcKind::RisingEdge
+    } else if type_ == b"falling_edge".as_slice() {
+        ArcKind::FallingEdge
+    } else if sense == b"positive_unate".as_slice() {
+        ArcKind::Positive
+    } else if sense == b"negative_unate".as_slice() {
+        ArcKind::Negative
+    } else {
+        ArcKind::Both
+    }
+}
+
+fn text_in<'a>(tree: &'a GroupTree, group: GroupId, key: &[u8]) -> &'a [u8]
+    requires { IsGroup tree.now group.0 }
+    ensures { result.now ≡ unwrap_or (value_in key.now (group_at tree.now group.0)) [] }
+{
+    match value_in(tree, group, key) {
+        Some(text) => text,
+        None => &[],
+    }
+}
+
+/// Which edges of the input an edge of the output follows.
+#[tactic(auto, unfolding(crate::specs::DelayGroups::kind_of))]
+fn kind_of(tree: &GroupTree, group: GroupId) -> ArcKind
+    requires { IsGroup tree.now group.0 }
+    ensures { result ≡ kind_of (group_at tree.now group.0) }
+{
+    kind_by(
+        text_in(tree, group, b"timing_type"),
+        text_in(tree, group, b"timing_sense"),
+    )
+}
+
+// The tables of an edge that has a delay table.
+#[tactic(auto, using(crate::proofs::EdgeLemmas::edge_ok, crate::proofs::EdgeLemmas::edge_sound, crate::proofs::EdgeLemmas::delay_refused, crate::proofs::EdgeLemmas::transition_missing, crate::proofs::EdgeLemmas::slew_refused))]
+fn read_tables(
+    alloc: Global,
+    tree: &GroupTree,
+    basis: &LibraryBasis,
+    delay: GroupId,
+    slew: Option<GroupId>,
+) -> Result<EdgeTables, CellFault>
+    requires basis { IsBasis tree.now basis.now.units basis.now.templates.names basis.now.templates.ids.items }
+    requires delay { IsGroup tree.now delay.0 }
+    requires slew { IfSome slew (λ slew. IsGroup tree.now slew.0) }
+    ensures ok { IfOk result (λ tables. AreEdgeTables (tree_of tree.now) (Some (group_at tree.now delay.0)) (option_map (λ slew. group_at tree.now slew.0) slew) (Some tables)) }
+    ensures sound { OnOk result (All (IsSound (tree_of tree.now)) (edge_questions (Some (group_at tree.now delay.0)) (option_map (λ slew. group_at tree.now slew.0) slew))) }
+    ensures refused { IfErr result (IsRefusal (tree_of tree.now) (edge_questions (Some (group_at tree.now delay.0)) (option_map (λ slew. group_at tree.now slew.0) slew))) }
+{
+    let table = match build_table(alloc, tree, delay, &basis.templates, &basis.units) {
+        Ok(table) => table,
+        Err(fault) => return Err(fault),
+    };
+    let Some(slew) = slew else {
+        return Err(CellFault::NoTransition);
+    };
+    match build_transition(alloc, tree, slew, &basis.templates, &basis.units) {
+        Ok(slew) => Ok(EdgeTables { delay: table, slew }),
+        Err(fault) => Err(fault),
+    }
+}
+
+// The tables of an edge, if it has any.
+#[tactic(auto, using(crate::specs::DelayGroups::no_edge, crate::proofs::EdgeLemmas::none_sound))]
+fn read_edge(
+    alloc: Global,
+    tree: &GroupTree,
+    basis: &LibraryBasis,
+    delay: Option<GroupId>,
+    slew: Option<GroupId>,
+) -> Result<Option<EdgeTables>, CellFault>
+    requires basis { IsBasis tree.now basis.now.units basis.now.templates.names basis.now.templates.ids.items }
+    requires delay { IfSome delay (λ delay. IsGroup tree.now delay.0) }
+    requires slew { IfSome slew (λ slew. IsGroup tree.now slew.0) }
+    ensures ok { IfOk result (AreEdgeTables (tree_of tree.now) (option_map (λ delay. group_at tree.now delay.0) delay) (option_map (λ slew. group_at tree.now slew.0) slew)) }
+    ensures sound { OnOk result (All (IsSound (tree_of tree.now)) (edge_questions (option_map (λ delay. group_at tree.now delay.0) delay) (option_map (λ slew. group_at tree.now slew.0) slew))) }
+    ensures refused { IfErr result (IsRefusal (tree_of tree.now) (edge_questions (option_map (λ delay. group_at tree.now delay.0) delay) (option_map (λ slew. group_at tree.now slew.0) slew))) }
+{
+    match delay {
+        None => Ok(None),
+        Some(delay) => match read_tables(alloc, tree, basis, delay, slew) {
+            Ok(tables) => Ok(Some(tables)),
+            Err(fault) => Err(fault),
+        },
+    }
+}
+
+/// The tables of the rise of a delay group.
+fn read_rise(
+    alloc: Global,
+    tree: &GroupTree,
+    basis: &LibraryBasis,
+    group: GroupId,
+) -> Result<Option<EdgeTables>, CellFault>
+    requires basis { IsBasis tree.now basis.now.units basis.now.templates.names basis.now.templates.ids.items }
+    requires group { IsGroup tree.now group.0 }
+    ensures ok { IfOk result (IsRise (tree_of tree.now) (group_at tree.now group.0)) }
+    ensures sound { OnOk result (All (IsSound (tree_of tree.now)) (rise_questions (group_at tree.now group.0))) }
+    ensures refused { IfErr result (IsRefusal (tree_of tree.now) (rise_questions (group_at tree.now group.0))) }
+{
+    let delay = first_group(tree, group, b"cell_rise");
+    let slew = first_group(tree, group, b"rise_transition");
+    read_edge(alloc, tree, basis, delay, slew)
+}
+
+/// The tables of its fall.
+fn read_fall(
+    alloc: Global,
+    tree: &GroupTree,
+    basis: &LibraryBasis,
+    group: GroupId,
+) -> Result<Option<EdgeTables>, CellFault>
+    requires basis { IsBasis tree.now basis.now.units basis.now.templates.names basis.now.templates.ids.items }
+    requires group { IsGroup tree.now group.0 }
+    ensures ok { IfOk result (IsFall (tree_of tree.now) (group_at tree.now group.0)) }
+    ensures sound { OnOk result (All (IsSound (tree_of tree.now)) (fall_questions (group_at tree.now group.0))) }
+    ensures refused { IfErr result (IsRefusal (tree_of tree.now) (fall_questions (group_at tree.now group.0))) }
+{
+    let delay = first_group(tree, group, b"cell_fall");
+    let slew = first_group(tree, group, b"fall_transition");
+    read_edge(alloc, tree, basis, delay, slew)
+}
+
+impl EdgeTables {
+    /// The same tables.
+    fn copied(&self, alloc: Global) -> Result<EdgeTables, OutOfMemory>
+        ensures { IfOk result (λ tables. tables ≡ self.now) }
+    {
+        Ok(EdgeTables {
+            delay: self.delay.copied(alloc)?,
+            slew: self.slew.copied(alloc)?,
+        })
+    }
+}
+
+fn copied(alloc: Global, tables: &Option<EdgeTables>) -> Result<Option<EdgeTables>, OutOfMemory>
+    ensures { IfOk result (λ copy. copy ≡ tables.now) }
+{
+    match tables {
+        None => Ok(None),
+        Some(tables) => Ok(Some(tables.copied(alloc)?)),
+    }
+}
+
+/// The kind and the tables of the arcs of a delay group.
+#[derive(Drop)]
+struct Timing {
+    kind: ArcKind,
+    rise: Option<EdgeTables>,
+    fall: Option<EdgeTables>,
+}
+
+// What the arcs of a delay group have in common: the rise is read before the fall.
+fn read_timing(
+    alloc: Global,
+    tree: &GroupTree,
+    basis: &LibraryBasis,
+    group: GroupId,
+) -> Result<Timing, CellFault>
+    requires basis { IsBasis tree.now basis.now.units basis.now.templates.names basis.now.templates.ids.items }
+    requires group { IsGroup tree.now group.0 }
+    ensures ok { IfOk result (λ timing. IsTiming (tree_of tree.now) (group_at tree.now group.0) timing.kind timing.rise timing.fall) }
+    ensures sound { OnOk result (All (IsSound (tree_of tree.now)) (rise_questions (group_at tree.now group.0) ++ fall_questions (group_at tree.now group.0))) }
+    ensures refused { IfErr result (IsRefusal (tree_of tree.now) (rise_questions (group_at tree.now group.0) ++ fall_questions (group_at tree.now group.0))) }
+{
+    let rise = match read_rise(alloc, tree, basis, group) {
+        Ok(rise) => rise,
+        Err(fault) => return Err(fault),
+    };
+    match read_fall(alloc, tree, basis, group) {
+        Ok(fall) => Ok(Timing {
+            kind: kind_of(tree, group),
+            rise,
+            fall,
+        }),
+        Err(fault) => Err(fault),
+    }
+}
+
+// An arc for each place, with the same tables.
+fn push_arcs(
+    alloc: Global,
+    timing: &Timing,
+    places: &[usize],
+    to: usize,
+    arcs: &mut Vec<Arc>,
+) -> Result<(), CellFault>
+    ensures arcs { OnOk result (AddsArcs timing.now.kind timing.now.rise timing.now.fall places.now to arcs.old.items arcs.new.items) }
+    ensures memory { IfErr result IsNoMemory }
+{
+    for from in places {
+        let arc = Arc {
+            from: *from,
+            to,
+            kind: timing.kind,
+            rise: copied(alloc, &timing.rise)?,
+            fall: copied(alloc, &timing.fall)?,
+        };
+        if arcs.push(arc).is_err() {
+            return Err(CellFault::OutOfMemory);
+        }
+    }
+    Ok(())
+}
+
+// The arcs of a delay group of the pin at a place.
+fn add_arcs(
+    alloc: Global,
+    tree: &GroupTree,
+    basis: &LibraryBasis,
+    table: &PinTable,
+    pins: &[Pin],
+    to: usize,
+    group: GroupId,
+    arcs: &mut Vec<Arc>,
+) -> Result<(), CellFault>
+    requires basis { IsBasis tree.now basis.now.units basis.now.templates.names basis.now.templates.ids.items }
+    requires group { IsGroup tree.now group.0 }
+    requires even { length table.now.names ≡ length table.now.groups.items }
+    requires pins { AllZip (IsPin (tree_of tree.now)) (entries_in tree.now table.now.names table.now.groups.items) pins.now }
+    ensures ok { (name : List ℕ) → slice_get table.now.names to ≡ Some name → OnOk result (AreAdded (tree_of tree.now) table.now.names
+        (arcs_in (entries_in tree.now table.now.names table.now.groups.items) (record { to = name; group = group_at tree.now group.0 }))
+        (delay_questions (entries_in tree.now table.now.names table.now.groups.items) (record { to = name; group = group_at tree.now group.0 })) arcs.old.items arcs.new.items) }
+    ensures refused { (name : List ℕ) → IfErr result (IsRefusal (tree_of tree.now) (delay_questions (entries_in tree.now table.now.names table.now.groups.items) (record { to = name; group = group_at tree.now group.0 }))) }
+{
+    let places = match related_places(alloc, tree, table, pins, group) {
+        Ok(places) => places,
+        Err(fault) => return Err(fault),
+    };
+    let timing = match read_timing(alloc, tree, basis, group) {
+        Ok(timing) => timing,
+        Err(fault) => return Err(fault),
+    };
+    push_arcs(alloc, &timing, places.as_slice(), to, arcs)
+}
+
+// The arcs of a group in the pin at a place, if it is a delay group.
+fn add_group(
+    alloc: Global,
+    tree: &GroupTree,
+    basis: &LibraryBasis,
+    table: &PinTable,
+    pins: &[Pin],
+    to: usize,
+    group: GroupId,
+    arcs: &mut Vec<Arc>,
+) -> Result<(), CellFault>
+    requires basis { IsBasis tree.now basis.now.units basis.now.templates.names basis.now.templates.ids.items }
+    requires group { IsGroup tree.now group.0 }
+    requires even { length table.now.names ≡ length table.now.groups.items }
+    requires pins { AllZip (IsPin (tree_of tree.now)) (entries_in tree.now table.now.names table.now.groups.items) pins.now }
+    ensures ok { (name : List ℕ) → slice_get table.now.names to ≡ Some name → OnOk result (AreAdded (tree_of tree.now) table.now.names
+        (arcs_from (entries_in tree.now table.now.names table.now.groups.items) name (group_at tree.now group.0))
+        (questions_from (entries_in tree.now table.now.names table.now.groups.items) name (group_at tree.now group.0)) arcs.old.items arcs.new.items) }
+    ensures refused { (name : List ℕ) → IfErr result (IsRefusal (tree_of tree.now) (questions_from (entries_in tree.now table.now.names table.now.groups.items) name (group_at tree.now group.0))) }
+{
+    if is_delay_group(tree, group) {
+        add_arcs(alloc, tree, basis, table, pins, to, group, arcs)
+    } else {
+        Ok(())
+    }
+}
+
+// The arcs of the groups in the pin at a place.
+fn add_groups(
+    alloc: Global,
+    tree: &GroupTree,
+    basis: &LibraryBasis,
+    table: &PinTable,
+    pins: &[Pin],
+    to: usize,
+    arcs: &mut Vec<Arc>,
+) -> Result<(), CellFault>
+    requires basis { IsBasis tree.now basis.now.units basis.now.templates.names basis.now.templates.ids.items }
+    requires even { length table.now.names ≡ length table.now.groups.items }
+    requires within { All (λ id. IsGroup tree.now id.0) table.now.groups.items }
+    requires pins { AllZip (IsPin (tree_of tree.now)) (entries_in tree.now table.now.names table.now.groups.items) pins.now }
+    requires to { to < length table.now.groups.items }
+    ensures ok { (entry : PinEntry) → slice_get (entries_in tree.now table.now.names table.now.groups.items) to ≡ Some entry → OnOk result (AreAdded (tree_of tree.now) table.now.names
+        (flat_map (arcs_from (entries_in tree.now table.now.names table.now.groups.items) entry.name) (groups_of entry.group))
+        (flat_map (questions_from (entries_in tree.now table.now.names table.now.groups.items) entry.name) (groups_of entry.group)) arcs.old.items arcs.new.items) }
+    ensures refused { (entry : PinEntry) → slice_get (entries_in tree.now table.now.names table.now.groups.items) to ≡ Some entry
+        → IfErr result (IsRefusal (tree_of tree.now) (flat_map (questions_from (entries_in tree.now table.now.names table.now.groups.items) entry.name) (groups_of entry.group))) }
+{
+    let pin = table.group(to);
+    for place in 0..tree.child_count(pin) {
+        let group = tree.child(pin, place);
+        match add_group(alloc, tree, basis, table, pins, to, group, arcs) {
+            Ok(_) => {}
+            Err(fault) => return Err(fault),
+        }
+    }
+    Ok(())
+}
+
+fn is_output(direction: Direction) -> bool
+    ensures { result ≡ is_output (Some direction) }
+{
+    match direction {
+        Direction::Output => true,
+        _ => false,
+    }
+}
+
+/// The arcs to the pin at a place: an output pin alone has some.
+pub(crate) fn add_pin_arcs(
+    alloc: Global,
+    tree: &GroupTree,
+    basis: &LibraryBasis,
+    table: &PinTable,
+    pins: &[Pin],
+    to: usize,
+    arcs: &mut Vec<Arc>,
+) -> Result<(), CellFault>
+    requires basis { IsBasis tree.now basis.now.units basis.now.templates.names basis.now.templates.ids.items }
+    requires even { length table.now.names ≡ length table.now.groups.items }
+    requires within { All (λ id. IsGroup tree.now id.0) table.now.groups.items }
+    requires pins { AllZip (IsPin (tree_of tree.now)) (entries_in tree.now table.now.names table.now.groups.items) pins.now }
+    requires to { to < length pins.now }
+    ensures ok { (entry : PinEntry) → slice_get (entries_in tree.now table.now.names table.now.groups.items) to ≡ Some entry → OnOk result (AreAdded (tree_of tree.now) table.now.names
+        (flat_map (arcs_in (entries_in tree.now table.now.names table.now.groups.items)) (delays_in entry))
+        (flat_map (delay_questions (entries_in tree.now table.now.names table.now.groups.items)) (delays_in entry)) arcs.old.items arcs.new.items) }
+    ensures refused { (entry : PinEntry) → slice_get (entries_in tree.now table.now.names table.now.groups.items) to ≡ Some entry
+        → IfErr result (IsRefusal (tree_of tree.now) (flat_map (delay_questions (entries_in tree.now table.now.names table.now.groups.items)) (delays_in entry))) }
+{
+    if is_output(pins[to].direction) {
+        add_groups(alloc, tree, basis, table, pins, to, arcs)
+    } else {
+        Ok(())
+    }
+}

@@ -1,0 +1,3 @@
+//! Tests over small libraries.
+mod building;
+mod small_libraries;
