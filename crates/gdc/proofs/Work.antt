@@ -1,5 +1,5 @@
 -- The work of a run, section after section.
-use Rattle.std.proofs.Common.{◌≡◌, ℕ, ◌+◌, ◌<◌, ◌≤◌, ◌⊎◌, inl, inr, List, [], ◌∷◌, ◌++◌, length, Result, Ok, Err, refl, sym, ◌∙◌, ap, subst, arith}
+use Rattle.std.proofs.Common.{◌≡◌, ℕ, ◌+◌, ◌*◌, ◌<◌, ◌≤◌, ◌⊎◌, inl, inr, List, [], ◌∷◌, ◌++◌, length, Ok, Err, refl, sym, ◌∙◌, ap, subst, arith}
 use Rattle.std.specs.Prelude.{IsTrue, slice_get, Option}
 use Rattle.std.proofs.lemmas.Bool.{cases_eq}
 use Rattle.std.proofs.lemmas.List.Sums.{sum_by_push}
@@ -14,16 +14,19 @@ use Rattle.spef_nets.specs.Reading.{Reading, AreFaultlessBefore, next_section}
 use Rattle.spef_nets.proofs.ReadingLemmas.{AreRead, its_place, section_stands}
 use Rattle.verdict_phases.specs.Phases.{Go}
 use Rattle.gdc_words.specs.declared.commands.Command.{Command}
-use Rattle.gdc_words.specs.declared.commands.Command.TheVariants.{Wires, Show, Help, Version}
-use Rattle.gdc_words.specs.declared.faults.UsageFault.{UsageFault}
-use Rattle.gdc_words.specs.CommandLine.{Request, request_of}
+use Rattle.gdc_words.specs.declared.commands.Command.TheVariants.{Wires, Show, Lookup, Help, Version}
+use Rattle.gdc_words.specs.CommandLine.{Request, Asks}
 use Rattle.gdc.specs.declared.refusal.Refusal.{Refusal}
 use Rattle.gdc.specs.SpefPhases.{sole_corner, ParsesSpef, HeadsSpef, NetsSpef, unknown_index, bad_number, value_too_large, repeated_net, foreign_coupling}
 use Rattle.gdc.specs.WireNets.{too_large, unreached, mesh, NetGives, no_driver, many_drivers, no_tree, NetsGive, refused}
 use Rattle.gdc.specs.Drawing.{DrawsNets, faulty_section, of_nets}
 use Rattle.gdc.specs.NetRows.{most_steps}
-use Rattle.gdc.specs.Verdict.{ReadsSpef}
-use Rattle.gdc.specs.Work.{total_steps, SectionsWork, of_sections, TextWork, no_head, of_head, WiresWork, no_file, of_file, CommandWork, RequestWork, WordsWork, IsWithin, is_early}
+use Rattle.liberty_groups.specs.Groups.{Group}
+use Rattle.timing_arcs.specs.Cells.{TimedCell}
+use Rattle.gdc.specs.ArcRows.{arc_edges}
+use Rattle.gdc.specs.LibraryPhases.{ParsesLibrary, ModelsCell}
+use Rattle.gdc.specs.Verdict.{ReadsSpef, ReadsLib}
+use Rattle.gdc.specs.Work.{total_steps, SectionsWork, of_sections, TextWork, no_head, of_head, WiresWork, no_file, of_file, LookupWork, no_model_yet, of_model, CommandWork, WordsWork, no_words, of_words, IsWithin, is_early}
 use Rattle.gdc.proofs.Places.{some_is}
 
 -- one section more has no fault
@@ -109,19 +112,27 @@ no_file_work held pick name steps = record { work = 0; given = no_file; bound = 
 pub file_work : (held : Option Held) (pick : Pick) (name bytes : List ℕ) (before after : ℕ) → ReadsSpef held name (Go bytes) → IsWithin (TextWork pick bytes) before after → IsWithin (WiresWork held pick name) before after
 file_work held pick name bytes before after reads within = record { work = within.work; given = of_file bytes reads within.given; bound = within.bound }
 
+pub no_lookup_work : (held : Option Held) (file name : List ℕ) (steps : ℕ) → IsWithin (LookupWork held file name) steps steps
+no_lookup_work held file name steps = record { work = 0; given = no_model_yet; bound = omega arith }
+
+pub lookup_work : (held : Option Held) (file name bytes : List ℕ) (library : Group) (cell : TimedCell) (before after : ℕ) → ReadsLib held file (Go bytes) → ParsesLibrary bytes (Ok library) → ModelsCell library name (Ok cell)
+    → after ≤ before + 64 * length (arc_edges cell.arcs) → IsWithin (LookupWork held file name) before after
+lookup_work held file name bytes library cell before after reads parses models bound =
+    record { work = 64 * length (arc_edges cell.arcs); given = of_model bytes library cell reads parses models; bound = bound }
+
 -- any words may give no work
 no_command_work : (held : Option Held) (command : Command) (request : Request) → CommandWork held command request 0
 no_command_work held Wires request = no_file
 no_command_work held Show request = refl
+no_command_work held Lookup request = no_model_yet
 no_command_work held Help request = refl
 no_command_work held Version request = refl
 
 pub no_work_of_command : (held : Option Held) (command : Command) (request : Request) (steps : ℕ) → IsWithin (CommandWork held command request) steps steps
 no_work_of_command held command request steps = record { work = 0; given = no_command_work held command request; bound = omega arith }
 
-no_request_work : (held : Option Held) (request : Result Request UsageFault) → RequestWork held request 0
-no_request_work held (Err fault) = refl
-no_request_work held (Ok request) = no_command_work held request.command request
-
 pub no_words_work : (words : List (List ℕ)) (held : Option Held) (steps : ℕ) → IsWithin (WordsWork words held) steps steps
-no_words_work words held steps = record { work = 0; given = no_request_work held (request_of words); bound = omega arith }
+no_words_work words held steps = record { work = 0; given = no_words; bound = omega arith }
+
+pub words_work : (words : List (List ℕ)) (held : Option Held) (request : Request) (before after : ℕ) → Asks words (Ok request) → IsWithin (CommandWork held request.command request) before after → IsWithin (WordsWork words held) before after
+words_work words held request before after asks within = record { work = within.work; given = of_words request asks within.given; bound = within.bound }

@@ -1,12 +1,16 @@
 pub mod AnnotationRows
+pub mod ArcRows
 pub mod Completeness
 pub mod Drawing
 pub mod Ends
+pub mod LibraryPhases
 pub mod Lines
+pub mod Looking
 pub mod NetPins
 pub mod NetRows
 pub mod Outcomes
 pub mod Outputs
+pub mod ReadBack
 pub mod RefusalText
 pub mod Saying
 pub mod SpefPhases

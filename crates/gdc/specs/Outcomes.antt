@@ -1,18 +1,18 @@
 -- What each way in which a run ends says of the verdict, and of what was written.
-use Rattle.std.specs.Prelude.{◌≡◌, ℕ, ◌⊎◌, List, Option, Result, Ok, Err}
+use Rattle.std.specs.Prelude.{◌≡◌, ℕ, ◌⊎◌, List, Option, Ok, Err}
 use Rattle.edge_io.specs.Counts.{Rose, RoseBy}
 use Rattle.edge_io.specs.Holding.{Held, TellsMissing}
 use Rattle.verdict_phases.specs.Phases.{Reads, Go, Halt}
 use Rattle.gdc_words.specs.declared.commands.Command.{Command}
-use Rattle.gdc_words.specs.declared.commands.Command.TheVariants.{Wires, Show}
+use Rattle.gdc_words.specs.declared.commands.Command.TheVariants.{Wires, Show, Lookup}
 use Rattle.gdc_words.specs.declared.commands.Key.TheVariants as key
 use Rattle.gdc_words.specs.declared.faults.UsageFault.{UsageFault}
 use Rattle.gdc.specs.declared.refusal.FileKey.{FileKey}
-use Rattle.gdc.specs.declared.refusal.FileKey.TheVariants.{Spef, Sdf}
+use Rattle.gdc.specs.declared.refusal.FileKey.TheVariants.{Spef, Sdf, Lib}
 use Rattle.gdc.specs.declared.refusal.Refusal.{Refusal}
 use Rattle.gdc.specs.declared.outcome.Outcome.{Outcome}
 use Rattle.gdc.specs.declared.outcome.Outcome.TheVariants.{Done, Refused, Usage, ReadFault, WriteFault, OutOfMemory}
-use Rattle.gdc_words.specs.CommandLine.{Request, request_of, value_of}
+use Rattle.gdc_words.specs.CommandLine.{Request, Asks, value_of}
 use Rattle.gdc.specs.declared.output.Output.{Output}
 use Rattle.gdc.specs.Outputs.{output_text}
 use Rattle.gdc.specs.Verdict.{Gives, Answers, CommandGives}
@@ -79,11 +79,13 @@ GivesText words held fact = (output : Output) × Gives words held (Answers (Go o
 abbrev pub name_of : Request → FileKey → List ℕ
 name_of request Spef = value_of request.given key.Spef
 name_of request Sdf = value_of request.given key.Sdf
+name_of request Lib = value_of request.given key.Lib
 
 -- the place of the file of a key in the order in which a command reads its files, from 1; 0 where it does not read it
 abbrev pub reading_place : Command → FileKey → ℕ
 reading_place Wires Spef = 1
 reading_place Show Sdf = 1
+reading_place Lookup Lib = 1
 reading_place _ _ = 0
 
 -- Why the file of a key could not be read: the shelf's count of faults rose, or the shelf tells that it does not hold the
@@ -95,11 +97,10 @@ pub record HasCause (held : Option Held) (request : Request) (faults faults' ope
 -- A read fault at the file of a key: the phases of the command come to its reading, and it has its cause.
 pub record HasReadFault (words : List (List ℕ)) (held : Option Held) (key : FileKey) (faults faults' opens opens' : ℕ) : Type 0 where
   pub request : Request
-  pub asked : request_of words ≡ Ok request
+  pub asked : Asks words (Ok request)
   pub reached : CommandGives held request.command request (Halt (Reads key))
   pub fault : HasCause held request faults faults' opens opens' key
 
 -- where the words have a first fault, the run answers it, unless memory runs out
-abbrev pub AnswersUsage : Result Request UsageFault → Outcome → Type 0
-AnswersUsage (Ok request) outcome = Unit {0}
-AnswersUsage (Err fault) outcome = (outcome ≡ Usage fault) ⊎ (outcome ≡ OutOfMemory)
+abbrev pub AnswersUsage : List (List ℕ) → Outcome → Type 0
+AnswersUsage words outcome = (fault : UsageFault) → Asks words (Err fault) → (outcome ≡ Usage fault) ⊎ (outcome ≡ OutOfMemory)

@@ -11,20 +11,26 @@ use Rattle.sdf_reader.specs.declared.rows.SdfRow.{SdfRow}
 use Rattle.verdict_phases.specs.Phases.{Stop, RefusedBy, Step, Go, Halt}
 use Rattle.verdict_phases.specs.FileReading.{ReadsFile}
 use Rattle.gdc_words.specs.declared.commands.Command.{Command}
-use Rattle.gdc_words.specs.declared.commands.Command.TheVariants.{Wires, Show, Help, Version}
+use Rattle.gdc_words.specs.declared.commands.Command.TheVariants.{Wires, Show, Lookup, Help, Version}
 use Rattle.gdc_words.specs.declared.commands.Key.TheVariants as key
 use Rattle.gdc_words.specs.declared.faults.UsageFault.{UsageFault}
 use Rattle.gdc.specs.declared.refusal.FileKey.{FileKey}
-use Rattle.gdc.specs.declared.refusal.FileKey.TheVariants.{Spef, Sdf}
+use Rattle.gdc.specs.declared.refusal.FileKey.TheVariants.{Spef, Sdf, Lib}
 use Rattle.gdc.specs.declared.refusal.LimitKind.TheVariants.{File}
 use Rattle.gdc.specs.declared.refusal.Refusal.{Refusal}
 use Rattle.gdc.specs.declared.refusal.Refusal.TheVariants.{Limit, SdfSyntax}
-use Rattle.gdc_words.specs.CommandLine.{Request, request_of, value_of, pick_from}
+use Rattle.gdc_words.specs.CommandLine.{Request, Asks, value_of, pick_from}
 use Rattle.corner_set.specs.declared.pick.Pick.{Pick}
 use Rattle.spef_text.specs.SpefFiles.{SpefText}
 use Rattle.spef_text.specs.Heads.{HeadText}
 use Rattle.spef_nets.specs.NetElements.{NetElements}
 use Rattle.gdc.specs.SpefPhases.{DesignNets, ParsesSpef, HeadsSpef, NetsSpef}
+use Rattle.gdc_words.specs.Decimals.{IsGrains}
+use Rattle.liberty_groups.specs.Groups.{Group}
+use Rattle.timing_arcs.specs.Cells.{TimedCell}
+use Rattle.gdc.specs.ArcRows.{CellGives}
+use Rattle.gdc.specs.LibraryPhases.{ParsesLibrary, ModelsCell}
+use Rattle.gdc.specs.declared.arc_rows.ArcRow.{ArcRow}
 use Rattle.gdc.specs.WireNets.{RowsOf}
 use Rattle.gdc.specs.declared.output.Output.{Output}
 use Rattle.gdc.specs.declared.output.Output.TheVariants as output
@@ -66,6 +72,28 @@ pub data ShowGives (held : Option Held) (name : List ℕ) : Step Refusal FileKey
   at_sdf : (bytes : List ℕ) (refusal : Refusal) → ReadsSdf held name (Go bytes) → ParsesSdf bytes (Err refusal) → ShowGives held name (Halt (RefusedBy refusal))
   with_sdf_rows : (bytes : List ℕ) (rows : List SdfRow) → ReadsSdf held name (Go bytes) → ParsesSdf bytes (Ok rows) → ShowGives held name (Go rows)
 
+-- the phase that reads the library
+abbrev pub ReadsLib : Option Held → List ℕ → Step Refusal FileKey (List ℕ) → Type 0
+ReadsLib held name step = ReadsFile file_limit held Lib (Limit (File Lib)) name step
+
+-- `lookup`: the library is read, then its grammar, then the model of the cell, and then each of its tables at the slew and the load
+pub data LookupGives (held : Option Held) (file name : List ℕ) (slew load : ℕ) : Step Refusal FileKey (List ArcRow) → Type 0 where
+  at_library_reading : (why : Stop Refusal FileKey) → ReadsLib held file (Halt why) → LookupGives held file name slew load (Halt why)
+  at_library : (bytes : List ℕ) (refusal : Refusal) → ReadsLib held file (Go bytes) → ParsesLibrary bytes (Err refusal) → LookupGives held file name slew load (Halt (RefusedBy refusal))
+  at_cell : (bytes : List ℕ) (library : Group) (refusal : Refusal) → ReadsLib held file (Go bytes) → ParsesLibrary bytes (Ok library) → ModelsCell library name (Err refusal) → LookupGives held file name slew load (Halt (RefusedBy refusal))
+  at_lookups : (bytes : List ℕ) (library : Group) (cell : TimedCell) (refusal : Refusal) → ReadsLib held file (Go bytes) → ParsesLibrary bytes (Ok library) → ModelsCell library name (Ok cell) → CellGives name cell slew load (Err refusal)
+      → LookupGives held file name slew load (Halt (RefusedBy refusal))
+  with_arc_rows : (bytes : List ℕ) (library : Group) (cell : TimedCell) (rows : List ArcRow) → ReadsLib held file (Go bytes) → ParsesLibrary bytes (Ok library) → ModelsCell library name (Ok cell) → CellGives name cell slew load (Ok rows)
+      → LookupGives held file name slew load (Go rows)
+
+-- a fact of the slew and the load that are asked for, in grains
+pub record ReadsPoint (request : Request) (fact : ℕ → ℕ → Type 0) : Type 0 where
+  pub slew : ℕ
+  pub load : ℕ
+  pub slew_reads : IsGrains (value_of request.given key.Slew) slew
+  pub load_reads : IsGrains (value_of request.given key.Load) load
+  pub holds : fact slew load
+
 -- the phases of which the value is put into what is written
 abbrev pub As : {A : Type 0} → (A → Output) → (Step Refusal FileKey A → Type 0) → Step Refusal FileKey Output → Type 0
 As {A} put phase (Go output) = (value : A) × phase (Go value) × (output ≡ put value)
@@ -75,6 +103,7 @@ As put phase (Halt why) = phase (Halt why)
 abbrev pub CommandGives : Option Held → Command → Request → Step Refusal FileKey Output → Type 0
 CommandGives held Wires request step = As output.Sdf (WiresGives held (pick_from request.given) (value_of request.given key.Spef)) step
 CommandGives held Show request step = As output.Listing (ShowGives held (value_of request.given key.Sdf)) step
+CommandGives held Lookup request step = ReadsPoint request (λ slew load. As output.Arcs (LookupGives held (value_of request.given key.Lib) (value_of request.given key.Cell) slew load) step)
 CommandGives held Help request step = step ≡ Go output.Help
 CommandGives held Version request step = step ≡ Go output.Version
 
@@ -85,5 +114,5 @@ pub data Verdict : Type 0 where
 
 -- the verdict on these words and on what is held
 abbrev pub Gives : List (List ℕ) → Option Held → Verdict → Type 0
-Gives words held (Faulty fault) = request_of words ≡ Err fault
-Gives words held (Answers step) = (request : Request) × (request_of words ≡ Ok request) × CommandGives held request.command request step
+Gives words held (Faulty fault) = Asks words (Err fault)
+Gives words held (Answers step) = (request : Request) × Asks words (Ok request) × CommandGives held request.command request step

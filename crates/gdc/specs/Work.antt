@@ -1,5 +1,5 @@
 -- How many steps a run takes at the most: the work that its input gives.
-use Rattle.std.specs.Prelude.{◌≡◌, ℕ, ◌+◌, ◌≤◌, Bool, true, false, IsTrue, List, length, slice_get, Option, Some, Result, Ok, Err}
+use Rattle.std.specs.Prelude.{◌≡◌, ℕ, ◌+◌, ◌*◌, ◌≤◌, Bool, true, false, IsTrue, List, length, slice_get, Option, Some, Result, Ok, Err}
 use Rattle.std.specs.List.{sum_by}
 use Rattle.edge_io.specs.Holding.{Held}
 use Rattle.corner_set.specs.declared.pick.Pick.{Pick}
@@ -13,22 +13,26 @@ use Rattle.verdict_phases.specs.Phases.{Go}
 use Rattle.verdict_phases.specs.declared.ends.PhaseEnd.{PhaseEnd}
 use Rattle.verdict_phases.specs.declared.ends.PhaseEnd.TheVariants as phase
 use Rattle.gdc_words.specs.declared.commands.Command.{Command}
-use Rattle.gdc_words.specs.declared.commands.Command.TheVariants.{Wires, Show, Help, Version}
+use Rattle.gdc_words.specs.declared.commands.Command.TheVariants.{Wires, Show, Lookup, Help, Version}
 use Rattle.gdc_words.specs.declared.commands.Key.TheVariants as key
-use Rattle.gdc_words.specs.declared.faults.UsageFault.{UsageFault}
-use Rattle.gdc_words.specs.CommandLine.{Request, request_of, value_of, pick_from}
+use Rattle.gdc_words.specs.CommandLine.{Request, Asks, value_of, pick_from}
 use Rattle.gdc.specs.declared.refusal.FileKey.{FileKey}
 use Rattle.gdc.specs.declared.refusal.IndexKind.TheVariants.{Repeated}
 use Rattle.gdc.specs.declared.refusal.LimitKind.TheVariants.{File}
 use Rattle.gdc.specs.declared.refusal.NumberKind.TheVariants.{BadUnit}
 use Rattle.gdc.specs.declared.refusal.Refusal.{Refusal}
-use Rattle.gdc.specs.declared.refusal.Refusal.TheVariants.{SpefSyntax, SpefForm, SpefNumber, NameIndex, SdfSyntax, Limit}
+use Rattle.gdc.specs.declared.refusal.Refusal.TheVariants.{LibrarySyntax, SpefSyntax, SpefForm, UnknownCell, SpefNumber, NameIndex, SdfSyntax, Limit}
+use Rattle.gdc.specs.declared.refusal.Refusal.TheVariants as refusal
 use Rattle.gdc.specs.declared.outcome.Outcome.{Outcome}
 use Rattle.gdc.specs.declared.outcome.Outcome.TheVariants as outcome
 use Rattle.gdc.specs.declared.top.End.{End}
 use Rattle.gdc.specs.declared.top.End.TheVariants as end
 use Rattle.gdc.specs.SpefPhases.{sole_corner, ParsesSpef, HeadsSpef}
-use Rattle.gdc.specs.Verdict.{ReadsSpef}
+use Rattle.gdc.specs.Verdict.{ReadsSpef, ReadsLib}
+use Rattle.liberty_groups.specs.Groups.{Group}
+use Rattle.timing_arcs.specs.Cells.{TimedCell}
+use Rattle.gdc.specs.ArcRows.{arc_edges}
+use Rattle.gdc.specs.LibraryPhases.{ParsesLibrary, ModelsCell}
 use Rattle.gdc.specs.NetRows.{most_steps}
 
 -- the most steps of these nets at one corner
@@ -55,21 +59,23 @@ pub data WiresWork (held : Option Held) (pick : Pick) (name : List ℕ) : ℕ �
   no_file : WiresWork held pick name 0
   of_file : {work : ℕ} (bytes : List ℕ) → ReadsSpef held name (Go bytes) → TextWork pick bytes work → WiresWork held pick name work
 
--- the work of a command: `wires` takes steps, and no other
+-- the work of `lookup`: none before the model of the cell is made, and then 64 steps at the most for each edge of its arcs
+pub data LookupWork (held : Option Held) (file name : List ℕ) : ℕ → Type 0 where
+  no_model_yet : LookupWork held file name 0
+  of_model : (bytes : List ℕ) (library : Group) (cell : TimedCell) → ReadsLib held file (Go bytes) → ParsesLibrary bytes (Ok library) → ModelsCell library name (Ok cell) → LookupWork held file name (64 * length (arc_edges cell.arcs))
+
+-- the work of a command: `wires` and `lookup` take steps, and no other
 abbrev pub CommandWork : Option Held → Command → Request → ℕ → Type 0
 CommandWork held Wires request work = WiresWork held (pick_from request.given) (value_of request.given key.Spef) work
 CommandWork held Show request work = work ≡ 0
+CommandWork held Lookup request work = LookupWork held (value_of request.given key.Lib) (value_of request.given key.Cell) work
 CommandWork held Help request work = work ≡ 0
 CommandWork held Version request work = work ≡ 0
 
--- faulty words give no work
-abbrev pub RequestWork : Option Held → Result Request UsageFault → ℕ → Type 0
-RequestWork held (Err fault) work = work ≡ 0
-RequestWork held (Ok request) work = CommandWork held request.command request work
-
--- the work of these words and of what is held
-abbrev pub WordsWork : List (List ℕ) → Option Held → ℕ → Type 0
-WordsWork words held work = RequestWork held (request_of words) work
+-- the work of these words and of what is held: none before the words are read, and then that of their command
+pub data WordsWork (words : List (List ℕ)) (held : Option Held) : ℕ → Type 0 where
+  no_words : WordsWork words held 0
+  of_words : {work : ℕ} (request : Request) → Asks words (Ok request) → CommandWork held request.command request work → WordsWork words held work
 
 -- a count rose by no more than a work
 pub record IsWithin (Work : ℕ → Type 0) (before after : ℕ) : Type 0 where
@@ -77,7 +83,7 @@ pub record IsWithin (Work : ℕ → Type 0) (before after : ℕ) : Type 0 where
   pub given : Work work
   pub bound : after ≤ before + work
 
--- a refusal that comes before a section is read: of a file's length, of a grammar, or of the head
+-- a refusal that comes before a section or a table is read: of a file's length, of a grammar, of the head, or of a cell
 abbrev pub is_early : Refusal → Bool
 is_early (SpefSyntax token) = true
 is_early (SpefForm word token) = true
@@ -85,6 +91,9 @@ is_early (SpefNumber BadUnit token) = true
 is_early (NameIndex Repeated token) = true
 is_early (SdfSyntax token) = true
 is_early (Limit (File key)) = true
+is_early (LibrarySyntax corner token line cause) = true
+is_early (UnknownCell cell corner) = true
+is_early (refusal.CellFault cell corner fault) = true
 is_early _ = false
 
 -- a fact of an end that comes before a section is read

@@ -1,4 +1,4 @@
-//! gdc: the delays of wires for chip sign-off, from SPEF to SDF, and the rows of SDF files.
+//! gdc: delays for chip sign-off: of wires, from SPEF to SDF, and of cells of a Liberty library; and the rows of SDF files.
 //!
 //! `main` is the edge of the program: it collects the words, makes the shelf and the streams of the
 //! system, and ends with the status of what `top::run` answers, in whose contract the theorem of the
@@ -7,8 +7,12 @@
 
 ghost use Rattle.std.specs.Prelude.{◌≡◌, ◌<◌};
 
+mod arc_rows;
 mod command_line;
+mod laws;
+mod library_phases;
 mod lines;
+mod lookup;
 mod net_pins;
 mod net_rows;
 mod outcome;

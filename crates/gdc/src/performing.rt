@@ -6,6 +6,8 @@ ghost use Rattle.gdc.specs.Outcomes.{HasCause};
 ghost use Rattle.gdc.specs.Verdict.{CommandGives};
 ghost use Rattle.gdc.specs.Work.{CommandWork, IsWithin, OnEarly};
 
+use crate::arc_rows::Point;
+use crate::lookup::lookup;
 use crate::output::Output;
 use crate::refusal::{FileKey, Refusal};
 use crate::show::show;
@@ -37,6 +39,21 @@ pub fn perform<H: Shelf, L: Ledger>(
         Command::Show => {
             let rows = show(alloc, shelf, asked.needed(Key::Sdf))?;
             Ok(Output::Listing(rows))
+        }
+        Command::Lookup => {
+            let at = Point::new(
+                asked.needed_grains(Key::Slew),
+                asked.needed_grains(Key::Load),
+            );
+            let rows = lookup(
+                alloc,
+                shelf,
+                asked.needed(Key::Lib),
+                asked.needed(Key::Cell),
+                at,
+                steps,
+            )?;
+            Ok(Output::Arcs(rows))
         }
         Command::Help => Ok(Output::Help),
         Command::Version => Ok(Output::Version),

@@ -12,6 +12,7 @@ use std::process::Abort;
 use std::sync::ledger::{Blank, Ledger};
 use std::test::Fail;
 
+mod lookup;
 mod refusals;
 mod rows;
 mod show;
@@ -21,7 +22,9 @@ mod words;
 #[derive(Clone, Copy)]
 struct Plan<'a> {
     words: &'a [u8],
-    /// What stands in `a.spef`, and in `a.sdf` too.
+    /// Words that stand behind `lookup --lib a.lib`, in place of those.
+    point: &'a [u8],
+    /// What stands in `a.spef`, and in `a.sdf` and `a.lib` too.
     file: &'a [u8],
     /// How many bytes a call of the sink for the text takes.
     most: usize,
@@ -37,10 +40,19 @@ impl<'a> Plan<'a> {
         Plan::of(b"wires\n--spef\na.spef\n", spef)
     }
 
+    /// `lookup` over these bytes, with these words behind its file, with no fault.
+    fn lookup(point: &'a [u8], library: &'a [u8]) -> Plan<'a> {
+        Plan {
+            point,
+            ..Plan::of(b"lookup\n--lib\na.lib\n", library)
+        }
+    }
+
     /// These words over these bytes, with no fault.
     fn of(words: &'a [u8], file: &'a [u8]) -> Plan<'a> {
         Plan {
             words,
+            point: b"",
             file,
             most: 1000,
             failing_write: 0,
@@ -65,8 +77,8 @@ fn cut_at(bytes: &[u8], byte: u8) -> (&[u8], &[u8]) {
     }
 }
 
-fn words_of(alloc: Global, lines: &[u8]) -> Result<Words, OutOfMemory> {
-    let mut words = Words::new(alloc);
+// Puts the words, one a line, at the end.
+fn put_words(alloc: Global, words: &mut Words, lines: &[u8]) -> Result<(), OutOfMemory> {
     let mut rest = lines;
     for _ in 0..lines.len() {
         if rest.is_empty() {
@@ -76,12 +88,23 @@ fn words_of(alloc: Global, lines: &[u8]) -> Result<Words, OutOfMemory> {
         words.push(Text::from_bytes(alloc, line)?)?;
         rest = after;
     }
+    Ok(())
+}
+
+fn words_of(alloc: Global, plan: &Plan) -> Result<Words, OutOfMemory> {
+    let mut words = Words::new(alloc);
+    put_words(alloc, &mut words, plan.words)?;
+    put_words(alloc, &mut words, plan.point)?;
     Ok(words)
 }
 
 fn shelf_of(alloc: Global, plan: &Plan) -> Result<MemShelf, OutOfMemory> {
     let mut shelf = MemShelf::new(alloc, 7);
-    for name in [b"a.spef".as_slice(), b"a.sdf".as_slice()] {
+    for name in [
+        b"a.spef".as_slice(),
+        b"a.sdf".as_slice(),
+        b"a.lib".as_slice(),
+    ] {
         let name = Text::from_bytes(alloc, name)?;
         let held = Text::from_bytes(alloc, plan.file)?;
         shelf.put(name, held)?;
@@ -95,7 +118,7 @@ fn try_in<L: Ledger>(alloc: Global, blank: Blank, plan: &Plan) -> Result<Tried, 
     requires parts { blank.parts ≡ L.parts }
     requires some_part { 0 < blank.parts }
 {
-    let words = words_of(alloc, plan.words)?;
+    let words = words_of(alloc, plan)?;
     let mut shelf = shelf_of(alloc, plan)?;
     let mut out = MemSink::new(alloc, plan.most.max(1), 100_000)?;
     out.fail_at(plan.failing_write)?;

@@ -2,15 +2,18 @@
 ghost use Rattle.std.specs.Prelude.{◌≡◌, Result, Err};
 ghost use Rattle.edge_io.specs.Counts.{Rose};
 ghost use Rattle.edge_io.specs.Told.{appended, AppendsFrontOf};
-ghost use Rattle.gdc_words.specs.CommandLine.{request_of};
+ghost use Rattle.gdc_words.specs.CommandLine.{Asks};
 ghost use Rattle.gdc.specs.Verdict.{Gives, Answers};
 ghost use Rattle.gdc.specs.Outcomes.{OnDone, IfRefused, IfUsage, IfReadFault, OnWriteFault, UnlessWritten, GivesText, HasReadFault, AnswersUsage};
+ghost use Rattle.gdc.specs.ReadBack.{WiresReadBack};
 ghost use Rattle.gdc.specs.Saying.{Says};
+ghost use Rattle.sdf_read_back.specs.Names.{IsSettled};
 ghost use Rattle.gdc.specs.Completeness.{IsComplete};
 ghost use Rattle.gdc.specs.Ends.{MeansEnd, FollowsTop};
 ghost use Rattle.gdc.specs.Work.{WordsWork, IsWithin, OnEarlyEnd, BeforeSections};
 ghost use Rattle.verdict_phases.specs.Phases.{RefusedBy, Halt};
 
+use crate::laws::wires_read_back;
 use crate::lines::say;
 use crate::outcome::Outcome;
 use crate::output::{Output, write_output};
@@ -56,7 +59,7 @@ impl From<PhaseEnd<Refusal, FileKey>> for End {
 }
 
 /// What the words ask for, as it is to be written.
-#[tactic(auto, using(crate::proofs::Work::no_words_work))]
+#[tactic(auto, using(crate::proofs::Work::no_words_work, crate::proofs::Work::words_work))]
 fn decide<H: Shelf, L: Ledger>(
     alloc: Global,
     words: &Words,
@@ -85,7 +88,7 @@ fn answer<H: Shelf, O: Sink, L: Ledger>(
         (λ text. O.written out.new ≡ appended (O.written out.old) text)) }
     ensures refused { IfRefused result
         (λ refusal. Gives words.now (H.held shelf.old) (Answers (Halt (RefusedBy refusal)))) }
-    ensures usage { IfUsage result (λ fault. request_of words.now ≡ Err fault) }
+    ensures usage { IfUsage result (λ fault. Asks words.now (Err fault)) }
     ensures read_fault { IfReadFault result (λ key. HasReadFault words.now (H.held shelf.old) key
         (H.faults shelf.old) (H.faults shelf.new) (H.opens shelf.old) (H.opens shelf.new)) }
     ensures write_fault { OnWriteFault result (Rose (O.faults out.old) (O.faults out.new)
@@ -125,13 +128,16 @@ pub fn run<H: Shelf, O: Sink, E: Sink, L: Ledger>(
     ensures done { OnDone result (GivesText words.now (H.held shelf.old)
         (λ text. O.written out.new ≡ appended (O.written out.old) text)) }
 
+    // What is written for `wires` is read back: the text of the rows that the verdict gives says these rows, and no others.
+    ensures read_back { WiresReadBack IsSettled }
+
     // A refusal is the verdict's.
     ensures refused { IfRefused result
         (λ refusal. Gives words.now (H.held shelf.old) (Answers (Halt (RefusedBy refusal)))) }
 
     // A fault of the words is answered exactly where it is their first.
-    ensures usage { IfUsage result (λ fault. request_of words.now ≡ Err fault) }
-    ensures usage_first { AnswersUsage (request_of words.now) result }
+    ensures usage { IfUsage result (λ fault. Asks words.now (Err fault)) }
+    ensures usage_first { AnswersUsage words.now result }
 
     // A read fault has its cause, which both counts of the shelf show.
     ensures read_fault { IfReadFault result (λ key. HasReadFault words.now (H.held shelf.old) key
@@ -157,6 +163,7 @@ pub fn run<H: Shelf, O: Sink, E: Sink, L: Ledger>(
     ensures steps { IsWithin (WordsWork words.now (H.held shelf.old)) steps.old steps.new }
     ensures no_steps { BeforeSections result (steps.new ≡ steps.old) }
 {
+    wires_read_back();
     let outcome = answer(alloc, words, shelf, out, steps);
     // The answer stays where its line could not be written.
     let _ = say(&outcome, err);

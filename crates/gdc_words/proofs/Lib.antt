@@ -1,2 +1,4 @@
+pub mod Grains
 pub mod NeededKeys
+pub mod Pairs
 pub mod WordPairs

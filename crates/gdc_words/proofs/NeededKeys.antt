@@ -1,11 +1,12 @@
 -- A key that the command needs is found among the pairs where no needed key is missing.
-use Rattle.std.proofs.Common.{◌≡◌, Bool, true, false, not, ◌||◌, Option, None, Some, List, [], ◌∷◌, cond, refl, sym, ap}
+use Rattle.std.proofs.Common.{◌≡◌, Bool, true, false, not, ◌||◌, Option, None, Some, List, [], ◌∷◌, cond, refl, sym, ap, ◌∙◌}
 use Rattle.std.specs.List.{find, list_any}
+use Rattle.std.proofs.lemmas.Slice.Eq.{bytes_eq-Decides}
 use Rattle.gdc_words.specs.declared.commands.Command.{Command}
 use Rattle.gdc_words.specs.declared.commands.Key.{Key}
-use Rattle.gdc_words.specs.declared.commands.Key.TheVariants.{Spef, Triple, Sdf}
+use Rattle.gdc_words.specs.declared.commands.Key.TheVariants.{Spef, Triple, Sdf, Lib, Cell, Slew, Load}
 use Rattle.gdc_words.specs.declared.asked.Given.{Given}
-use Rattle.gdc_words.specs.CommandLine.{first_missing, needs_key, needed_keys, is_given, same_key}
+use Rattle.gdc_words.specs.CommandLine.{first_missing, needs_key, needed_keys, is_given, same_key, key_word, key_of}
 
 none_at_head : {X : Type 0} (here : Bool) (x : X) (rest : Option X) (others : Bool) → (rest ≡ None → others ≡ false) → cond here (Some x) rest ≡ None → (here || others) ≡ false
 none_at_head true x rest others later e = cc
@@ -16,16 +17,21 @@ pub none_found : {X : Type 0} (p : X → Bool) (xs : List X) → find p xs ≡ N
 none_found p [] e = refl
 none_found p (x ∷ xs) e = none_at_head (p x) x (find p xs) (list_any p xs) (none_found p xs) e
 
-same_key_is : (a b : Key) → same_key a b ≡ true → a ≡ b
-same_key_is Spef Spef e = refl
-same_key_is Triple Triple e = refl
-same_key_is Sdf Sdf e = refl
-same_key_is Spef Triple e = cc
-same_key_is Spef Sdf e = cc
-same_key_is Triple Spef e = cc
-same_key_is Triple Sdf e = cc
-same_key_is Sdf Spef e = cc
-same_key_is Sdf Triple e = cc
+word_names : (key : Key) → key_of (key_word key) ≡ Some key
+word_names Spef = refl
+word_names Triple = refl
+word_names Sdf = refl
+word_names Lib = refl
+word_names Cell = refl
+word_names Slew = refl
+word_names Load = refl
+
+some_is : {X : Type 0} (a b : X) → Some a ≡ Some b → a ≡ b
+some_is a b e = cc
+
+-- keys of one word are one key
+pub same_key_is : (a b : Key) → same_key a b ≡ true → a ≡ b
+same_key_is a b e = some_is a b (sym (word_names a) ∙ ap key_of ((bytes_eq-Decides (key_word a) (key_word b)).0 e) ∙ word_names b)
 
 stands_at_head : (here others stands : Bool) (wanted wanted_later : Bool) → (not here || others) ≡ false → (wanted ≡ true → here ≡ stands) → (others ≡ false → wanted_later ≡ true → stands ≡ true) → (wanted || wanted_later) ≡ true → stands ≡ true
 stands_at_head false others stands wanted wanted_later none first later e = cc

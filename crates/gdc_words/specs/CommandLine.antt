@@ -1,17 +1,18 @@
 -- The words of the command line. Word 1 is the command. The rest are pairs of a key and its value, read from the left.
-use Rattle.std.specs.Prelude.{ℕ, ◌+◌, Bool, true, false, not, Option, Some, None, Result, Ok, Err, List, [], ◌∷◌, ◌++◌, if◌then◌else◌, codes, is_some, option_map, unwrap_or}
+use Rattle.std.specs.Prelude.{◌≡◌, ℕ, ◌+◌, Bool, true, false, not, IsTrue, All, Option, Some, None, Result, Ok, Err, List, [], ◌∷◌, ◌++◌, if◌then◌else◌, codes, is_some, option_map, unwrap_or}
 use Rattle.std.specs.List.{find, list_any}
 use Rattle.std.specs.Str.{bytes_eq}
 use Rattle.gdc_words.specs.declared.commands.Command.{Command}
-use Rattle.gdc_words.specs.declared.commands.Command.TheVariants.{Wires, Show, Help, Version}
+use Rattle.gdc_words.specs.declared.commands.Command.TheVariants.{Wires, Show, Lookup, Help, Version}
 use Rattle.gdc_words.specs.declared.commands.Key.{Key}
 use Rattle.corner_set.specs.declared.pick.Pick.{Pick}
 use Rattle.corner_set.specs.declared.pick.Pick.TheVariants.{Min, Typ, Max}
-use Rattle.gdc_words.specs.declared.commands.Key.TheVariants.{Spef, Triple, Sdf}
+use Rattle.gdc_words.specs.declared.commands.Key.TheVariants.{Spef, Triple, Sdf, Lib, Cell, Slew, Load}
 use Rattle.gdc_words.specs.declared.asked.Given.{Given}
 use Rattle.gdc_words.specs.declared.faults.UsageKind.{UsageKind}
 use Rattle.gdc_words.specs.declared.faults.UsageKind.TheVariants.{NoCommand, UnknownCommand, UnknownWord, Repeated, MissingValue, BadValue, MissingKey}
 use Rattle.gdc_words.specs.declared.faults.UsageFault.{UsageFault}
+use Rattle.gdc_words.specs.Decimals.{IsGrains}
 
 -- what the words ask for: the command, and the keys that stand, each with its value, in the order of the words
 pub record Request : Type 0 where
@@ -23,6 +24,7 @@ abbrev pub command_of : List ℕ → Option Command
 command_of word =
     if bytes_eq word (codes "wires") then Some Wires
     else if bytes_eq word (codes "show") then Some Show
+    else if bytes_eq word (codes "lookup") then Some Lookup
     else if bytes_eq word (codes "--help") then Some Help
     else if bytes_eq word (codes "--version") then Some Version
     else None
@@ -32,6 +34,10 @@ abbrev pub key_word : Key → List ℕ
 key_word Spef = codes "--spef"
 key_word Triple = codes "--triple"
 key_word Sdf = codes "--sdf"
+key_word Lib = codes "--lib"
+key_word Cell = codes "--cell"
+key_word Slew = codes "--slew"
+key_word Load = codes "--load"
 
 -- the key that a word names
 abbrev pub key_of : List ℕ → Option Key
@@ -39,19 +45,21 @@ key_of word =
     if bytes_eq word (codes "--spef") then Some Spef
     else if bytes_eq word (codes "--triple") then Some Triple
     else if bytes_eq word (codes "--sdf") then Some Sdf
+    else if bytes_eq word (codes "--lib") then Some Lib
+    else if bytes_eq word (codes "--cell") then Some Cell
+    else if bytes_eq word (codes "--slew") then Some Slew
+    else if bytes_eq word (codes "--load") then Some Load
     else None
 
--- two keys are one key
+-- two keys are one key, which has one word
 abbrev pub same_key : Key → Key → Bool
-same_key Spef Spef = true
-same_key Triple Triple = true
-same_key Sdf Sdf = true
-same_key _ _ = false
+same_key one other = bytes_eq (key_word one) (key_word other)
 
 -- the keys that a command needs, in the order in which a missing one is named
 abbrev pub needed_keys : Command → List Key
 needed_keys Wires = Spef ∷ []
 needed_keys Show = Sdf ∷ []
+needed_keys Lookup = Lib ∷ Cell ∷ Slew ∷ Load ∷ []
 needed_keys Help = []
 needed_keys Version = []
 
@@ -59,6 +67,7 @@ needed_keys Version = []
 abbrev pub further_keys : Command → List Key
 further_keys Wires = Triple ∷ []
 further_keys Show = []
+further_keys Lookup = []
 further_keys Help = []
 further_keys Version = []
 
@@ -78,11 +87,22 @@ abbrev pub is_filled : List ℕ → Bool
 is_filled [] = false
 is_filled (b ∷ bytes) = true
 
--- a value has the form that its key wants: a file's name is a text that is not empty, and a member of a triple has its word
-abbrev pub is_value : Key → List ℕ → Bool
-is_value Spef value = is_filled value
-is_value Triple value = is_some (pick_of value)
-is_value Sdf value = is_filled value
+-- the values of a key are decimals
+abbrev pub is_decimal : Key → Bool
+is_decimal Slew = true
+is_decimal Load = true
+is_decimal _ = false
+
+-- A value has the form that its key wants: the name of a file or of a cell is a text that is not empty, a member of a triple has its word, and a
+-- decimal reads as grains.
+abbrev pub IsValue : Key → List ℕ → Type 0
+IsValue Spef value = IsTrue (is_filled value)
+IsValue Triple value = IsTrue (is_some (pick_of value))
+IsValue Sdf value = IsTrue (is_filled value)
+IsValue Lib value = IsTrue (is_filled value)
+IsValue Cell value = IsTrue (is_filled value)
+IsValue Slew value = (grains : ℕ) × IsGrains value grains
+IsValue Load value = (grains : ℕ) × IsGrains value grains
 
 -- a key stands among these
 abbrev pub is_given : List Given → Key → Bool
@@ -104,12 +124,6 @@ fault_at kind place = record { kind = kind; place = place; key = None }
 abbrev pub missing_key : Key → UsageFault
 missing_key key = record { kind = MissingKey; place = 0; key = Some (key_word key) }
 
--- one step after another, up to the first fault
-infixl 10 ◌>>=◌
-abbrev pub ◌>>=◌ : {A B E : Type 0} → Result A E → (A → Result B E) → Result B E
-Ok a >>= f = f a
-Err e >>= f = Err e
-
 -- the key that a word names is one of the command's, and does not stand yet
 abbrev pub new_key : Command → List Given → ℕ → Option Key → Result Key UsageFault
 new_key command given place None = Err (fault_at UnknownWord place)
@@ -117,43 +131,53 @@ new_key command given place (Some key) =
     if takes_key command key then (if is_given given key then Err (fault_at Repeated place) else Ok key)
     else Err (fault_at UnknownWord place)
 
--- the key and its value, where the value has the key's form
-abbrev pub good_value : Key → ℕ → List ℕ → Result Given UsageFault
-good_value key place value =
-    if is_value key value then Ok (record { key = key; value = value }) else Err (fault_at BadValue place)
+-- The pairs of the words from a place on, behind those that are given, or their first fault: at a key first an unknown word, then a repeated
+-- key, then a missing value; and then a bad value at the value.
+pub data PairsFrom (command : Command) : List Given → ℕ → List (List ℕ) → Result (List Given) UsageFault → Type 0 where
+  no_more : {given : List Given} {place : ℕ} → PairsFrom command given place [] (Ok given)
+  bad_key : {given : List Given} {place : ℕ} {word : List ℕ} {rest : List (List ℕ)} {fault : UsageFault} → new_key command given place (key_of word) ≡ Err fault → PairsFrom command given place (word ∷ rest) (Err fault)
+  no_value : {given : List Given} {place : ℕ} {word : List ℕ} {key : Key} → new_key command given place (key_of word) ≡ Ok key → PairsFrom command given place (word ∷ []) (Err (fault_at MissingValue place))
+  bad_value : {given : List Given} {place : ℕ} {word value : List ℕ} {rest : List (List ℕ)} {key : Key}
+      → new_key command given place (key_of word) ≡ Ok key → ¬ IsValue key value → PairsFrom command given place (word ∷ value ∷ rest) (Err (fault_at BadValue (place + 1)))
+  and_pair : {given : List Given} {place : ℕ} {word value : List ℕ} {rest : List (List ℕ)} {key : Key} {answer : Result (List Given) UsageFault}
+      → new_key command given place (key_of word) ≡ Ok key → IsValue key value → PairsFrom command (given ++ record { key = key; value = value } ∷ []) (place + 2) rest answer
+      → PairsFrom command given place (word ∷ value ∷ rest) answer
 
--- the pairs of the words from `place` on, where `given` stand before them: at a key first an unknown word, then a repeated
--- key, then a missing value; and then a bad value at the value
-abbrev pub pairs_from : Command → List Given → ℕ → List (List ℕ) → Result (List Given) UsageFault
-pairs_from command given place [] = Ok given
-pairs_from command given place (word ∷ []) = do
-  key ← new_key command given place (key_of word)
-  Err (fault_at MissingValue place)
-pairs_from command given place (word ∷ value ∷ rest) = do
-  key ← new_key command given place (key_of word)
-  pair ← good_value key (place + 1) value
-  pairs_from command (given ++ pair ∷ []) (place + 2) rest
-
--- every key that the command needs stands, or the first that does not is the fault
-abbrev pub complete : Command → List Given → Option Key → Result Request UsageFault
-complete command given None = Ok (record { command = command; given = given })
-complete command given (Some key) = Err (missing_key key)
-
--- the pairs after the command
-abbrev pub request_for : Option Command → List (List ℕ) → Result Request UsageFault
-request_for None words = Err (fault_at UnknownCommand 1)
-request_for (Some command) words = do
-  given ← pairs_from command [] 2 words
-  complete command given (first_missing command given)
+-- What the words after the command ask for, or their first fault: that of a pair, and then the first needed key that does not stand.
+pub data AsksFor (command : Command) (words : List (List ℕ)) : Result Request UsageFault → Type 0 where
+  bad_pair : {fault : UsageFault} → PairsFrom command [] 2 words (Err fault) → AsksFor command words (Err fault)
+  no_key : {given : List Given} {key : Key} → PairsFrom command [] 2 words (Ok given) → first_missing command given ≡ Some key → AsksFor command words (Err (missing_key key))
+  with_keys : {given : List Given} → PairsFrom command [] 2 words (Ok given) → first_missing command given ≡ None → AsksFor command words (Ok (record { command = command; given = given }))
 
 -- what the words ask for, or their first fault
-abbrev pub request_of : List (List ℕ) → Result Request UsageFault
-request_of [] = Err (fault_at NoCommand 1)
-request_of (word ∷ words) = request_for (command_of word) words
+pub data Asks : List (List ℕ) → Result Request UsageFault → Type 0 where
+  no_command : Asks [] (Err (fault_at NoCommand 1))
+  unknown_command : {word : List ℕ} {words : List (List ℕ)} → command_of word ≡ None → Asks (word ∷ words) (Err (fault_at UnknownCommand 1))
+  for_command : {word : List ℕ} {words : List (List ℕ)} {command : Command} {answer : Result Request UsageFault} → command_of word ≡ Some command → AsksFor command words answer → Asks (word ∷ words) answer
+
+-- every key that the command needs stands, and each value has the form that its key wants
+pub record IsWhole (request : Request) : Type 0 where
+  pub complete : first_missing request.command request.given ≡ None
+  pub formed : All (λ pair. IsValue pair.key pair.value) request.given
+
+-- the pair of the key that this word names, where it stands
+abbrev pub pair_at : List Given → List ℕ → Option Given
+pair_at given word = find (λ g. bytes_eq (key_word g.key) word) given
+
+-- the value of a decimal key that stands, in grains
+pub record HasGrains (given : List Given) (word : List ℕ) (grains : ℕ) : Type 0 where
+  pub pair : Given
+  pub stands : pair_at given word ≡ Some pair
+  pub decimal : IsTrue (is_decimal pair.key)
+  pub reads : IsGrains pair.value grains
+
+-- no decimal key that this word names stands
+abbrev pub HasNoGrains : List Given → List ℕ → Type 0
+HasNoGrains given word = (pair : Given) → pair_at given word ≡ Some pair → is_decimal pair.key ≡ false
 
 -- the value of the key that this word names, where it stands
 abbrev pub value_at : List Given → List ℕ → Option (List ℕ)
-value_at given word = option_map (λ g. g.value) (find (λ g. bytes_eq (key_word g.key) word) given)
+value_at given word = option_map (λ g. g.value) (pair_at given word)
 
 -- the value of a pair that was found
 abbrev pub value_in : Option Given → List ℕ

@@ -3,19 +3,20 @@
 use Rattle.std.specs.Prelude.{ℕ, List, [], ◌∷◌, ◌++◌, codes}
 use Rattle.std.specs.List.{flat_map}
 use Rattle.gdc_words.specs.declared.commands.Command.{Command}
-use Rattle.gdc_words.specs.declared.commands.Command.TheVariants.{Wires, Show, Help, Version}
+use Rattle.gdc_words.specs.declared.commands.Command.TheVariants.{Wires, Show, Lookup, Help, Version}
 use Rattle.gdc_words.specs.declared.commands.Key.{Key}
-use Rattle.gdc_words.specs.declared.commands.Key.TheVariants.{Spef, Triple, Sdf}
+use Rattle.gdc_words.specs.declared.commands.Key.TheVariants.{Spef, Triple, Sdf, Lib, Cell, Slew, Load}
 use Rattle.gdc_words.specs.CommandLine.{key_word, needed_keys, further_keys}
 
 -- the commands, in the order in which they are told
 abbrev pub commands : List Command
-commands = Wires ∷ Show ∷ Help ∷ Version ∷ []
+commands = Wires ∷ Show ∷ Lookup ∷ Help ∷ Version ∷ []
 
 -- the word of a command
 abbrev pub command_word : Command → List ℕ
 command_word Wires = codes "wires"
 command_word Show = codes "show"
+command_word Lookup = codes "lookup"
 command_word Help = codes "--help"
 command_word Version = codes "--version"
 
@@ -24,11 +25,16 @@ abbrev pub value_word : Key → List ℕ
 value_word Spef = codes "FILE"
 value_word Triple = codes "min|typ|max"
 value_word Sdf = codes "FILE"
+value_word Lib = codes "FILE"
+value_word Cell = codes "CELL"
+value_word Slew = codes "PICOSECONDS"
+value_word Load = codes "FEMTOFARADS"
 
 -- what a command does
 abbrev pub purpose : Command → List ℕ
 purpose Wires = codes "writes the delays of the wires of a SPEF file as SDF"
 purpose Show = codes "prints the rows of an SDF file, and their summary"
+purpose Lookup = codes "prints the delay and the transition of each arc of a cell of a Liberty library, at one slew and one load"
 purpose Help = codes "prints this text"
 purpose Version = codes "prints the version"
 
@@ -63,7 +69,7 @@ status_lines =
 -- what `--help` prints
 abbrev pub help_text : List ℕ
 help_text =
-    line (codes "gdc computes the delays of wires for chip sign-off, from SPEF to SDF.")
+    line (codes "gdc computes delays for chip sign-off: of wires, from SPEF to SDF, and of cells, from Liberty.")
     ++ (line (codes "Commands, each with its keys:")
     ++ (flat_map command_lines commands ++ status_lines))
 

@@ -1,3 +1,4 @@
 pub mod CommandLine
+pub mod Decimals
 pub mod HelpText
 pub mod WordsEnds

@@ -1,9 +1,11 @@
 //! What the words ask for.
-ghost use Rattle.std.specs.Prelude.{◌≡◌, IsTrue, option_copied, option_map};
+ghost use Rattle.std.specs.Prelude.{◌≡◌, IsTrue, IfSome, IfNone, option_copied, option_map};
 ghost use Rattle.std.specs.List.{find};
-ghost use Rattle.gdc_words.specs.CommandLine.{same_key, needs_key, is_given, first_missing, value_of, value_at, pick_from};
+ghost use Rattle.gdc_words.specs.CommandLine.{same_key, needs_key, is_given, first_missing, value_of, value_at, pair_at, is_decimal, IsValue, HasGrains, HasNoGrains, pick_from};
+ghost use Rattle.gdc_words.specs.Decimals.{IsGrains};
 
 use crate::commands::{Command, Key, pick_of};
+use crate::decimals::grains_of;
 use corner_set::Pick;
 use edge_io::Text;
 use std::marker::Model;
@@ -29,6 +31,13 @@ fn pair_of(given: &[Given], key: Key) -> Option<&Given>
     given.iter().find(|pair| pair.key == key)
 }
 
+/// The pair of the key that has this word, where it stands.
+fn pair_at<'a>(given: &'a [Given], word: &[u8]) -> Option<&'a Given>
+    ensures { option_copied result ≡ pair_at given.now word.now }
+{
+    given.iter().find(|pair| pair.key.word() == word)
+}
+
 /// The first needed key that does not stand.
 pub(crate) fn first_missing(command: Command, given: &[Given]) -> Option<Key>
     ensures { result ≡ first_missing command given.now }
@@ -40,7 +49,8 @@ pub(crate) fn first_missing(command: Command, given: &[Given]) -> Option<Key>
         .find(|key| !stands(given, *key))
 }
 
-/// What the words ask for: a command, and each key that stands with its value. Every key that the command needs stands.
+/// What the words ask for: a command, and each key that stands with its value. Every key that the command needs stands, and each
+/// value has the form that its key wants.
 #[derive(Debug, Drop)]
 pub struct Asked {
     pub(crate) command: Command,
@@ -48,14 +58,13 @@ pub struct Asked {
 }
 
 impl Model for Asked {
-    ghost use Rattle.std.specs.Prelude.{◌≡◌, None};
-    ghost use Rattle.gdc_words.specs.CommandLine.{Request, first_missing};
+    ghost use Rattle.gdc_words.specs.CommandLine.{Request, IsWhole};
 
     ghost Value = { Request };
 
     ghost view = { λ a. record { command = a.command; given = a.given.items } };
 
-    ghost invariant = { λ a. first_missing a.command a.given.items ≡ None };
+    ghost invariant = { λ a. IsWhole (record { command = a.command; given = a.given.items }) };
 }
 
 impl Asked {
@@ -70,17 +79,41 @@ impl Asked {
     pub fn value(&self, key: &[u8]) -> Option<&Text>
         ensures { option_copied result ≡ value_at self.now.given key.now }
     {
-        let found = self.given.iter().find(|pair| pair.key.word() == key);
-        found.map(|pair| &pair.value)
+        pair_at(&self.given, key).map(|pair| &pair.value)
     }
 
     /// The value of a key that the command needs.
     pub fn needed(&self, key: Key) -> &Text
         requires { IsTrue (needs_key self.now.command key) }
-        ensures { result.now ≡ value_of self.now.given key }
+        ensures value { result.now ≡ value_of self.now.given key }
+        ensures formed { IsValue key result.now }
     {
         match pair_of(&self.given, key) {
             Some(pair) => &pair.value,
+            None => unreachable!(),
+        }
+    }
+
+    /// The grains of a decimal key that stands: attoseconds of `--slew`, 10^-21 F of `--load`, each rounded half up. None for another key,
+    /// and for one that does not stand.
+    pub fn grains(&self, key: &[u8]) -> Option<u64>
+        ensures some { IfSome result (HasGrains self.now.given key.now) }
+        ensures none { IfNone result (HasNoGrains self.now.given key.now) }
+    {
+        match pair_at(&self.given, key) {
+            Some(pair) if pair.key.is_decimal() => grains_of(pair.value.bytes()),
+            _ => None,
+        }
+    }
+
+    /// The grains of a decimal key that the command needs.
+    pub fn needed_grains(&self, key: Key) -> u64
+        requires needed { IsTrue (needs_key self.now.command key) }
+        requires decimal { IsTrue (is_decimal key) }
+        ensures { IsGrains (value_of self.now.given key) result }
+    {
+        match grains_of(self.needed(key).bytes()) {
+            Some(grains) => grains,
             None => unreachable!(),
         }
     }

@@ -6,12 +6,14 @@ ghost use Rattle.gdc_words.specs.HelpText as texts;
 pub fn help_text() -> &'static [u8]
     ensures { result.now ≡ texts.help_text }
 {
-    b"gdc computes the delays of wires for chip sign-off, from SPEF to SDF.
+    b"gdc computes delays for chip sign-off: of wires, from SPEF to SDF, and of cells, from Liberty.
 Commands, each with its keys:
   wires --spef FILE [--triple min|typ|max]
       writes the delays of the wires of a SPEF file as SDF
   show --sdf FILE
       prints the rows of an SDF file, and their summary
+  lookup --lib FILE --cell CELL --slew PICOSECONDS --load FEMTOFARADS
+      prints the delay and the transition of each arc of a cell of a Liberty library, at one slew and one load
   --help
       prints this text
   --version

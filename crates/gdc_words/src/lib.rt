@@ -4,6 +4,7 @@
 
 mod asked;
 mod commands;
+mod decimals;
 mod faults;
 mod help;
 mod reading;

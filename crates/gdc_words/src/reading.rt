@@ -1,7 +1,8 @@
 //! Reading the words.
-ghost use Rattle.std.specs.Prelude.{◌≡◌, MatchResult, Some, Ok, []};
-ghost use Rattle.gdc_words.specs.WordsEnds.{FaultsWith};
-ghost use Rattle.gdc_words.specs.CommandLine.{key_of, new_key, good_value, pairs_from, request_for, request_of};
+ghost use Rattle.std.specs.Prelude.{◌≡◌, Result, IfOk, IfErr, Ok, []};
+ghost use Rattle.gdc_words.specs.WordsEnds.{IsValueEnd, FaultOf, Answers};
+ghost use Rattle.gdc_words.specs.CommandLine.{Request, key_of, new_key, IsValue, PairsFrom, AsksFor, Asks};
+ghost use Rattle.gdc_words.specs.declared.faults.UsageFault.{UsageFault};
 
 use crate::asked::{Asked, Given, first_missing, stands};
 use crate::commands::{Command, Key};
@@ -41,7 +42,8 @@ fn new_key(command: Command, given: &[Given], place: usize, word: &[u8]) -> Resu
 
 /// The key and its value, where the value has the key's form.
 fn good_value(alloc: Global, key: Key, place: usize, value: &[u8]) -> Result<Given, WordsEnd>
-    ensures { MatchResult result (λ pair. good_value key place value.now ≡ Ok pair) (λ end. FaultsWith (good_value key place value.now) end) }
+    ensures ok { IfOk result (λ pair. (pair ≡ record { key = key; value = value.now }) × IsValue key value.now) }
+    ensures err { IfErr result (IsValueEnd key place value.now) }
 {
     if !key.is_value(value) {
         return Err(WordsEnd::Usage(fault_at(UsageKind::BadValue, place)));
@@ -52,7 +54,8 @@ fn good_value(alloc: Global, key: Key, place: usize, value: &[u8]) -> Result<Giv
 
 /// The pairs after the command.
 fn read_pairs(alloc: Global, command: Command, words: &[Text]) -> Result<Vec<Given>, WordsEnd>
-    ensures { MatchResult result (λ given. pairs_from command [] 2 words.now ≡ Ok given.items) (λ end. FaultsWith (pairs_from command [] 2 words.now) end) }
+    ensures ok { IfOk result (λ given. PairsFrom command [] 2 words.now (Ok given.items)) }
+    ensures err { IfErr result (FaultOf (PairsFrom command [] 2 words.now)) }
 {
     let mut given = Vec::new(alloc);
     let mut place = 2;
@@ -64,16 +67,19 @@ fn read_pairs(alloc: Global, command: Command, words: &[Text]) -> Result<Vec<Giv
         place += 2;
         rest = after;
     }
-    if let [word] = rest {
-        let _key = new_key(command, &given, place, word.bytes())?;
-        return Err(WordsEnd::Usage(fault_at(UsageKind::MissingValue, place)));
+    match rest {
+        [] => Ok(given),
+        [word, ..] => {
+            let _key = new_key(command, &given, place, word.bytes())?;
+            Err(WordsEnd::Usage(fault_at(UsageKind::MissingValue, place)))
+        }
     }
-    Ok(given)
 }
 
 /// What the words after the command ask for.
 fn read_request(alloc: Global, command: Command, words: &[Text]) -> Result<Asked, WordsEnd>
-    ensures { MatchResult result (λ asked. request_for (Some command) words.now ≡ Ok asked) (λ end. FaultsWith (request_for (Some command) words.now) end) }
+    ensures ok { IfOk result (λ asked. AsksFor command words.now (Ok asked)) }
+    ensures err { IfErr result (FaultOf (AsksFor command words.now)) }
 {
     let given = read_pairs(alloc, command, words)?;
     match first_missing(command, &given) {
@@ -91,7 +97,10 @@ fn read_request(alloc: Global, command: Command, words: &[Text]) -> Result<Asked
 
 /// What the words ask for, or their first fault.
 pub fn read_words(alloc: Global, words: &Words) -> Result<Asked, WordsEnd>
-    ensures { MatchResult result (λ asked. request_of words.now ≡ Ok asked) (λ end. FaultsWith (request_of words.now) end) }
+    ensures ok { IfOk result (λ asked. Asks words.now (Ok asked)) }
+    ensures err { IfErr result (FaultOf (Asks words.now)) }
+    // Words ask for one thing, or have one first fault.
+    ensures only { (answer : Result Request UsageFault) → Asks words.now answer → Answers result answer }
 {
     match words.as_slice() {
         [] => Err(WordsEnd::Usage(fault_at(UsageKind::NoCommand, 1))),

@@ -11,7 +11,7 @@ use std::process::Abort;
 use std::test::Fail;
 
 /// Words, one a line, with the kind and the place of their first fault.
-const FAULTS: [(&[u8], UsageKind, usize); 18] = [
+const FAULTS: [(&[u8], UsageKind, usize); 26] = [
     (b"", UsageKind::NoCommand, 1),
     (b"\n", UsageKind::UnknownCommand, 1),
     (b"wire\n", UsageKind::UnknownCommand, 1),
@@ -32,6 +32,14 @@ const FAULTS: [(&[u8], UsageKind, usize); 18] = [
     (b"show\n--spef\na\n", UsageKind::UnknownWord, 2),
     (b"show\n--sdf\n", UsageKind::MissingValue, 2),
     (b"show\n--sdf\n\n", UsageKind::BadValue, 3),
+    (b"lookup\n--slew\n1000000.000001\n", UsageKind::BadValue, 3),
+    (b"lookup\n--slew\n-1\n", UsageKind::BadValue, 3),
+    (b"lookup\n--slew\n1ps\n", UsageKind::BadValue, 3),
+    (b"lookup\n--load\n1e100\n", UsageKind::BadValue, 3),
+    (b"lookup\n--load\n--slew\n20\n", UsageKind::BadValue, 3),
+    (b"lookup\n--lib\n\n", UsageKind::BadValue, 3),
+    (b"lookup\n--cell\n\n", UsageKind::BadValue, 3),
+    (b"lookup\n--triple\nmax\n", UsageKind::UnknownWord, 2),
     (b"--help\nwires\n", UsageKind::UnknownWord, 2),
     (b"--version\n--help\n", UsageKind::UnknownWord, 2),
 ];
@@ -94,6 +102,13 @@ fn each_fault_comes_first(rt: HostRuntime) -> Result<(), Fail> {
     misses(&rt, alloc, b"wires\n", b"--spef")?;
     misses(&rt, alloc, b"wires\n--triple\nmin\n", b"--spef")?;
     misses(&rt, alloc, b"show\n", b"--sdf")?;
+    misses(&rt, alloc, b"lookup\n--slew\n1000000\n", b"--lib")?;
+    misses(
+        &rt,
+        alloc,
+        b"lookup\n--lib\na\n--slew\n1\n--load\n2\n",
+        b"--cell",
+    )?;
     Ok(())
 }
 
@@ -120,6 +135,40 @@ fn words_ask_for_a_command_and_values(rt: HostRuntime) -> Result<(), Fail> {
     Ok(())
 }
 
+/// Values of decimal keys, with the grains that they read as.
+const GRAINS: [(&[u8], u64); 8] = [
+    (b"0", 0),
+    (b"-0.0", 0),
+    (b"20", 20_000_000),
+    (b"+.5", 500_000),
+    (b"2.0000005", 2_000_001),
+    (b"-0.0000005", 0),
+    (b"1e6", 1_000_000_000_000),
+    (b"1000000.0000004", 1_000_000_000_000),
+];
+
+/// What the words of a look-up ask for, at this slew and at a load of 2 fF.
+fn asked_at(alloc: Global, slew: &[u8]) -> Result<Asked, OutOfMemory> {
+    let mut words = words_of(alloc, b"lookup\n--load\n2\n--lib\na.lib\n--cell\nINV\n")?;
+    words.push(Text::from_bytes(alloc, b"--slew")?)?;
+    words.push(Text::from_bytes(alloc, slew)?)?;
+    read_words(alloc, &words).map_err(|_| OutOfMemory)
+}
+
+#[test]
+fn decimals_are_grains(rt: HostRuntime) -> Result<(), Fail> {
+    let alloc = rt.alloc();
+    for row in &GRAINS {
+        let asked = asked_at(alloc, row.0)?;
+        assert_eq!(rt; asked.command(), Command::Lookup);
+        assert_eq!(rt; asked.grains(b"--slew"), Some(row.1));
+        assert_eq!(rt; asked.grains(b"--load"), Some(2_000_000));
+        assert_eq!(rt; asked.grains(b"--cell"), None);
+        assert_eq!(rt; asked.grains(b"--spef"), None);
+    }
+    Ok(())
+}
+
 #[test]
 fn help_and_version_are_commands(rt: HostRuntime) -> Result<(), Fail> {
     let alloc = rt.alloc();
@@ -128,7 +177,7 @@ fn help_and_version_are_commands(rt: HostRuntime) -> Result<(), Fail> {
         asked_by(alloc, b"--version\n")?.command(),
         Command::Version
     );
-    assert!(rt; help_text().starts_with(b"gdc computes the delays of wires"));
+    assert!(rt; help_text().starts_with(b"gdc computes delays for chip sign-off"));
     assert_eq!(rt; version_text(), b"gdc 1\n".as_slice());
     Ok(())
 }

@@ -1,0 +1,17 @@
+-- A decimal has its form exactly where grains are found.
+use Rattle.gdc_words.proofs.Grains.{some_grains, grains_found}
+use Rattle.gdc_words.proofs.commands.Key.is_value.Goals as goal
+
+pub returns-in-Slew : goal.returns-in-Slew
+returns-in-Slew c =
+    rw (c.in-Slew.is, c.is_some-in-Slew.ensures) (
+      some_grains c.args.value.now c.grains_of.result c.grains_of.ensures.some c.grains_of.ensures.none,
+      grains_found c.args.value.now c.grains_of.result c.grains_of.ensures.some c.grains_of.ensures.none,
+    )
+
+pub returns-in-Load : goal.returns-in-Load
+returns-in-Load c =
+    rw (c.in-Load.is, c.is_some-in-Load.ensures) (
+      some_grains c.args.value.now c.grains_of-in-Load.result c.grains_of-in-Load.ensures.some c.grains_of-in-Load.ensures.none,
+      grains_found c.args.value.now c.grains_of-in-Load.result c.grains_of-in-Load.ensures.some c.grains_of-in-Load.ensures.none,
+    )
