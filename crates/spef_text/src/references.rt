@@ -103,6 +103,29 @@ fn mapped_node(
     }
 }
 
+// The place of the entry of an index where the indices are the numbers from 1 in their order, as extractors write them.
+fn place_in_order(digits: &[u8]) -> usize {
+    let mut number: usize = 0;
+    for digit in digits {
+        let value = digit.wrapping_sub(b'0') as usize;
+        number = number.wrapping_mul(10).wrapping_add(value);
+    }
+    number.wrapping_sub(1)
+}
+
+// The name of the entry at that place, if its index has these digits. This reads less than a look-up does.
+#[tactic(auto, using(crate::proofs::MapLemmas::contains_at))]
+fn name_in_order<'f>(file: &'f SpefFile<'_>, digits: &[u8]) -> Option<&'f [u8]>
+    ensures { IfSome result (λ name. IsMapped file.now digits.now name.now) }
+{
+    let entry = file.head.map().get(place_in_order(digits))?;
+    if index_digits(file.text_of(entry.index as u64)) == digits {
+        Some(file.text_of(entry.name as u64))
+    } else {
+        None
+    }
+}
+
 impl Head {
     // The name that an index stands for, if the map has it.
     fn name_of<'f>(&self, file: &'f SpefFile<'_>, index: &[u8]) -> Option<&'f [u8]>
@@ -110,6 +133,9 @@ impl Head {
         ensures mapped { IfSome result (λ name. IsMapped file.now (index_digits index.now) name.now) }
         ensures unknown { IfNone result ((name : List ℕ) → IsMapped file.now (index_digits index.now) name → ⊥) }
     {
+        if let Some(name) = name_in_order(file, index_digits(index)) {
+            return Some(name);
+        }
         let id = self.indices.find(index_digits(index))?;
         let entry = file.head.map()[id.0 as usize];
         Some(file.text_of(entry.name as u64))
