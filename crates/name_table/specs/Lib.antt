@@ -4,3 +4,4 @@ pub mod SdfNames
 pub mod SpefNames
 pub mod Staying
 pub mod WellSpelled
+pub mod WrittenNames

@@ -145,8 +145,8 @@ fn stayed_halves(alloc: Global, front: &[u8], back: &[u8]) -> Result<NodeName, O
     })
 }
 
-// Whether each byte of a word stands as it is.
-fn all_stay(marks: &SpefMarks, word: &[u8]) -> bool
+/// Whether each byte of a word stands as it is.
+pub(crate) fn all_stay(marks: &SpefMarks, word: &[u8]) -> bool
     ensures { result ≡ list_all (stays marks.now) word.now }
 {
     word.iter().all(|byte| stays(marks, *byte))
@@ -169,8 +169,8 @@ fn stays_as(mark: Option<u8>, byte: u8) -> bool
     }
 }
 
-// The place of the last unescaped delimiter, where the name is to be cut and has one.
-fn last_delimiter(word: &[u8], cut: bool, delimiter: u8) -> Option<usize>
+/// The place of the last unescaped delimiter, where the name is to be cut and has one.
+pub(crate) fn last_delimiter(word: &[u8], cut: bool, delimiter: u8) -> Option<usize>
     ensures none { IfNone result (halves_at delimiter cut (characters word.now) ≡ None) }
     ensures within { IfSome result (λ place. place < length word.now) }
     ensures some { IfSome result (λ place. halves_at delimiter cut (characters word.now) ≡ Some (record { front = characters (take place word.now); back = characters (drop (place + 1) word.now) })) }

@@ -1,5 +1,5 @@
 //! Outside values: names in SPEF and SDF with what they stand for, and a table of names.
-use crate::{Names, SpefMarks, canonical_sdf, escape_sdf, read_spef_node};
+use crate::{Names, SpefMarks, canonical_sdf, escape_sdf, read_spef_node, written_name};
 use edge_io::Text;
 use std::test::Fail;
 
@@ -167,6 +167,34 @@ fn nodes_of_spef_are_read(rt: HostRuntime) -> Result<(), Fail> {
         assert_eq!(rt; node.head.bytes(), head, "{word:?}");
         assert!(rt; is_tail(&node.tail, tail), "{word:?}");
         assert_eq!(rt; node.sdf.bytes(), sdf, "{word:?}");
+    }
+    Ok(())
+}
+
+/// Names that stand as they are written, whether to cut them, and their parts.
+const WRITTEN: [(&[u8], bool, &[u8], Option<&[u8]>); 4] = [
+    (b"u1/g[3]:A", true, b"u1/g[3]", Some(b"A")),
+    (b"n_1", true, b"n_1", None),
+    (b":a", true, b"", Some(b"a")),
+    (b"u1/g", false, b"u1/g", None),
+];
+
+/// Names of which some byte means another, or is spelled otherwise in SDF.
+const OTHERWISE: [(SpefMarks, bool, &[u8]); 4] = [
+    (USUAL, true, b"u1/g\\[3\\]:A"),
+    (USUAL, false, b"n:1"),
+    (USUAL, true, b"a:b:c"),
+    (ANGLES, true, b"u.g<3>|Q"),
+];
+
+#[test]
+fn names_that_stand_as_written_are_parted(rt: HostRuntime) -> Result<(), Fail> {
+    for (word, cut, head, tail) in WRITTEN {
+        let found = written_name(word, cut, &USUAL).map(|name| (name.head, name.tail));
+        assert!(rt; found == Some((head, tail)), "{word:?}");
+    }
+    for (marks, cut, word) in OTHERWISE {
+        assert!(rt; written_name(word, cut, &marks).is_none(), "{word:?}");
     }
     Ok(())
 }
