@@ -1,16 +1,19 @@
 -- What a reference names, from the steps of finding it.
-use Rattle.std.proofs.Common.{◌≡◌, ℕ, ◌<◌, Bool, true, false, List, [], length, get_or, Option, Result, Ok, IfOk, sym, ap, ◌∙◌, arith, subst, ⊎_elim, true≢false}
+use Rattle.std.proofs.Common.{◌≡◌, ℕ, ◌<◌, Bool, true, false, List, [], length, get_or, Option, Some, None, Result, Ok, IfOk, refl, sym, ap, ◌∙◌, arith, subst, ⊎_elim, true≢false}
 use Rattle.std.proofs.lemmas.Bool.{cases_lt}
 use Rattle.std.proofs.lemmas.List.{get_or-map, length-map}
 use Rattle.std.proofs.lemmas.Option.{slice_get-get_or, get_or_from_slice_get}
 use Rattle.std.specs.List.{Contains}
+use Rattle.std.specs.Option.{IfSome}
 use Rattle.name_table.specs.Names.{AreDistinct}
 use Rattle.name_table.specs.SpefNames.{node_name}
+use Rattle.name_table.specs.WrittenNames.{IsWritten}
 use Rattle.name_table.specs.declared.spef_names.NodeName.{NodeName}
+use Rattle.name_table.specs.declared.written_names.WrittenName.{WrittenName}
 use Rattle.spef_text.specs.Classes.{index_digits}
 use Rattle.spef_text.specs.SpefFiles.{SpefText}
 use Rattle.spef_text.specs.Heads.{text_of, digits_of, indices_of}
-use Rattle.spef_text.specs.References.{marks_of, is_starred, index_end, before, digits_in, mapped_node, IsMapped, IsNodeOf, plain, mapped, IsUnknown}
+use Rattle.spef_text.specs.References.{marks_of, is_starred, index_end, before, digits_in, mapped_node, IsMapped, IsNodeOf, plain, mapped, NamesAsWritten, IsUnknown}
 use Rattle.spef_text.specs.declared.entries.MapEntry.{MapEntry}
 
 pub in_ok : {A E : Type 0} (P : A → Type 0) (r : Result A E) (x : A) → r ≡ Ok x → IfOk r P → P x
@@ -77,3 +80,14 @@ one_node file cut word node other distinct (mapped name p has is) (mapped second
 pub names_nothing : (file : SpefText) (cut : Bool) (word : List ℕ) (node : NodeName) → IsUnknown file word → IsNodeOf file cut word node → ⊥
 names_nothing file cut word node unknown (plain p is) = true≢false (sym unknown.starred ∙ p)
 names_nothing file cut word node unknown (mapped name p has is) = unknown.unmapped name has
+
+-- a word whose index stands for a name, where the parts of the node stand as they are written
+pub written_named : (file : SpefText) (word text index name : List ℕ) (end : Option ℕ) (result : Option WrittenName) → word ≡ text → is_starred word ≡ true
+    → end ≡ index_end file.reading.head.marks.delimiter word → index ≡ before end word → IsMapped file (index_digits index) name
+    → IfSome result (IsWritten (mapped_node (marks_of file) true name word end)) → IfSome result (NamesAsWritten file text)
+written_named file word text index name end None w starred e i has is = is
+written_named file word text index name end (Some written) w starred e i has is = record {
+  node = mapped_node (marks_of file) true name word end;
+  names = mapped_named file true word text index name end (mapped_node (marks_of file) true name word end) w starred e i has refl;
+  written = is;
+}

@@ -2,8 +2,10 @@
 use Rattle.std.specs.Prelude.{◌≡◌, ℕ, ◌+◌, ◌==◌, Bool, true, false, List, ◌++◌, take, drop, position, Contains, Option, Some, None, ⊤}
 use Rattle.name_table.specs.Characters.{characters}
 use Rattle.name_table.specs.SpefNames.{whole_node, cut_node, node_name}
+use Rattle.name_table.specs.WrittenNames.{IsWritten}
 use Rattle.name_table.specs.declared.spef_names.SpefMarks.{SpefMarks}
 use Rattle.name_table.specs.declared.spef_names.NodeName.{NodeName}
+use Rattle.name_table.specs.declared.written_names.WrittenName.{WrittenName}
 use Rattle.spef_text.specs.Tokens.{begins_with}
 use Rattle.spef_text.specs.Classes.{index_digits}
 use Rattle.spef_text.specs.SpefFiles.{SpefText}
@@ -56,6 +58,12 @@ pub data IsNodeOf (file : SpefText) (cut : Bool) (word : List ℕ) (node : NodeN
       → IsMapped file (digits_in file.reading.head.marks.delimiter word) name
       → node ≡ mapped_node (marks_of file) cut name word (index_end file.reading.head.marks.delimiter word)
       → IsNodeOf file cut word node
+
+-- the word names a node whose head and tail stand in the file as they are written
+pub record NamesAsWritten (file : SpefText) (word : List ℕ) (name : WrittenName) : Type 0 where
+  pub node : NodeName
+  pub names : IsNodeOf file true word node
+  pub written : IsWritten node name
 
 -- the word begins with an index that the map does not have
 pub record IsUnknown (file : SpefText) (word : List ℕ) : Type 0 where

@@ -1,17 +1,21 @@
 //! What a reference names: a node or a net.
-ghost use Rattle.std.specs.Prelude.{◌≡◌, ℕ, ◌<◌, ◌++◌, List, length, IfOk, IfErr, IfSome, IfNone, MatchResult};
+ghost use Rattle.std.specs.Prelude.{◌≡◌, ℕ, ◌<◌, ◌++◌, true, List, length, IfOk, IfErr, IfSome, IfNone, MatchResult};
 ghost use Rattle.spef_text.specs.Heads.{text_of, IsHeadOf};
 ghost use Rattle.spef_text.specs.Classes.{index_digits};
-ghost use Rattle.spef_text.specs.References.{is_starred, marks_of, index_end, before, mapped_node, IsMapped, IsNodeOf, IsResolveEnd};
+ghost use Rattle.spef_text.specs.References.{is_starred, marks_of, index_end, before, mapped_node, IsMapped, IsNodeOf, NamesAsWritten, IsResolveEnd};
 ghost use Rattle.name_table.specs.Characters.{characters};
 ghost use Rattle.name_table.specs.SpefNames.{whole_node};
+ghost use Rattle.name_table.specs.WrittenNames.{IsWritten};
 ghost use Rattle.name_table.specs.declared.spef_names.NodeName.{NodeName};
 
 use crate::classes::index_digits;
 use crate::file::SpefFile;
 use crate::head::Head;
 use edge_io::{OutOfMemory, Text};
-use name_table::{NodeName, SpefMarks, cut_node, read_spef_node};
+use name_table::{
+    NodeName, SpefMarks, WrittenName, cut_node, read_spef_node, written_halves, written_name,
+    written_whole,
+};
 use std::alloc::Global;
 
 /// Why a reference names nothing. Tokens count from 1.
@@ -103,6 +107,22 @@ fn mapped_node(
     }
 }
 
+// The same where the name stands as it is written, and so does what follows the index.
+fn written_mapped<'w>(
+    name: &'w [u8],
+    word: &'w [u8],
+    end: Option<usize>,
+    marks: &SpefMarks,
+) -> Option<WrittenName<'w>>
+    requires { IfSome end (λ place. place < length word.now) }
+    ensures { IfSome result (IsWritten (mapped_node marks.now true name.now word.now end)) }
+{
+    match end {
+        None => written_whole(name, marks),
+        Some(place) => written_halves(name, &word[place + 1..], marks),
+    }
+}
+
 // The place of the entry of an index where the indices are the numbers from 1 in their order, as extractors write them.
 fn place_in_order(digits: &[u8]) -> usize {
     let mut number: usize = 0;
@@ -178,5 +198,20 @@ impl Head {
             Ok(node) => Ok(node),
             Err(_) => Err(ResolveEnd::OutOfMemory),
         }
+    }
+    /// The head and the tail of the node that a token names, cut as [`resolve`](Head::resolve) cuts it, where both stand in the file as they
+    /// are written. Most do. It takes no memory, and at most one look-up in the map.
+    pub fn written<'f>(&self, file: &'f SpefFile<'_>, token: u64) -> Option<WrittenName<'f>>
+        requires { IsHeadOf file.now self.now }
+        ensures { IfSome result (NamesAsWritten file.now (text_of file.now token)) }
+    {
+        let word = file.text_of(token);
+        let marks = file.marks();
+        if !is_starred(word) {
+            return written_name(word, true, &marks);
+        }
+        let end = index_end(word, marks.delimiter);
+        let name = self.name_of(file, before(end, word))?;
+        written_mapped(name, word, end, &marks)
     }
 }
