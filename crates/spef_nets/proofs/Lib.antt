@@ -19,3 +19,4 @@ pub mod Samples
 pub mod ShortLemmas
 pub mod Stepping
 pub mod ValuePoints
+pub mod NodeNameLemmas

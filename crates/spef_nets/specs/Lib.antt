@@ -12,3 +12,5 @@ pub mod Drafts
 pub mod DraftOf
 pub mod ShortLiterals
 pub mod Reading
+pub mod NodeNames
+pub mod ElementsOf

@@ -7,6 +7,7 @@ ghost use Rattle.spef_nets.specs.Drafts.{Drafted, corners_of, AddsRow, no_draft,
 ghost use Rattle.spef_nets.specs.DraftOf.{drafted};
 
 use crate::amounts::Grains;
+use crate::elements::Elements;
 use crate::parts::{Ends, Listed};
 use crate::pushing::push;
 use crate::referred::Referred;
@@ -183,13 +184,15 @@ impl<'t> Draft<'t> {
         Section {
             net,
             nodes: refs.into_nodes(),
-            conns,
-            loads,
-            caps,
-            farads,
-            joints,
-            ohms,
-            written,
+            elements: Elements {
+                conns,
+                loads,
+                caps,
+                farads,
+                joints,
+                ohms,
+                written,
+            },
             corners: PhantomData,
         }
     }

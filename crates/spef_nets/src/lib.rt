@@ -4,10 +4,13 @@
 
 mod amounts;
 mod draft;
+mod elements;
 mod ends;
 mod laws;
 mod marks;
 mod name_hash;
+mod net;
+mod node_names;
 mod node_table;
 mod parts;
 mod pushing;
@@ -25,6 +28,7 @@ mod tests;
 
 pub use ends::SectionEnd;
 pub use laws::{computed_names, first_is_least, one_section_end};
+pub use net::Net;
 pub use parts::{Listed, Resistor};
 pub use reading::read_sections;
 pub use section::Section;

@@ -4,7 +4,10 @@ ghost use Rattle.corner_set.specs.Places.{value_at};
 ghost use Rattle.spef_nets.specs.NetElements.{NetElements, most_farads, most_ohms};
 ghost use Rattle.spef_nets.specs.Nodes.{AreDistinctNodes};
 
-use crate::parts::{Ends, Listed, Resistor};
+use crate::elements::Elements;
+use crate::net::Net;
+use crate::node_names::NodeNames;
+use crate::parts::{Listed, Resistor};
 use corner_set::CornerSet;
 use delay_units::{Farads, Ohms};
 use edge_io::{Steps, Text};
@@ -18,14 +21,7 @@ use std::sync::ledger::Ledger;
 pub struct Section<C: CornerSet> {
     pub(crate) net: Text,
     pub(crate) nodes: Vec<NodeName>,
-    pub(crate) conns: Vec<Listed>,
-    // values stand row after row, and in each row by corner
-    pub(crate) loads: Vec<Farads>,
-    pub(crate) caps: Vec<u32>,
-    pub(crate) farads: Vec<Farads>,
-    pub(crate) joints: Vec<Ends>,
-    pub(crate) ohms: Vec<Ohms>,
-    pub(crate) written: usize,
+    pub(crate) elements: Elements,
     pub(crate) corners: PhantomData<C>,
 }
 
@@ -35,13 +31,7 @@ impl<C: CornerSet> Drop for Section<C> {
         let Section {
             net: _,
             nodes: _,
-            conns: _,
-            loads: _,
-            caps: _,
-            farads: _,
-            joints: _,
-            ohms: _,
-            written: _,
+            elements: _,
             corners: _,
         } = self;
     }
@@ -49,12 +39,13 @@ impl<C: CornerSet> Drop for Section<C> {
 
 impl<C: CornerSet> Model for Section<C> {
     ghost use Rattle.spef_nets.specs.NetElements.{NetElements, AreWhole};
+    ghost use Rattle.spef_nets.specs.ElementsOf.{net_of};
 
     ghost Value = { NetElements };
 
-    ghost view = { λ s. record { net = s.net; nodes = s.nodes.items; conns = s.conns.items; loads = s.loads.items; caps = s.caps.items; farads = s.farads.items; joints = s.joints.items; ohms = s.ohms.items; written = s.written } };
+    ghost view = { λ s. net_of s.net s.nodes.items s.elements };
 
-    ghost invariant = { λ s. AreWhole C.COUNT (record { net = s.net; nodes = s.nodes.items; conns = s.conns.items; loads = s.loads.items; caps = s.caps.items; farads = s.farads.items; joints = s.joints.items; ohms = s.ohms.items; written = s.written }) };
+    ghost invariant = { λ s. AreWhole C.COUNT (net_of s.net s.nodes.items s.elements) };
 }
 
 impl<C: CornerSet> Section<C> {
@@ -65,13 +56,27 @@ impl<C: CornerSet> Section<C> {
         Section {
             net,
             nodes: Vec::new(alloc),
-            conns: Vec::new(alloc),
-            loads: Vec::new(alloc),
-            caps: Vec::new(alloc),
-            farads: Vec::new(alloc),
-            joints: Vec::new(alloc),
-            ohms: Vec::new(alloc),
-            written: 0,
+            elements: Elements {
+                conns: Vec::new(alloc),
+                loads: Vec::new(alloc),
+                caps: Vec::new(alloc),
+                farads: Vec::new(alloc),
+                joints: Vec::new(alloc),
+                ohms: Vec::new(alloc),
+                written: 0,
+            },
+            corners: PhantomData,
+        }
+    }
+
+    /// The net, with the names of its nodes at hand.
+    pub fn as_net(&self) -> Net<'_, '_, C>
+        ensures { result ≡ self.now }
+    {
+        Net {
+            net: &self.net,
+            names: NodeNames::Held(self.nodes.as_slice()),
+            elements: &self.elements,
             corners: PhantomData,
         }
     }
@@ -109,7 +114,7 @@ impl<C: CornerSet> Section<C> {
     pub fn conn_count(&self) -> usize
         ensures { result ≡ length self.now.conns }
     {
-        self.conns.len()
+        self.as_net().conn_count()
     }
 
     /// A connection, in the file's order. Each stands at another node.
@@ -118,7 +123,7 @@ impl<C: CornerSet> Section<C> {
         ensures conn { slice_get self.now.conns i ≡ Some result }
         ensures node { result.node < length self.now.nodes }
     {
-        self.conns[i]
+        self.as_net().conn(i)
     }
 
     /// The load of a connection at a corner, 0 where the file gives none.
@@ -127,14 +132,14 @@ impl<C: CornerSet> Section<C> {
         ensures load { value_at C.COUNT self.now.loads i (C.number_of corner) ≡ Some result }
         ensures most { result.0 ≤ most_farads }
     {
-        self.loads[i * C::COUNT + C::number(corner)]
+        self.as_net().conn_load(i, corner)
     }
 
     /// How many capacitances the section has as it is written, a coupling as one.
     pub fn written_caps(&self) -> usize
         ensures { result ≡ self.now.written }
     {
-        self.written
+        self.as_net().written_caps()
     }
 
     /// How many capacitances to ground there are, a coupling counted at each of its places that belongs: at most two.
@@ -142,7 +147,7 @@ impl<C: CornerSet> Section<C> {
         ensures count { result ≡ length self.now.caps }
         ensures most { result ≤ 2 * self.now.written }
     {
-        self.caps.len()
+        self.as_net().cap_count()
     }
 
     /// A capacitance to ground at a corner: its node and its value. It is one step.
@@ -159,18 +164,14 @@ impl<C: CornerSet> Section<C> {
         ensures most { result.1.0 ≤ most_farads }
         ensures step { steps.new ≡ steps.old + 1 }
     {
-        steps.tick();
-        (
-            self.caps[i] as usize,
-            self.farads[i * C::COUNT + C::number(corner)],
-        )
+        self.as_net().cap(i, corner, steps)
     }
 
     /// How many resistors there are.
     pub fn res_count(&self) -> usize
         ensures { result ≡ length self.now.joints }
     {
-        self.joints.len()
+        self.as_net().res_count()
     }
 
     /// A resistor at a corner, in the file's order. It is one step.
@@ -183,12 +184,6 @@ impl<C: CornerSet> Section<C> {
         ensures most { result.ohms.0 ≤ most_ohms }
         ensures step { steps.new ≡ steps.old + 1 }
     {
-        steps.tick();
-        let Ends { a, b } = self.joints[i];
-        Resistor {
-            a: a as usize,
-            b: b as usize,
-            ohms: self.ohms[i * C::COUNT + C::number(corner)],
-        }
+        self.as_net().res(i, corner, steps)
     }
 }

@@ -1,0 +1,22 @@
+-- The names of a net's nodes, as they are held or still to be made.
+use Rattle.std.specs.Prelude.{◌≡◌, ℕ, List, All, Some, ⊤}
+use Rattle.name_table.specs.declared.spef_names.NodeName.{NodeName}
+use Rattle.spef_text.specs.SpefFiles.{SpefText}
+use Rattle.spef_text.specs.Heads.{HeadText, IsHeadOf}
+use Rattle.spef_nets.specs.Nodes.{node_at, nodes_at}
+use Rattle.spef_nets.specs.declared.node_names.NodeNames.{NodeNames}
+use Rattle.spef_nets.specs.declared.node_names.NodeNames.TheVariants.{Held, Spelled}
+
+-- each of the tokens names a node of the file
+pub record AreSpelled (file : SpefText) (head : HeadText) (tokens : List ℕ) : Type 0 where
+  pub head_of_file : IsHeadOf file head
+  pub each : All (λ token. (node : NodeName) × (node_at file token ≡ Some node)) tokens
+
+abbrev pub AreNames : NodeNames → Type 0
+AreNames (Held names) = ⊤
+AreNames (Spelled spelled) = AreSpelled spelled.file.now spelled.head.now spelled.tokens.now
+
+-- the nodes, by their numbers
+abbrev pub nodes_in : NodeNames → List NodeName
+nodes_in (Held names) = names.now
+nodes_in (Spelled spelled) = nodes_at spelled.file.now spelled.tokens.now

@@ -1,0 +1,89 @@
+//! The names of a net's nodes, wherever they are.
+ghost use Rattle.std.specs.Prelude.{◌≡◌, ◌<◌, length, slice_get, Some, IfOk};
+ghost use Rattle.spef_nets.specs.Nodes.{nodes_at};
+ghost use Rattle.spef_nets.specs.NodeNames.{nodes_in, AreNames, AreSpelled};
+
+use edge_io::{OutOfMemory, Text};
+use name_table::NodeName;
+use spef_text::{Head, ResolveEnd, SpefFile};
+use std::alloc::Global;
+
+/// The names of a net's nodes by their numbers: held, or still to be made of the words of a file.
+#[derive(Clone, Copy)]
+pub enum NodeNames<'s, 'f> {
+    Held(&'s [NodeName]),
+    Spelled(Spelled<'s, 'f>),
+}
+
+/// The tokens where nodes stand first in a file, whose head this is.
+#[derive(Clone, Copy)]
+pub struct Spelled<'s, 'f> {
+    pub file: &'s SpefFile<'f>,
+    pub head: &'s Head,
+    pub tokens: &'s [u32],
+}
+
+impl<'s, 'f> Spelled<'s, 'f> {
+    // The name of a node.
+    fn name(&self, alloc: Global, node: usize) -> Result<NodeName, OutOfMemory>
+        requires spelled { AreSpelled self.now.file.now self.now.head.now self.now.tokens.now }
+        requires within { node < length self.now.tokens.now }
+        ensures { IfOk result (λ name. slice_get (nodes_at self.now.file.now self.now.tokens.now) node ≡ Some name) }
+    {
+        match self
+            .head
+            .resolve(alloc, self.file, self.tokens[node] as u64, true)
+        {
+            Ok(name) => Ok(name),
+            // each of these tokens names a node
+            Err(ResolveEnd::UnknownIndex { token: _ }) => unreachable!(),
+            Err(ResolveEnd::OutOfMemory) => Err(OutOfMemory),
+        }
+    }
+}
+
+/// A copy of a name.
+pub fn copy_name(alloc: Global, name: &NodeName) -> Result<NodeName, OutOfMemory>
+    ensures { IfOk result (λ copy. copy ≡ name.now) }
+{
+    let head = Text::from_bytes(alloc, name.head.bytes())?;
+    let tail = match &name.tail {
+        Some(tail) => Some(Text::from_bytes(alloc, tail.bytes())?),
+        None => None,
+    };
+    let sdf = Text::from_bytes(alloc, name.sdf.bytes())?;
+    Ok(NodeName { head, tail, sdf })
+}
+
+// A copy of a name that is held.
+fn held_name(alloc: Global, names: &[NodeName], node: usize) -> Result<NodeName, OutOfMemory>
+    requires { node < length names.now }
+    ensures { IfOk result (λ name. slice_get names.now node ≡ Some name) }
+{
+    copy_name(alloc, &names[node])
+}
+
+impl<'s, 'f> NodeNames<'s, 'f> {
+    /// How many nodes there are.
+    pub fn count(&self) -> usize
+        requires { AreNames self.now }
+        ensures { result ≡ length (nodes_in self.now) }
+    {
+        match self {
+            NodeNames::Held(names) => names.len(),
+            NodeNames::Spelled(spelled) => spelled.tokens.len(),
+        }
+    }
+
+    /// The name of a node.
+    pub fn name(&self, alloc: Global, node: usize) -> Result<NodeName, OutOfMemory>
+        requires names { AreNames self.now }
+        requires within { node < length (nodes_in self.now) }
+        ensures { IfOk result (λ name. slice_get (nodes_in self.now) node ≡ Some name) }
+    {
+        match self {
+            NodeNames::Held(names) => held_name(alloc, names, node),
+            NodeNames::Spelled(spelled) => spelled.name(alloc, node),
+        }
+    }
+}
