@@ -223,7 +223,8 @@ fn agrees<L: Ledger>(
         return false;
     }
     let mut steps = Steps::<L>::new(blank);
-    let Ok(arena) = build_listed(alloc, section, 0, &mut steps) else {
+    let net = section.as_net();
+    let Ok(arena) = build_listed(alloc, &net, 0, &mut steps) else {
         return false;
     };
     let Ok(mut delays) = Scratch::<Triple>::reserve(alloc, arena.len()) else {

@@ -4,7 +4,7 @@ ghost use Rattle.gdc.specs.WireNets.{drives, HasDriver};
 ghost use Rattle.gdc.specs.NetPins.{IsDriverEnd, IsNextDriver};
 
 use corner_set::Single;
-use spef_nets::{Listed, Section};
+use spef_nets::{Listed, Net};
 
 /// Why no connection drives a net alone.
 #[derive(Clone, Copy, Debug, PartialEq, Eq)]
@@ -38,7 +38,7 @@ fn next_driver(found: Option<usize>, place: usize, conn: Listed) -> Result<Optio
 }
 
 /// The place of the one connection that drives a net.
-pub fn driver_of(net: &Section<Single>) -> Result<usize, DriverEnd>
+pub fn driver_of(net: &Net<Single>) -> Result<usize, DriverEnd>
     ensures ok { IfOk result (HasDriver net.now) }
     ensures within { IfOk result (λ driver. driver < length net.now.conns) }
     ensures err { IfErr result (IsDriverEnd net.now) }

@@ -15,7 +15,7 @@ use edge_io::{OutOfMemory, Steps, Text};
 use elmore_pass::{elmore_into, sink_femto};
 use rc_tree::{ListedPins, RcTree, Scratch, TreeEnd, build_listed};
 use sdf_writer::Rows;
-use spef_nets::Section;
+use spef_nets::Net;
 use std::alloc::Global;
 use std::sync::ledger::Ledger;
 use verdict_phases::PureEnd;
@@ -28,11 +28,12 @@ fn put_delay(delay: &mut Grid<Single, Femto>, time: Femto)
     delay.set(0, (), time);
 }
 
-// Adds the row of the wire to a sink. The grid has one row, which is used anew.
+// Adds the row of the wire to a sink, from the driver as SDF spells it. The grid has one row, which is used anew.
 fn add_row<L: Ledger>(
     alloc: Global,
-    net: &Section<Single>,
+    net: &Net<Single>,
     pins: &ListedPins,
+    from: &Text,
     tree: &RcTree<Single>,
     delays: &Scratch<Single>,
     sink: usize,
@@ -40,7 +41,7 @@ fn add_row<L: Ledger>(
     rows: &mut Rows<Single>,
     steps: &mut Steps<L>,
 ) -> Result<(), OutOfMemory>
-    requires driver { pins.now.driver < length net.now.conns }
+    requires from { from.now ≡ (listed_pins 1 net.now pins.now.driver).driver.sdf }
     requires one_row { length delay.old ≡ 1 }
     requires delays { HasDelays tree.now delays.now }
     requires sinks { length tree.now.sinks ≡ length (listed_pins 1 net.now pins.now.driver).sinks }
@@ -52,15 +53,15 @@ fn add_row<L: Ledger>(
 {
     let elmore = delays.value(tree.sink(sink), (), steps);
     put_delay(delay, sink_femto(elmore));
-    let from = Text::from_bytes(alloc, pins.driver(net).sdf.bytes())?;
-    let to = Text::from_bytes(alloc, pins.sink(net, sink).sdf.bytes())?;
-    rows.add_wire(from, to, delay)
+    let from = Text::from_bytes(alloc, from.bytes())?;
+    let to = pins.sink_name(alloc, net, sink)?;
+    rows.add_wire(from, to.sdf, delay)
 }
 
 // Adds the rows of the wires to all sinks.
 fn add_rows<L: Ledger>(
     alloc: Global,
-    net: &Section<Single>,
+    net: &Net<Single>,
     pins: &ListedPins,
     tree: &RcTree<Single>,
     delays: &Scratch<Single>,
@@ -76,15 +77,27 @@ fn add_rows<L: Ledger>(
     ensures one_row { length delay.new ≡ 1 }
     ensures steps { steps.new ≤ steps.old + length (listed_pins 1 net.now pins.now.driver).sinks }
 {
+    let driver = pins.driver_name(alloc, net)?;
     for sink in 0..pins.len(net) {
-        add_row(alloc, net, pins, tree, delays, sink, delay, rows, steps)?;
+        add_row(
+            alloc,
+            net,
+            pins,
+            &driver.sdf,
+            tree,
+            delays,
+            sink,
+            delay,
+            rows,
+            steps,
+        )?;
     }
     Ok(())
 }
 
 // The place of the one connection that drives a net, which is refused without one.
 #[tactic(auto, using(crate::specs::WireNets::no_driver, crate::specs::WireNets::many_drivers))]
-fn sole_driver(alloc: Global, net: &Section<Single>) -> Result<usize, PureEnd<Refusal>>
+fn sole_driver(alloc: Global, net: &Net<Single>) -> Result<usize, PureEnd<Refusal>>
     ensures driver { IfOk result (HasDriver net.now) }
     ensures within { IfOk result (λ driver. driver < length net.now.conns) }
     ensures refused { OnRefusal result (λ refusal. NetGives net.now (Err refusal)) }
@@ -106,7 +119,7 @@ fn sole_driver(alloc: Global, net: &Section<Single>) -> Result<usize, PureEnd<Re
 #[tactic(auto, using(crate::specs::WireNets::too_large, crate::specs::WireNets::unreached, crate::specs::WireNets::mesh))]
 fn tree_of<L: Ledger>(
     alloc: Global,
-    net: &Section<Single>,
+    net: &Net<Single>,
     driver: usize,
     steps: &mut Steps<L>,
 ) -> Result<RcTree<Single>, PureEnd<Refusal>>
@@ -153,7 +166,7 @@ fn delays_of<L: Ledger>(
 #[tactic(auto, using(crate::specs::WireNets::no_tree, crate::specs::WireNets::is_tree))]
 fn draw_net<L: Ledger>(
     alloc: Global,
-    net: &Section<Single>,
+    net: &Net<Single>,
     delay: &mut Grid<Single, Femto>,
     rows: &mut Rows<Single>,
     steps: &mut Steps<L>,
@@ -176,7 +189,7 @@ fn draw_net<L: Ledger>(
 #[tactic(auto, using(crate::specs::Drawing::refused_before, crate::specs::Drawing::refused_here, crate::specs::Drawing::has_rows))]
 pub fn draw_next<L: Ledger>(
     alloc: Global,
-    net: &Section<Single>,
+    net: &Net<Single>,
     refused: Option<Refusal>,
     delay: &mut Grid<Single, Femto>,
     rows: &mut Rows<Single>,

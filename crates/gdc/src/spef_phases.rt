@@ -113,7 +113,7 @@ fn draw_sections<L: Ledger>(
             Ok(net) => net,
             Err(end) => return Err(end),
         };
-        refused = draw_next(alloc, &net, refused, &mut delay, &mut rows, steps)?;
+        refused = draw_next(alloc, &net.as_net(), refused, &mut delay, &mut rows, steps)?;
     }
     match refused {
         Some(refusal) => Err(PureEnd::Refused(refusal)),

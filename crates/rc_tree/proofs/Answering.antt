@@ -9,8 +9,8 @@ use Rattle.rc_tree.specs.NetElements.{NetElements, NetResistor, nodes_of}
 use Rattle.rc_tree.specs.Walk.{Reached, ReachedWithout}
 use Rattle.rc_tree.specs.RcTree.{IsUnreached, IsMesh}
 use Rattle.rc_tree.specs.Joins.{Joined}
-use Rattle.rc_tree.specs.Nodes.{Node, node_of, same, first_places, with_nodes}
-use Rattle.rc_tree.specs.Pins.{Pins, pin_nodes}
+use Rattle.rc_tree.specs.Nodes.{Node, node_of, same, first_places}
+use Rattle.rc_tree.specs.Pins.{Pins}
 use Rattle.rc_tree.specs.Values.{ohms_at}
 use Rattle.rc_tree.specs.SectionNets.{section_node, joint_at, net_elements}
 use Rattle.rc_tree.specs.Searches.{Search, Finds}
@@ -18,7 +18,7 @@ use Rattle.rc_tree.specs.Searched.{Searched}
 use Rattle.rc_tree.proofs.Walks.{Found, FoundWithout, Grows, way, way_without, leads_kept}
 use Rattle.rc_tree.proofs.Drawn.{Drawn, write_found, write_found_without, read_at}
 use Rattle.rc_tree.proofs.ArenaElmore.{range_at}
-use Rattle.rc_tree.proofs.Nets.{one_place, first_all, first_apart}
+use Rattle.rc_tree.proofs.Nets.{one_place}
 
 module _ (count : ℕ) (section : SectionElements) (pins : Pins) (nodes : List Node) (spots froms tos : List ℕ) (s : Search) (searched : Searched section pins nodes spots froms tos s) (number : ℕ) where
   abbrev net : NetElements Node

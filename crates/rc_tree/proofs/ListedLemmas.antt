@@ -1,5 +1,5 @@
 -- The connections of a section as the pins of its net.
-use Rattle.std.proofs.Common.{◌≡◌, ◌≢◌, ℕ, suc, ◌+◌, ◌-◌, ◌*◌, ◌<◌, ◌≤◌, if◌then◌else◌, List, [], ◌∷◌, ◌++◌, map, take, drop, length, get_or, slice_get, slice_index, slice_index_or, Some, option_map, Contains, length-append, length-drop, length-take-le, add-mul, one-mul, mul-le-mul_right, lt-ltb, le-ltb, sym, ◌∙◌, ap, subst, arith, inl, inr}
+use Rattle.std.proofs.Common.{◌≡◌, ◌≢◌, ℕ, suc, ◌+◌, ◌-◌, ◌*◌, ◌<◌, ◌≤◌, if◌then◌else◌, List, [], ◌∷◌, ◌++◌, map, take, drop, length, get_or, slice_get, slice_index, slice_index_or, Some, option_map, Contains, length-append, length-drop, length-take-le, add-mul, one-mul, mul-le-mul_right, lt-ltb, le-ltb, sym, ◌∙◌, ap, arith, inl, inr}
 use Rattle.std.proofs.lemmas.Bool.{cases_eq, cases_lt}
 use Rattle.std.proofs.lemmas.List.{get_or_append_left, get_or_push, get_or-append_right, get_or-take, get_or-drop, get_or_default, take_all, length-map}
 use Rattle.std.proofs.lemmas.Option.{slice_get-map, slice_get-get_or, get_or_from_slice_get, slice_get_within}

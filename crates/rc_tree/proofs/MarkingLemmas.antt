@@ -1,13 +1,13 @@
 -- Nodes get their numbers one after another.
-use Rattle.std.proofs.Common.{◌≡◌, ◌≢◌, ℕ, zero, suc, ◌+◌, ◌<◌, ◌≤◌, ◌⊎◌, Bool, true, false, ◌||◌, List, [], ◌∷◌, ◌++◌, map, take, length, get_or, slice_get, slice_index, slice_index_or, slice_set, replicate, Some, Contains, option_map, AllPairs, length-append, length-set, get_or-set_same, get_or-set_other, refl, sym, ◌∙◌, ap, subst, arith, inl, inr, true≢false}
+use Rattle.std.proofs.Common.{◌≡◌, ◌≢◌, ℕ, zero, suc, ◌+◌, ◌<◌, ◌≤◌, true, false, ◌||◌, List, [], ◌∷◌, ◌++◌, map, take, length, get_or, slice_get, slice_index, slice_index_or, slice_set, replicate, Some, option_map, length-append, length-set, get_or-set_same, get_or-set_other, refl, sym, ◌∙◌, ap, subst, arith, inl, inr, true≢false}
 use Rattle.std.proofs.lemmas.Bool.{cases_eq}
-use Rattle.std.proofs.lemmas.List.{get_or_at, get_or_default, get_or-replicate, length-replicate, take_all}
+use Rattle.std.proofs.lemmas.List.{get_or_at, get_or-replicate, length-replicate, take_all}
 use Rattle.std.proofs.lemmas.List.Quantifiers.{all_pairs_push}
 use Rattle.std.proofs.lemmas.Option.{slice_get-map, slice_get-get_or, get_or_from_slice_get, slice_get_within}
 use Rattle.name_table.specs.declared.spef_names.NodeName.{NodeName}
 use Rattle.spef_nets.specs.NetElements.{NetElements as SectionElements}
 use Rattle.spef_nets.specs.Nodes.{AreDistinctNodes}
-use Rattle.rc_tree.specs.Nodes.{Node, node_of, is_among, first_places, with_node, with_nodes}
+use Rattle.rc_tree.specs.Nodes.{Node, node_of, is_among, with_node, with_nodes}
 use Rattle.rc_tree.specs.Pins.{Pins, pin_nodes}
 use Rattle.rc_tree.specs.Marking.{Marks, fresh, held, Marked}
 use Rattle.rc_tree.specs.Searched.{IsNumbered, all_nodes}

@@ -1,17 +1,16 @@
 -- The tree that is planted is that of the net.
-use Rattle.std.proofs.Common.{◌≡◌, ℕ, suc, ◌+◌, ◌-◌, ◌*◌, ◌<◌, if◌then◌else◌, List, [], ◌∷◌, ◌++◌, map, length, slice_get, slice_index, slice_index_or, Some, sum_by, sym, ◌∙◌, ap, ap₂, subst, arith, inl, inr, one-mul, mul-add}
+use Rattle.std.proofs.Common.{◌≡◌, ℕ, ◌+◌, ◌-◌, ◌*◌, ◌<◌, if◌then◌else◌, List, [], ◌∷◌, ◌++◌, map, length, slice_get, slice_index, slice_index_or, Some, sum_by, sym, ◌∙◌, ap, ap₂, subst, arith, inl, inr, one-mul, mul-add}
 use Rattle.std.specs.List.{range_with_len}
 use Rattle.std.proofs.lemmas.List.FromFn.{get_or-map-range_with_len}
-use Rattle.std.proofs.Common.{option_map}
 use Rattle.std.proofs.lemmas.List.Sums.{sum_by-cons}
-use Rattle.std.proofs.lemmas.Option.{slice_get-map, slice_get-get_or, get_or_from_slice_get, slice_get_within, same_Some}
+use Rattle.std.proofs.lemmas.Option.{get_or_from_slice_get, slice_get_within, same_Some}
 use Rattle.delay_units.specs.declared.quantities.Farads.{Farads}
 use Rattle.delay_units.specs.declared.quantities.Ohms.{Ohms}
 use Rattle.spef_nets.specs.NetElements.{NetElements as SectionElements}
 use Rattle.rc_tree.specs.NetElements.{NetCapacitance}
 use Rattle.rc_tree.specs.Elmore.{IsElmore}
 use Rattle.rc_tree.specs.Nodes.{Node, node_of}
-use Rattle.rc_tree.specs.Pins.{Pins, pin_nodes}
+use Rattle.rc_tree.specs.Pins.{Pins}
 use Rattle.rc_tree.specs.Sums.{sum_below}
 use Rattle.rc_tree.specs.TreeSums.{pair_sum}
 use Rattle.rc_tree.specs.Values.{farads_at, ohms_at}
@@ -29,7 +28,6 @@ use Rattle.rc_tree.proofs.Elements.{Weighs, elmore_is}
 use Rattle.rc_tree.proofs.ArenaNets.{arena_load}
 use Rattle.rc_tree.proofs.ArenaElmore.{arena_pairs}
 use Rattle.rc_tree.proofs.Filled.{spread_sum}
-use Rattle.rc_tree.proofs.Numbers.{all_keep}
 use Rattle.rc_tree.proofs.Answering.{joined_so, node_at, spot_below, resistor, resistor_at, from_at, to_at, first_node}
 use Rattle.rc_tree.proofs.Spanning.{spans, drawn_order, number_of, numbered_order, tree}
 

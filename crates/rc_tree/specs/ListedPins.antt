@@ -1,5 +1,5 @@
 -- The pins of a net that are the connections of its section (IEEE 1481): one drives, and all others are sinks.
-use Rattle.std.specs.Prelude.{ℕ, suc, ◌*◌, nat_lt, if◌then◌else◌, false, List, [], ◌++◌, length, map, take, drop, slice_index_or, None}
+use Rattle.std.specs.Prelude.{ℕ, suc, ◌*◌, nat_lt, if◌then◌else◌, false, List, [], ◌++◌, map, take, drop, slice_index_or, None}
 use Rattle.name_table.specs.declared.spef_names.NodeName.{NodeName}
 use Rattle.spef_nets.specs.NetElements.{NetElements as SectionElements}
 use Rattle.spef_nets.specs.declared.parts.Listed.{Listed}

@@ -19,14 +19,14 @@ use crate::searching::search;
 use crate::tree::RcTree;
 use corner_set::CornerSet;
 use edge_io::{OutOfMemory, Steps};
-use spef_nets::Section;
+use spef_nets::Net;
 use std::alloc::Global;
 use std::sync::ledger::Ledger;
 
 /// The tree of a net with resistors, whose nodes are numbered.
 pub fn branched<C: CornerSet, P: PinSource<C>, L: Ledger>(
     alloc: Global,
-    section: &Section<C>,
+    section: &Net<C>,
     pins: &P,
     numbered: Numbered,
     steps: &mut Steps<L>,
@@ -52,7 +52,7 @@ pub fn branched<C: CornerSet, P: PinSource<C>, L: Ledger>(
 // Searches the nodes: one step a resistor.
 fn explore<C: CornerSet, L: Ledger>(
     alloc: Global,
-    section: &Section<C>,
+    section: &Net<C>,
     numbered: &Numbered,
     steps: &mut Steps<L>,
 ) -> Result<Found, OutOfMemory>
@@ -73,7 +73,7 @@ fn explore<C: CornerSet, L: Ledger>(
 // Whether the net is a tree: every node is found, and each resistor is the link of one.
 fn judge<C: CornerSet, P: PinSource<C>>(
     alloc: Global,
-    section: &Section<C>,
+    section: &Net<C>,
     pins: &P,
     numbered: &Numbered,
     found: &Found,
@@ -100,7 +100,7 @@ fn judge<C: CornerSet, P: PinSource<C>>(
 // The tree of a net that is one.
 fn grow<C: CornerSet, P: PinSource<C>, L: Ledger>(
     alloc: Global,
-    section: &Section<C>,
+    section: &Net<C>,
     pins: &P,
     numbered: Numbered,
     found: Found,
@@ -125,7 +125,7 @@ fn grow<C: CornerSet, P: PinSource<C>, L: Ledger>(
 // Where everything stands in the tree. What is not needed any more is let go of.
 fn lay<C: CornerSet, P: PinSource<C>>(
     alloc: Global,
-    section: &Section<C>,
+    section: &Net<C>,
     pins: &P,
     numbered: Numbered,
     found: Found,

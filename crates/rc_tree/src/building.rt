@@ -15,7 +15,7 @@ use crate::pins::PinLoads;
 use crate::tree::RcTree;
 use corner_set::CornerSet;
 use edge_io::Steps;
-use spef_nets::Section;
+use spef_nets::{Net, Section};
 use std::alloc::Global;
 use std::sync::ledger::Ledger;
 
@@ -30,6 +30,22 @@ pub(crate) const MOST: usize = 524_288;
 pub fn build<C: CornerSet, L: Ledger>(
     alloc: Global,
     section: &Section<C>,
+    pins: &PinLoads<C>,
+    steps: &mut Steps<L>,
+) -> Result<RcTree<C>, TreeEnd>
+    ensures tree { IfOk result (λ tree. IsTreeOf C.COUNT section.now pins.now tree) }
+    ensures nodes { IfOk result (λ tree. node_count tree ≤ length section.now.joints + 1) }
+    ensures refused { IfErr result (λ end. IsTreeEnd C.COUNT section.now pins.now end) }
+    ensures steps { steps.new ≤ steps.old + length section.now.joints + C.COUNT * (length section.now.joints + length section.now.caps) }
+{
+    let net = section.as_net();
+    build_net(alloc, &net, pins, steps)
+}
+
+// The tree of a net by reference.
+fn build_net<C: CornerSet, L: Ledger>(
+    alloc: Global,
+    section: &Net<C>,
     pins: &PinLoads<C>,
     steps: &mut Steps<L>,
 ) -> Result<RcTree<C>, TreeEnd>
@@ -66,7 +82,7 @@ pub fn build<C: CornerSet, L: Ledger>(
 }
 
 /// Whether there are too many resistors, or too many written capacitances and pins.
-pub fn is_too_large<C: CornerSet, P: PinSource<C>>(section: &Section<C>, pins: &P) -> bool
+pub fn is_too_large<C: CornerSet, P: PinSource<C>>(section: &Net<C>, pins: &P) -> bool
     ensures { IsTrue result ↔ IsTooLarge section.now (P.pins pins.now section.now) }
 {
     let sinks = pins.sink_count(section);

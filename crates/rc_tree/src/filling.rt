@@ -11,12 +11,12 @@ use crate::pin_source::PinSource;
 use corner_set::{CornerSet, Grid};
 use delay_units::{Farads, Ohms};
 use edge_io::Steps;
-use spef_nets::Section;
+use spef_nets::Net;
 use std::sync::ledger::Ledger;
 
 /// Puts the resistance of each link into its row, which is not the first: one step a link.
 pub fn fill_ohms<C: CornerSet, L: Ledger>(
-    section: &Section<C>,
+    section: &Net<C>,
     vias: &[u32],
     corner: C::Index,
     ohms: &mut Grid<C, Ohms>,
@@ -39,7 +39,7 @@ pub fn fill_ohms<C: CornerSet, L: Ledger>(
 
 /// Adds the capacitances of the section at the rows of their nodes: one step each.
 pub fn fill_farads<C: CornerSet, L: Ledger>(
-    section: &Section<C>,
+    section: &Net<C>,
     spots: &[u32],
     corner: C::Index,
     farads: &mut Grid<C, Farads>,
@@ -64,7 +64,7 @@ pub fn fill_farads<C: CornerSet, L: Ledger>(
 
 /// Adds the loads of the sinks at their rows.
 pub fn fill_loads<C: CornerSet, P: PinSource<C>>(
-    section: &Section<C>,
+    section: &Net<C>,
     pins: &P,
     sinks: &[NodeId],
     corner: C::Index,

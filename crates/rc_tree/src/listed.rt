@@ -15,7 +15,7 @@ use crate::marking::number_listed;
 use crate::tree::RcTree;
 use corner_set::CornerSet;
 use edge_io::Steps;
-use spef_nets::Section;
+use spef_nets::Net;
 use std::alloc::Global;
 use std::sync::ledger::Ledger;
 
@@ -24,7 +24,7 @@ use std::sync::ledger::Ledger;
 /// without a look-up of names: it is never refused for a strange pin.
 pub fn build_listed<C: CornerSet, L: Ledger>(
     alloc: Global,
-    section: &Section<C>,
+    section: &Net<C>,
     driver: usize,
     steps: &mut Steps<L>,
 ) -> Result<RcTree<C>, TreeEnd>

@@ -14,7 +14,7 @@ use corner_set::CornerSet;
 use delay_units::Farads;
 use edge_io::OutOfMemory;
 use name_table::NodeName;
-use spef_nets::Section;
+use spef_nets::Net;
 use std::alloc::Global;
 
 /// The pins of a net that are the connections of its section: the one at this place drives, all others are sinks, in order.
@@ -33,7 +33,7 @@ impl ListedPins {
     }
 
     /// How many sinks there are.
-    pub fn len<C: CornerSet>(&self, section: &Section<C>) -> usize
+    pub fn len<C: CornerSet>(&self, section: &Net<C>) -> usize
         ensures { result ≡ length (listed_pins C.COUNT section.now self.now.driver).sinks }
     {
         let conns = section.conn_count();
@@ -45,26 +45,37 @@ impl ListedPins {
     }
 
     /// The name of the driver.
-    pub fn driver<'s, C: CornerSet>(&self, section: &'s Section<C>) -> &'s NodeName
+    pub fn driver_name<C: CornerSet>(
+        &self,
+        alloc: Global,
+        section: &Net<C>,
+    ) -> Result<NodeName, OutOfMemory>
         requires { self.now.driver < length section.now.conns }
-        ensures { result.now ≡ (listed_pins C.COUNT section.now self.now.driver).driver }
+        ensures { IfOk result (λ name. name ≡ (listed_pins C.COUNT section.now self.now.driver).driver) }
     {
-        section.node(section.conn(self.driver).node)
+        let name = section.node_name(alloc, section.conn(self.driver).node)?;
+        Ok(name)
     }
 
     /// The name of a sink.
-    pub fn sink<'s, C: CornerSet>(&self, section: &'s Section<C>, sink: usize) -> &'s NodeName
+    pub fn sink_name<C: CornerSet>(
+        &self,
+        alloc: Global,
+        section: &Net<C>,
+        sink: usize,
+    ) -> Result<NodeName, OutOfMemory>
         requires within { sink < length (listed_pins C.COUNT section.now self.now.driver).sinks }
         requires fits { sink + 1 < 2 ^ 64 }
-        ensures { slice_get (listed_pins C.COUNT section.now self.now.driver).sinks sink ≡ Some result.now }
+        ensures { IfOk result (λ name. slice_get (listed_pins C.COUNT section.now self.now.driver).sinks sink ≡ Some name) }
     {
-        section.node(section.conn(self.place(sink)).node)
+        let name = section.node_name(alloc, section.conn(self.place(sink)).node)?;
+        Ok(name)
     }
 
     /// The load of a sink at a corner.
     pub(crate) fn load<C: CornerSet>(
         &self,
-        section: &Section<C>,
+        section: &Net<C>,
         sink: usize,
         corner: C::Index,
     ) -> Farads
@@ -77,7 +88,7 @@ impl ListedPins {
     }
 
     /// Each connection is one of the pins, which the contract states. It does nothing when it is called.
-    pub fn all_listed<C: CornerSet>(&self, section: &Section<C>)
+    pub fn all_listed<C: CornerSet>(&self, section: &Net<C>)
         requires { self.now.driver < length section.now.conns }
         ensures { AreListed section.now (pin_nodes (listed_pins C.COUNT section.now self.now.driver)) }
     {
@@ -90,7 +101,7 @@ impl ListedPins {
     pub(crate) fn places<C: CornerSet>(
         &self,
         alloc: Global,
-        section: &Section<C>,
+        section: &Net<C>,
         numbered: &Numbered,
         numbers: &[u32],
     ) -> Result<Vec<NodeId>, OutOfMemory>
@@ -115,7 +126,7 @@ impl ListedPins {
     pub(crate) fn name<C: CornerSet>(
         &self,
         alloc: Global,
-        section: &Section<C>,
+        section: &Net<C>,
         numbered: &Numbered,
         number: usize,
     ) -> Result<NodeName, OutOfMemory>

@@ -11,14 +11,14 @@ use crate::planting::plant;
 use crate::tree::RcTree;
 use corner_set::CornerSet;
 use edge_io::{OutOfMemory, Steps};
-use spef_nets::Section;
+use spef_nets::Net;
 use std::alloc::Global;
 use std::sync::ledger::Ledger;
 
 /// The tree of a net without resistors.
 pub fn lone<C: CornerSet, P: PinSource<C>, L: Ledger>(
     alloc: Global,
-    section: &Section<C>,
+    section: &Net<C>,
     pins: &P,
     steps: &mut Steps<L>,
 ) -> Result<RcTree<C>, OutOfMemory>

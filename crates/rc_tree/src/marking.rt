@@ -12,7 +12,7 @@ use crate::lists::filled;
 use crate::numbered::Numbered;
 use corner_set::CornerSet;
 use edge_io::OutOfMemory;
-use spef_nets::Section;
+use spef_nets::Net;
 use std::alloc::Global;
 
 /// It stands for the number of a node that has none yet.
@@ -37,7 +37,7 @@ fn mark(numbered: &mut Numbered, node: usize) -> Result<(), OutOfMemory>
 
 // Numbers the nodes of the sinks, in order.
 fn mark_sinks<C: CornerSet>(
-    section: &Section<C>,
+    section: &Net<C>,
     pins: &ListedPins,
     numbered: &mut Numbered,
 ) -> Result<(), OutOfMemory>
@@ -55,7 +55,7 @@ fn mark_sinks<C: CornerSet>(
 }
 
 // Numbers the nodes that are left, in order.
-fn mark_rest<C: CornerSet>(section: &Section<C>, numbered: &mut Numbered) -> Result<(), OutOfMemory>
+fn mark_rest<C: CornerSet>(section: &Net<C>, numbered: &mut Numbered) -> Result<(), OutOfMemory>
     requires size { length numbered.old.spots.items ≡ length section.now.nodes }
     requires distinct { AreDistinctNodes section.now.nodes }
     ensures size { OnOk result (length numbered.new.spots.items ≡ length section.now.nodes) }
@@ -71,7 +71,7 @@ fn mark_rest<C: CornerSet>(section: &Section<C>, numbered: &mut Numbered) -> Res
 /// The numbers of a net's nodes, whose pins are the connections of its section.
 pub fn number_listed<C: CornerSet>(
     alloc: Global,
-    section: &Section<C>,
+    section: &Net<C>,
     pins: &ListedPins,
 ) -> Result<Numbered, OutOfMemory>
     requires { pins.now.driver < length section.now.conns }

@@ -5,7 +5,7 @@ use crate::numbered::Numbered;
 use corner_set::CornerSet;
 use edge_io::{OutOfMemory, Text};
 use name_table::NodeName;
-use spef_nets::Section;
+use spef_nets::Net;
 use std::alloc::Global;
 
 /// A copy of a name.
@@ -24,7 +24,7 @@ pub fn copy_name(alloc: Global, name: &NodeName) -> Result<NodeName, OutOfMemory
 /// A name of the node of a number, as the section has it.
 pub fn section_name<C: CornerSet>(
     alloc: Global,
-    section: &Section<C>,
+    section: &Net<C>,
     numbered: &Numbered,
     number: usize,
 ) -> Result<NodeName, OutOfMemory>
@@ -33,7 +33,7 @@ pub fn section_name<C: CornerSet>(
 {
     for place in 0..section.node_count() {
         if numbered.spots[place] as usize == number {
-            return copy_name(alloc, section.node(place));
+            return section.node_name(alloc, place);
         }
     }
     // no other number is that of a node

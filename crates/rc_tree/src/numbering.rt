@@ -6,13 +6,12 @@ ghost use Rattle.rc_tree.specs.Numbering.{AreSpots, AreEnds};
 ghost use Rattle.rc_tree.specs.SectionNets.{AreListed, IsFirstStrange};
 
 use crate::lists::{kept, push};
-use crate::names::copy_name;
 use crate::node_table::NodeTable;
 use crate::pins::PinLoads;
 use corner_set::CornerSet;
 use edge_io::{OutOfMemory, Steps};
 use name_table::NodeName;
-use spef_nets::Section;
+use spef_nets::Net;
 use std::alloc::Global;
 use std::sync::ledger::Ledger;
 
@@ -50,14 +49,14 @@ fn intern_all(table: &mut NodeTable, names: &[NodeName]) -> Result<(), OutOfMemo
 pub fn first_strange<C: CornerSet>(
     alloc: Global,
     table: &NodeTable,
-    section: &Section<C>,
+    section: &Net<C>,
 ) -> Result<Option<NodeName>, OutOfMemory>
     ensures { IfOk result (λ found. MatchOption found (AreListed section.now table.now) (λ name. IsFirstStrange section.now table.now name)) }
 {
     for place in 0..section.conn_count() {
-        let name = section.node(section.conn(place).node);
-        if table.find(name)?.is_none() {
-            return Ok(Some(copy_name(alloc, name)?));
+        let name = section.node_name(alloc, section.conn(place).node)?;
+        if table.find(&name)?.is_none() {
+            return Ok(Some(name));
         }
     }
     Ok(None)
@@ -67,14 +66,15 @@ pub fn first_strange<C: CornerSet>(
 pub fn number_section<C: CornerSet>(
     alloc: Global,
     table: &mut NodeTable,
-    section: &Section<C>,
+    section: &Net<C>,
 ) -> Result<Vec<u32>, OutOfMemory>
     ensures nodes { OnOk result (table.new ≡ with_nodes table.old (map node_of section.now.nodes)) }
     ensures spots { IfOk result (λ spots. AreSpots section.now.nodes table.new spots.items) }
 {
     let mut spots = Vec::with_capacity(alloc, section.node_count())?;
     for node in 0..section.node_count() {
-        let number = table.intern(section.node(node))?;
+        let name = section.node_name(alloc, node)?;
+        let number = table.intern(&name)?;
         push(&mut spots, kept(number)?)?;
     }
     Ok(spots)
@@ -83,7 +83,7 @@ pub fn number_section<C: CornerSet>(
 /// The ends of the resistors, from the numbers of the section's nodes: one step a resistor.
 pub fn copy_ends<C: CornerSet, L: Ledger>(
     alloc: Global,
-    section: &Section<C>,
+    section: &Net<C>,
     spots: &[u32],
     corner: C::Index,
     steps: &mut Steps<L>,

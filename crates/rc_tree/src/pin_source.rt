@@ -15,7 +15,7 @@ use corner_set::CornerSet;
 use delay_units::Farads;
 use edge_io::OutOfMemory;
 use name_table::NodeName;
-use spef_nets::Section;
+use spef_nets::Net;
 use std::alloc::Global;
 
 /// What tells the pins of a net, given its section.
@@ -24,11 +24,11 @@ pub trait PinSource<C: CornerSet> {
     ghost pins: { Self → SectionElements → Pins };
 
     /// How many sinks there are.
-    fn sink_count(&self, section: &Section<C>) -> usize
+    fn sink_count(&self, section: &Net<C>) -> usize
         ensures { result ≡ length (pins self.now section.now).sinks };
 
     /// The load of a sink at a corner.
-    fn sink_load(&self, section: &Section<C>, sink: usize, corner: C::Index) -> Farads
+    fn sink_load(&self, section: &Net<C>, sink: usize, corner: C::Index) -> Farads
         requires within { sink < length (pins self.now section.now).sinks }
         requires fits { sink + 1 < 2 ^ 64 }
         ensures load { value_at C.COUNT (pins self.now section.now).loads sink (C.number_of corner) ≡ Some result }
@@ -38,7 +38,7 @@ pub trait PinSource<C: CornerSet> {
     fn sinks_in(
         &self,
         alloc: Global,
-        section: &Section<C>,
+        section: &Net<C>,
         numbered: &Numbered,
         numbers: &[u32],
     ) -> Result<Vec<NodeId>, OutOfMemory>
@@ -51,7 +51,7 @@ pub trait PinSource<C: CornerSet> {
     fn name_at(
         &self,
         alloc: Global,
-        section: &Section<C>,
+        section: &Net<C>,
         numbered: &Numbered,
         number: usize,
     ) -> Result<NodeName, OutOfMemory>
@@ -62,18 +62,18 @@ pub trait PinSource<C: CornerSet> {
 impl<C: CornerSet> PinSource<C> for PinLoads<C> {
     ghost pins = { λ pins section. pins };
 
-    fn sink_count(&self, _section: &Section<C>) -> usize {
+    fn sink_count(&self, _section: &Net<C>) -> usize {
         self.len()
     }
 
-    fn sink_load(&self, _section: &Section<C>, sink: usize, corner: C::Index) -> Farads {
+    fn sink_load(&self, _section: &Net<C>, sink: usize, corner: C::Index) -> Farads {
         self.load(sink, corner)
     }
 
     fn sinks_in(
         &self,
         alloc: Global,
-        section: &Section<C>,
+        section: &Net<C>,
         numbered: &Numbered,
         numbers: &[u32],
     ) -> Result<Vec<NodeId>, OutOfMemory> {
@@ -83,7 +83,7 @@ impl<C: CornerSet> PinSource<C> for PinLoads<C> {
     fn name_at(
         &self,
         alloc: Global,
-        section: &Section<C>,
+        section: &Net<C>,
         numbered: &Numbered,
         number: usize,
     ) -> Result<NodeName, OutOfMemory> {
@@ -94,18 +94,18 @@ impl<C: CornerSet> PinSource<C> for PinLoads<C> {
 impl<C: CornerSet> PinSource<C> for ListedPins {
     ghost pins = { λ pins section. listed_pins C.COUNT section pins.driver };
 
-    fn sink_count(&self, section: &Section<C>) -> usize {
+    fn sink_count(&self, section: &Net<C>) -> usize {
         self.len(section)
     }
 
-    fn sink_load(&self, section: &Section<C>, sink: usize, corner: C::Index) -> Farads {
+    fn sink_load(&self, section: &Net<C>, sink: usize, corner: C::Index) -> Farads {
         self.load(section, sink, corner)
     }
 
     fn sinks_in(
         &self,
         alloc: Global,
-        section: &Section<C>,
+        section: &Net<C>,
         numbered: &Numbered,
         numbers: &[u32],
     ) -> Result<Vec<NodeId>, OutOfMemory> {
@@ -115,7 +115,7 @@ impl<C: CornerSet> PinSource<C> for ListedPins {
     fn name_at(
         &self,
         alloc: Global,
-        section: &Section<C>,
+        section: &Net<C>,
         numbered: &Numbered,
         number: usize,
     ) -> Result<NodeName, OutOfMemory> {

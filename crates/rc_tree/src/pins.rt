@@ -14,7 +14,7 @@ use corner_set::{CornerSet, Grid};
 use delay_units::Farads;
 use edge_io::OutOfMemory;
 use name_table::NodeName;
-use spef_nets::Section;
+use spef_nets::Net;
 use std::alloc::Global;
 use std::marker::{Model, PhantomData};
 
@@ -124,7 +124,7 @@ impl<C: CornerSet> PinLoads<C> {
     pub(crate) fn places(
         &self,
         alloc: Global,
-        section: &Section<C>,
+        section: &Net<C>,
         numbered: &Numbered,
         numbers: &[u32],
     ) -> Result<Vec<NodeId>, OutOfMemory>
@@ -141,7 +141,7 @@ impl<C: CornerSet> PinLoads<C> {
     pub(crate) fn name(
         &self,
         alloc: Global,
-        section: &Section<C>,
+        section: &Net<C>,
         numbered: &Numbered,
         number: usize,
     ) -> Result<NodeName, OutOfMemory>

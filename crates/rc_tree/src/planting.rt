@@ -12,7 +12,7 @@ use crate::tree::RcTree;
 use corner_set::{CornerSet, Grid};
 use delay_units::{Farads, Ohms};
 use edge_io::{OutOfMemory, Steps};
-use spef_nets::Section;
+use spef_nets::Net;
 use std::alloc::Global;
 use std::sync::ledger::Ledger;
 
@@ -20,7 +20,7 @@ use std::sync::ledger::Ledger;
 /// section.
 pub fn plant<C: CornerSet, P: PinSource<C>, L: Ledger>(
     alloc: Global,
-    section: &Section<C>,
+    section: &Net<C>,
     pins: &P,
     layout: NodeLayout,
     steps: &mut Steps<L>,
@@ -52,7 +52,7 @@ pub fn plant<C: CornerSet, P: PinSource<C>, L: Ledger>(
 
 // Fills all corners.
 fn fill_all<C: CornerSet, P: PinSource<C>, L: Ledger>(
-    section: &Section<C>,
+    section: &Net<C>,
     pins: &P,
     layout: &NodeLayout,
     ohms: &mut Grid<C, Ohms>,
@@ -78,7 +78,7 @@ fn fill_all<C: CornerSet, P: PinSource<C>, L: Ledger>(
 
 // Fills one corner.
 fn fill_corner<C: CornerSet, P: PinSource<C>, L: Ledger>(
-    section: &Section<C>,
+    section: &Net<C>,
     pins: &P,
     layout: &NodeLayout,
     corner: C::Index,

@@ -100,8 +100,9 @@ fn listed_ending<L: Ledger>(
     if driver >= section.conn_count() {
         return (6, 0);
     }
+    let net = section.as_net();
     let mut steps = Steps::<L>::new(blank);
-    told(build_listed(alloc, section, driver, &mut steps))
+    told(build_listed(alloc, &net, driver, &mut steps))
 }
 
 /// How the building of the first net of a file ends; 6 where there is none.

@@ -1,9 +1,15 @@
-use Rattle.std.proofs.Common.{subst, ◌<◌, ◌∙◌, ap}
-use Rattle.name_table.specs.declared.spef_names.NodeName.{NodeName}
+use Rattle.std.proofs.Common.{refl, subst, ◌+◌, ◌*◌, ◌<◌, ◌∙◌, arith}
 use Rattle.rc_tree.specs.ListedPins.{listed_pins}
 use Rattle.elmore_pass.specs.Delays.{delay_limit}
+use Rattle.gdc.proofs.Places.{within}
 use Rattle.gdc.proofs.TreeRows.{delay_is, one_within, adds_row}
 use Rattle.gdc.proofs.net_rows.add_row.Goals as goal
+
+pub value-elmore-requires : goal.value-elmore-requires
+value-elmore-requires g c =
+    let delay = c.requires.delays c.sink.result.0 c.sink.ensures.within in
+    let below = within c.args.delays.now (c.sink.result.0 * 1 + 0) delay.delay delay.held in
+    omega (arith, below)
 
 pub sink_femto-requires : goal.sink_femto-requires
 sink_femto-requires g c =
@@ -17,5 +23,5 @@ pub returns-clause-row : goal.returns-clause-row
 returns-clause-row g c =
     let delay = c.requires.delays c.sink.result.0 c.sink.ensures.within in
     let is = delay_is c.args.tree.now c.args.delays.now c.sink.result.0 c.value-elmore.result delay c.value-elmore.ensures.value in
-    adds_row (listed_pins 1 c.args.net.now c.args.pins.now.driver) c.args.tree.now c.args.sink c.sink.result c.sink-2.result.now c.value-elmore.result c.sink_femto.result c.put_delay.new.delay c.in_ok-from.from c.in_ok-to.to c.args.rows.now c.add_wire.new.self c.args.delays.now c.add_wire.result
-    c.sink.ensures.sink c.sink-2.ensures delay is c.sink_femto.ensures.rounded c.put_delay.ensures (c.in_ok-from.ensures ∙ c.bytes.ensures ∙ ap (λ (n : NodeName). n.sdf) c.driver.ensures) (c.in_ok-to.ensures ∙ c.bytes-2.ensures) c.add_wire.ensures.ok
+    adds_row (listed_pins 1 c.args.net.now c.args.pins.now.driver) c.args.tree.now c.args.sink c.sink.result c.in_ok-to.to c.value-elmore.result c.sink_femto.result c.put_delay.new.delay c.in_ok-from.from c.in_ok-to.to.sdf c.args.rows.now c.add_wire.new.self c.args.delays.now c.add_wire.result
+    c.sink.ensures.sink c.in_ok-to.ensures delay is c.sink_femto.ensures.rounded c.put_delay.ensures (c.in_ok-from.ensures ∙ c.bytes.ensures ∙ c.requires.from) refl c.add_wire.ensures.ok

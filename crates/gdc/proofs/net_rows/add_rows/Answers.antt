@@ -1,4 +1,5 @@
-use Rattle.std.proofs.Common.{arith}
+use Rattle.std.proofs.Common.{ap, arith}
+use Rattle.name_table.specs.declared.spef_names.NodeName.{NodeName}
 use Rattle.rc_tree.specs.ListedPins.{listed_pins}
 use Rattle.gdc.proofs.TreeRows.{no_rows, rows_more}
 use Rattle.gdc.proofs.net_rows.add_rows.Goals as goal
@@ -12,3 +13,6 @@ loop-sink-preserved g c = (
   rows_more (listed_pins 1 c.args.net.now c.args.pins.now.driver) c.args.tree.now c.loop-sink.sink c.args.rows.now c.loop-sink.rows c.add_row.new.rows c.loop-sink.invariant.1 c.in_ok-add_row.ensures.row,
   omega (arith, c.loop-sink.invariant.2, c.add_row.ensures.step),
 )
+
+pub add_row-requires-clause-from : goal.add_row-requires-clause-from
+add_row-requires-clause-from g c = ap (λ (n : NodeName). n.sdf) c.in_ok-driver.ensures

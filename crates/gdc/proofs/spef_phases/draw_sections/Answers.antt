@@ -1,9 +1,11 @@
 use Rattle.std.proofs.Common.{◌≡◌, ℕ, List, Ok, Err, length, [], ◌∷◌, ◌++◌, ◌+◌, ◌≤◌, refl, ◌∙◌, ap, subst, arith}
 use Rattle.std.specs.Prelude.{Option}
+use Rattle.spef_nets.specs.NetElements.{NetElements}
 use Rattle.spef_nets.proofs.ReadingLemmas.{no_nets, one_more}
 use Rattle.gdc.specs.SpefPhases.{sole_corner}
 use Rattle.gdc.specs.WireNets.{RowsOf}
-use Rattle.gdc.specs.Drawing.{drawn}
+use Rattle.gdc.specs.Drawing.{drawn, DrawsNext}
+use Rattle.gdc.specs.NetRows.{most_steps}
 use Rattle.gdc.specs.declared.refusal.Refusal.{Refusal}
 use Rattle.gdc.proofs.Drawing.{nothing_drawn, drawn_more, all_drawn, section_refused}
 use Rattle.gdc.proofs.Work.{faultless_more, front_read, none_read, steps_more, of_no_section}
@@ -31,10 +33,10 @@ pub loop-preserved : goal.loop-preserved
 loop-preserved g c = (
   c.loop.invariant.0 ++ c.in-Ok.net ∷ [],
   one_more sole_corner c.args.file.now c.args.head.now c.args.pick c.loop.reader c.loop.invariant.0 c.loop.counter c.loop.invariant.1 c.next_net.new.reader c.in-Ok.net c.in-Ok.ensures.ok c.in-Ok.ensures.read (c.loop.invariant.0 ++ c.in-Ok.net ∷ []) refl,
-  drawn_more c.args.head.now.design c.loop.invariant.0 c.in-Ok.net (drawn c.loop.rows c.loop.refused) (drawn c.draw_next.new.rows c.in_ok-refused.refused) c.loop.invariant.2 c.in_ok-refused.ensures.next,
+  drawn_more c.args.head.now.design c.loop.invariant.0 c.in-Ok.net (drawn c.loop.rows c.loop.refused) (drawn c.draw_next.new.rows c.in_ok-refused.refused) c.loop.invariant.2 (subst (λ (n : NetElements). DrawsNext n (drawn c.loop.rows c.loop.refused) (drawn c.draw_next.new.rows c.in_ok-refused.refused)) c.as_net.ensures c.in_ok-refused.ensures.next),
   c.in_ok-refused.ensures.one_row,
   faultless_more c.args.pick c.args.file.now c.args.head.now c.loop.reader c.loop.invariant.0 c.loop.counter c.loop.invariant.1 (omega arith) c.loop.invariant.4 c.in-Ok.ensures.faultless,
-  steps_more c.loop.invariant.0 c.in-Ok.net c.args.steps.now c.loop.steps c.draw_next.new.steps c.loop.invariant.5 c.draw_next.ensures.steps,
+  steps_more c.loop.invariant.0 c.in-Ok.net c.args.steps.now c.loop.steps c.draw_next.new.steps c.loop.invariant.5 (subst (λ (n : NetElements). c.draw_next.new.steps ≤ c.loop.steps + most_steps n) c.as_net.ensures c.draw_next.ensures.steps),
 )
 
 pub returns-in-Some : goal.returns-in-Some
@@ -68,4 +70,4 @@ returns-in_err-refused-clause-steps g c =
     (one_more sole_corner c.args.file.now c.args.head.now c.args.pick c.loop.reader c.loop.invariant.0 c.loop.counter c.loop.invariant.1 c.next_net.new.reader c.in-Ok.net c.in-Ok.ensures.ok c.in-Ok.ensures.read (c.loop.invariant.0 ++ c.in-Ok.net ∷ []) refl)
     few
     (faultless_more c.args.pick c.args.file.now c.args.head.now c.loop.reader c.loop.invariant.0 c.loop.counter c.loop.invariant.1 (omega arith) c.loop.invariant.4 c.in-Ok.ensures.faultless)
-    (steps_more c.loop.invariant.0 c.in-Ok.net c.args.steps.now c.loop.steps c.draw_next.new.steps c.loop.invariant.5 c.draw_next.ensures.steps)
+    (steps_more c.loop.invariant.0 c.in-Ok.net c.args.steps.now c.loop.steps c.draw_next.new.steps c.loop.invariant.5 (subst (λ (n : NetElements). c.draw_next.new.steps ≤ c.loop.steps + most_steps n) c.as_net.ensures c.draw_next.ensures.steps))

@@ -1,22 +1,9 @@
-use Rattle.std.proofs.Common.{◌∙◌, sym, subst, true≢false}
-use Rattle.std.proofs.lemmas.Option.{MatchOption-at_none}
-use Rattle.rc_tree.specs.SectionNets.{AreListed}
-use Rattle.rc_tree.proofs.Judging.{numbered_all}
+use Rattle.std.proofs.Common.{IfErr, subst}
+use Rattle.spef_nets.specs.NetElements.{NetElements as SectionElements}
+use Rattle.rc_tree.specs.Builds.{IsTreeEnd}
 use Rattle.rc_tree.proofs.building.build.Goals as goal
 
 -- src/building.rt
-pub returns-then-is_too_large-clause-refused : goal.returns-then-is_too_large-clause-refused
-returns-then-is_too_large-clause-refused g c =
-    (subst (AreListed c.args.section.now) c.in-Ok.ensures (MatchOption-at_none _ _ c.in-Ok-None.field-0-is c.in-Ok-None.ensures), c.is_too_large.ensures.0 c.if-is_too_large.true)
-
-pub lone-requires-clause-fit : goal.lone-requires-clause-fit
-lone-requires-clause-fit g c =
-    (subst (AreListed c.args.section.now) c.in-Ok.ensures (MatchOption-at_none _ _ c.in-Ok-None.field-0-is c.in-Ok-None.ensures), (λ large. true≢false (sym (c.is_too_large.ensures.1 large) ∙ c.if-is_too_large.false)))
-
-pub branched-requires-clause-fit : goal.branched-requires-clause-fit
-branched-requires-clause-fit g c =
-    (subst (AreListed c.args.section.now) c.in-Ok.ensures (MatchOption-at_none _ _ c.in-Ok-None.field-0-is c.in-Ok-None.ensures), (λ large. true≢false (sym (c.is_too_large.ensures.1 large) ∙ c.if-is_too_large.false)))
-
-pub branched-requires-clause-numbered : goal.branched-requires-clause-numbered
-branched-requires-clause-numbered g c =
-    numbered_all c.args.section.now c.args.pins.now c.in-Ok.table c.number_section.new.table c.in-Ok-number_section.spots.items c.len.result c.in-Ok.ensures c.in-Ok-number_section.ensures.nodes c.len.ensures.apart c.len.ensures.len c.in-Ok-number_section.ensures.spots
+pub returns-clause-refused : goal.returns-clause-refused
+returns-clause-refused g c =
+    subst (λ (s : SectionElements). IfErr c.build_net.result (λ end. IsTreeEnd g.C.CornerSet.COUNT s c.args.pins.now end)) c.as_net-net.ensures c.build_net.ensures.refused

@@ -1,4 +1,4 @@
-use Rattle.std.proofs.Common.{◌≡◌, ℕ, List, length, map, take}
+use Rattle.std.proofs.Common.{◌≡◌, List, length, map, take}
 use Rattle.rc_tree.specs.Nodes.{Node, node_of, with_nodes}
 use Rattle.rc_tree.specs.ListedPins.{listed_pins}
 use Rattle.rc_tree.specs.Marking.{Marked}

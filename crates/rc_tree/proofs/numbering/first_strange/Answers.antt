@@ -5,4 +5,4 @@ use Rattle.rc_tree.proofs.numbering.first_strange.Goals as goal
 pub loop-place-preserved : goal.loop-place-preserved
 loop-place-preserved g c =
     let found = some_held c.in_ok-find.field-0 _ _ c.if-is_none.ensures c.in_ok-find.ensures in
-    listed_more c.args.section.now c.args.table.now c.loop-place.place c.conn.result c.node-name.result.now found.0 c.conn.ensures.conn c.node-name.ensures found.1 c.loop-place.invariant
+    listed_more c.args.section.now c.args.table.now c.loop-place.place c.conn.result c.in_ok-name.name found.0 c.conn.ensures.conn c.in_ok-name.ensures found.1 c.loop-place.invariant
