@@ -16,7 +16,7 @@ use corner_set::{Grid, Pick, Single};
 use delay_units::Femto;
 use edge_io::{Steps, Text};
 use sdf_writer::Rows;
-use spef_nets::{Section, SectionEnd, SectionReader};
+use spef_nets::{SectionEnd, SectionReader, SpelledSection};
 use spef_text::{Head, HeadEnd, SpefEnd, SpefFile, parse, read_head};
 use std::alloc::Global;
 use std::sync::ledger::Ledger;
@@ -59,7 +59,9 @@ fn head_of(alloc: Global, file: &SpefFile) -> Result<Head, PureEnd<Refusal>>
 
 /// Reads the next net of a SPEF file, at one corner.
 #[tactic(auto, using(crate::specs::SpefPhases::unknown_index, crate::specs::SpefPhases::bad_number, crate::specs::SpefPhases::value_too_large, crate::specs::SpefPhases::repeated_net, crate::specs::SpefPhases::foreign_coupling))]
-fn next_net(reader: &mut SectionReader) -> Result<Section<Single>, PureEnd<Refusal>>
+fn next_net<'r, 'f>(
+    reader: &mut SectionReader<'r, 'f>,
+) -> Result<SpelledSection<'r, 'f, Single>, PureEnd<Refusal>>
     requires { length reader.old.nets < length reader.old.file.reading.sections }
     ensures ok { IfOk result (IsNet (sole_corner reader.old.pick) reader.old.file reader.old.head (next_section reader.old)) }
     ensures read { IfOk result (λ net. reader.new ≡ with_net reader.old net.net) }

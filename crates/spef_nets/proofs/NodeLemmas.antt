@@ -185,7 +185,7 @@ module _ (file : SpefText) (net : List ℕ) (listed joined : List Key) (old new 
         new_last = λ absent. absurd (true≢false (sym there ∙ absent));
       }
   numbering (fresh place mark name is_marked none name_is last is) =
-      let its_kept : slice_get old.names word ≡ Some (Some node) = its_name file net listed joined old are word text node stands names_it place mark is_marked none in
+      let its_kept : slice_get old.names word ≡ Some (Some node) = its_name file net listed joined old are word text node stands names_it place mark is_marked in
       let name_node : name ≡ Some node = some_is name (Some node) (sym name_is ∙ its_kept) in
       let stays : new ≡ with_number old word place mark (Some node) = is ∙ ap (with_number old word place mark) name_node in
       let absent : among (key_of node) (map key_of old.nodes) ≡ false = (its_mark file net listed joined old are word text node stands names_it place mark is_marked).unnumbered none in

@@ -1,9 +1,13 @@
 -- The names that are made of the tokens where nodes stand first.
-use Rattle.std.proofs.Common.{◌≡◌, ℕ, zero, suc, ◌<◌, List, [], ◌∷◌, ◌++◌, length, Option, Some, None, refl, sym, ap, ◌∙◌, arith}
-use Rattle.std.specs.Prelude.{All, slice_get, slice_index, option_to_list}
+use Rattle.std.proofs.Common.{◌≡◌, ℕ, zero, suc, ◌<◌, List, [], ◌∷◌, ◌++◌, length, map, get_or, Option, Some, None, Result, Ok, Err, refl, sym, ap, ◌∙◌, subst, arith}
+use Rattle.std.specs.Prelude.{All, slice_get, slice_index, option_to_list, OnOk, OnErr}
+use Rattle.std.proofs.lemmas.Grind.{flat_map-append}
+use Rattle.std.proofs.lemmas.List.Elements.{All-push}
 use Rattle.name_table.specs.declared.spef_names.NodeName.{NodeName}
 use Rattle.spef_text.specs.SpefFiles.{SpefText}
+use Rattle.spef_text.specs.Heads.{HeadText}
 use Rattle.spef_nets.specs.Nodes.{node_at, nodes_at}
+use Rattle.spef_nets.specs.NodeNames.{AreSpelled}
 
 -- a token that names a node
 abbrev pub NamesOne : SpefText → ℕ → Type 0
@@ -32,3 +36,25 @@ name_there file (token ∷ tokens) (suc i) name all within is =
 
 pub nothing_named : {P : Type 0} (node : NodeName) → None ≡ Some node → P
 nothing_named node e = absurd (cc)
+
+-- one more token that names a node
+pub still_spelled : {T E : Type 0} (file : SpefText) (head : HeadText) (old new : List ℕ) (token : ℕ) (result : Result T E) → AreSpelled file head old → NamesOne file token
+    → OnOk result (new ≡ old ++ token ∷ []) → OnErr result (new ≡ old) → AreSpelled file head new
+still_spelled file head old new token (Ok x) are names ok err = record {
+  head_of_file = are.head_of_file;
+  each = subst (All (NamesOne file)) (sym ok) (All-push (NamesOne file) old token are.each names);
+}
+still_spelled file head old new token (Err e) are names ok err = subst (AreSpelled file head) (sym err) are
+
+-- and one more name
+pub one_more_name : {T E : Type 0} (file : SpefText) (old new : List ℕ) (token : ℕ) (node : NodeName) (result : Result T E) → node_at file token ≡ Some node
+    → OnOk result (new ≡ old ++ token ∷ []) → OnOk result (nodes_at file new ≡ nodes_at file old ++ node ∷ [])
+one_more_name file old new token node (Err e) names ok = tt
+one_more_name file old new token node (Ok x) names ok =
+    ap (nodes_at file) ok ∙ flat_map-append (λ (at : ℕ). option_to_list (node_at file at)) old (token ∷ []) ∙ ap (λ l. nodes_at file old ++ l) (nodes_first file token [] node names)
+
+-- the token of a spelling whose name is known
+pub token_named : (file : SpefText) (tokens : List ℕ) (i token other : ℕ) (node : NodeName) → slice_get (map (node_at file) tokens) i ≡ Some (Some node) → token ≡ get_or tokens i other → node_at file token ≡ Some node
+token_named file [] i token other node named at = absurd (cc)
+token_named file (first ∷ tokens) zero token other node named at = let is : node_at file first ≡ Some node = cc in ap (node_at file) at ∙ is
+token_named file (first ∷ tokens) (suc i) token other node named at = token_named file tokens i token other node named at

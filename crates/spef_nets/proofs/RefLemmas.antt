@@ -84,8 +84,9 @@ pub absent_at : (keys : List Key) (i : ℕ) (key other : Key) → among key keys
 absent_at keys i key other absent at same = true≢false (sym (among_at keys i key (at ∙ ap Some same)) ∙ absent)
 
 module _ (file : SpefText) (net : List ℕ) (listed joined : List Key) where
-  pub none_yet : AreRefs file net [] [] no_refs
+  pub none_yet : AreRefs file net [] [] (no_refs file)
   none_yet = record {
+    of_file = refl;
     words_placed = refl;
     words_named = refl;
     keys_marked = refl;
@@ -113,7 +114,7 @@ module _ (file : SpefText) (net : List ℕ) (listed joined : List Key) where
         place = place;
         placed = ap (slice_get after.places) (sym are.words_placed) ∙ get_last refs.places place;
         key = at;
-        kept = λ mark e none. ap (slice_get after.names) (sym are.words_named) ∙ get_last refs.names (Some node);
+        kept = ap (slice_get after.names) (sym are.words_named) ∙ get_last refs.names (Some node);
       }
 
       old_spelled : (number : ℕ) (other : List ℕ) → IsSpelled file refs number other → IsSpelled file after number other
@@ -123,7 +124,7 @@ module _ (file : SpefText) (net : List ℕ) (listed joined : List Key) where
         place = is.place;
         placed = get_left refs.places (place ∷ []) number is.place is.placed;
         key = keys_stay is.place (key_of is.node) is.key;
-        kept = λ mark e none. get_left refs.names (Some node ∷ []) number (Some is.node) (is.kept mark (marks_stay is.place mark (all_at (λ p. p < length refs.marks) refs.places number is.place are.placed is.placed) e) none);
+        kept = get_left refs.names (Some node ∷ []) number (Some is.node) is.kept;
       }
 
       word_spelled : (number : ℕ) (other : List ℕ) → slice_get after.words number ≡ Some other → IsSpelled file after number other
@@ -148,6 +149,7 @@ module _ (file : SpefText) (net : List ℕ) (listed joined : List Key) where
     pub put_held : (word : List ℕ) (node : NodeName) (place : ℕ) → named file true word ≡ Some node → slice_get refs.keys place ≡ Some (key_of node)
         → AreRefs file net listed joined (with_word refs word place node refs.keys refs.marks)
     put_held word node place names_it at = record {
+      of_file = are.of_file;
       words_placed = words_placed_after word node names_it place refs.keys refs.marks at are.keys_marked (λ i key e. e) (λ i mark h e. e) (omega arith);
       words_named = words_named_after word node names_it place refs.keys refs.marks at are.keys_marked (λ i key e. e) (λ i mark h e. e) (omega arith);
       keys_marked = are.keys_marked;
@@ -170,6 +172,7 @@ module _ (file : SpefText) (net : List ℕ) (listed joined : List Key) where
     pub put_added : (word : List ℕ) (node : NodeName) → named file true word ≡ Some node → among (key_of node) refs.keys ≡ false
         → AreRefs file net listed joined (with_word refs word (length refs.keys) node (refs.keys ++ key_of node ∷ []) (refs.marks ++ new_mark net node ∷ []))
     put_added word node names_it absent = record {
+      of_file = are.of_file;
       words_placed = words_placed_after word node names_it place keys marks at marked_all keys_stay marks_stay longer;
       words_named = words_named_after word node names_it place keys marks at marked_all keys_stay marks_stay longer;
       keys_marked = marked_all;
@@ -247,15 +250,12 @@ module _ (file : SpefText) (net : List ℕ) (listed joined : List Key) where
 
     -- the mark of one node is written anew
     module _ (word place : ℕ) (mark mark_after : Mark) (is_marked : IsMarked refs word place mark) (key : Key) (at : slice_get refs.keys place ≡ Some key)
-        (names_after : List (Option NodeName)) (nodes_after : List NodeName) (listed_after joined_after : List Key)
+        (nodes_after : List NodeName) (listed_after joined_after : List Key)
         (here : IsMark net listed_after joined_after nodes_after key mark_after)
         (others : (other : Key) (its : Mark) → (other ≡ key → ⊥) → IsMark net listed joined refs.nodes other its → IsMark net listed_after joined_after nodes_after other its)
-        (covers : (other : Key) → (among other listed_after || (among other joined_after || among other (map key_of nodes_after))) ≡ true → among other refs.keys ≡ true)
-        (names_stay : length names_after ≡ length refs.names)
-        (kept_after : (number : ℕ) (other : List ℕ) (is : IsSpelled file refs number other) (its : Mark) → slice_get (set refs.marks place mark_after) is.place ≡ Some its → its.number ≡ None
-        → slice_get names_after number ≡ Some (Some is.node)) where
+        (covers : (other : Key) → (among other listed_after || (among other joined_after || among other (map key_of nodes_after))) ≡ true → among other refs.keys ≡ true) where
       abbrev remarked : Refs
-      remarked = record { words = refs.words; places = refs.places; names = names_after; keys = refs.keys; marks = set refs.marks place mark_after; nodes = nodes_after }
+      remarked = record { file = refs.file; words = refs.words; places = refs.places; names = refs.names; keys = refs.keys; marks = set refs.marks place mark_after; nodes = nodes_after }
 
       place_within : place < length refs.marks
       place_within = slice_get_within refs.marks place mark is_marked.marked
@@ -277,13 +277,14 @@ module _ (file : SpefText) (net : List ℕ) (listed joined : List Key) where
         place = is.place;
         placed = is.placed;
         key = is.key;
-        kept = λ its e none. kept_after number other is its e none;
+        kept = is.kept;
       }
 
       pub remark : AreRefs file net listed_after joined_after remarked
       remark = record {
+        of_file = are.of_file;
         words_placed = are.words_placed;
-        words_named = names_stay ∙ are.words_named;
+        words_named = are.words_named;
         keys_marked = length_set refs.marks place mark_after ∙ are.keys_marked;
         placed = λ k d h. let w = are.placed k d h in omega (arith, w, length_set refs.marks place mark_after);
         spelled = λ number other e. respelled number other (are.spelled number other e);
@@ -291,15 +292,6 @@ module _ (file : SpefText) (net : List ℕ) (listed joined : List Key) where
         once = are.once;
         covered = covers;
       }
-
-    -- where the number of the mark stays, the names do
-    kept_names : (word place : ℕ) (mark mark_after : Mark) → IsMarked refs word place mark → mark_after.number ≡ mark.number
-        → (number : ℕ) (other : List ℕ) (is : IsSpelled file refs number other) (its : Mark) → slice_get (set refs.marks place mark_after) is.place ≡ Some its → its.number ≡ None
-        → slice_get refs.names number ≡ Some (Some is.node)
-    kept_names word place mark mark_after is_marked same number other is its e none = ⊎_elim
-        (λ l. is.kept mark (ap (slice_get refs.marks) l.0 ∙ is_marked.marked) (sym same ∙ ap (λ (m : Mark). m.number) l.1 ∙ none))
-        (λ r. is.kept its r.1 none)
-        (get_set refs.marks place is.place mark_after its (slice_get_within refs.marks place mark is_marked.marked) e)
 
     -- the node of a word has its key at the place of the word
     module _ (word : ℕ) (text : List ℕ) (node : NodeName) (stands : slice_get refs.words word ≡ Some text) (names_it : named file true text ≡ Some node) (place : ℕ) (mark : Mark) (is_marked : IsMarked refs word place mark) where
@@ -324,8 +316,8 @@ module _ (file : SpefText) (net : List ℕ) (listed joined : List Key) where
       pub its_mark : IsMark net listed joined refs.nodes (key_of node) mark
       its_mark = are.marked place (key_of node) mark key_stands is_marked.marked
 
-      pub its_name : mark.number ≡ None → slice_get refs.names word ≡ Some (Some node)
-      its_name none = is_spelled.kept mark (ap (slice_get refs.marks) place_is ∙ is_marked.marked) none ∙ ap (λ n. Some (Some n)) node_is
+      pub its_name : slice_get refs.names word ≡ Some (Some node)
+      its_name = is_spelled.kept ∙ ap (λ n. Some (Some n)) node_is
 
       abbrev its_key : Key
       its_key = key_of node
@@ -351,7 +343,7 @@ module _ (file : SpefText) (net : List ℕ) (listed joined : List Key) where
 
       -- the node is listed
       pub list_step : AreRefs file net (listed ++ its_key ∷ []) joined (with_mark refs place (listed_mark mark))
-      list_step = remark word place mark (listed_mark mark) is_marked its_key key_stands refs.names refs.nodes (listed ++ its_key ∷ []) joined
+      list_step = remark word place mark (listed_mark mark) is_marked its_key key_stands refs.nodes (listed ++ its_key ∷ []) joined
           (record {
             is_listed = sym (among_last its_key listed);
             does_belong = sym (ap (λ b. b || (among its_key joined || bytes_eq net its_key.head)) (among_last its_key listed));
@@ -365,12 +357,10 @@ module _ (file : SpefText) (net : List ℕ) (listed joined : List Key) where
             unnumbered = m.unnumbered;
           })
           (λ other e. covers_one listed other (among other joined || among other (map key_of refs.nodes)) (covered_rest other) (covered_first other) e)
-          refl
-          (kept_names word place mark (listed_mark mark) is_marked refl)
 
       -- the node stands in a resistor
       pub join_step : AreRefs file net listed (joined ++ its_key ∷ []) (with_mark refs place (joined_mark mark))
-      join_step = remark word place mark (joined_mark mark) is_marked its_key key_stands refs.names refs.nodes listed (joined ++ its_key ∷ [])
+      join_step = remark word place mark (joined_mark mark) is_marked its_key key_stands refs.nodes listed (joined ++ its_key ∷ [])
           (record {
             is_listed = its_mark.is_listed;
             does_belong = sym (ap (λ b. among its_key listed || (b || bytes_eq net its_key.head)) (among_last its_key joined) ∙ or_true (among its_key listed));
@@ -384,8 +374,6 @@ module _ (file : SpefText) (net : List ℕ) (listed joined : List Key) where
             unnumbered = m.unnumbered;
           })
           covers
-          refl
-          (kept_names word place mark (joined_mark mark) is_marked refl)
         where
           covers : (other : Key) → (among other listed || (among other (joined ++ its_key ∷ []) || among other (map key_of refs.nodes))) ≡ true → among other refs.keys ≡ true
           covers other e = by (among other listed) refl e
@@ -402,7 +390,7 @@ module _ (file : SpefText) (net : List ℕ) (listed joined : List Key) where
 
       -- the node gets a number
       pub number_step : mark.number ≡ None → AreRefs file net listed joined (with_number refs word place mark (Some node))
-      number_step none = remark word place mark after is_marked its_key key_stands (set refs.names word None) (refs.nodes ++ node ∷ []) listed joined
+      number_step none = remark word place mark after is_marked its_key key_stands (refs.nodes ++ node ∷ []) listed joined
           (record {
             is_listed = its_mark.is_listed;
             does_belong = its_mark.does_belong;
@@ -416,8 +404,6 @@ module _ (file : SpefText) (net : List ℕ) (listed joined : List Key) where
             unnumbered = λ e. ap (among other) pushed ∙ among_other other keys_before its_key differ ∙ m.unnumbered e;
           })
           covers
-          (length_set refs.names word None)
-          kept_after
         where
           after : Mark
           after = numbered_mark mark (length refs.nodes)
@@ -437,16 +423,6 @@ module _ (file : SpefText) (net : List ℕ) (listed joined : List Key) where
               by : (s : Bool) → same_key other its_key ≡ s → among other refs.keys ≡ true
               by true z = ap (λ k. among k refs.keys) (same_key_is other its_key z) ∙ in_keys
               by false z = are.covered other (ap (λ b. among other listed || (among other joined || b)) (sym (ap (among other) pushed ∙ among_push other keys_before its_key ∙ ap (λ b. among other keys_before || b) z ∙ or_false (among other keys_before))) ∙ e)
-
-          kept_after : (number : ℕ) (other : List ℕ) (is : IsSpelled file refs number other) (its : Mark) → slice_get (set refs.marks place after) is.place ≡ Some its → its.number ≡ None
-              → slice_get (set refs.names word None) number ≡ Some (Some is.node)
-          kept_after number other is its e gone = ⊎_elim
-              (λ l. absurd (no_number (l.1) gone))
-              (λ r. get_set_other refs.names word number None (λ same. r.0 (some_nat is.place place (sym is.placed ∙ ap (slice_get refs.places) same ∙ is_marked.placed))) ∙ is.kept its r.1 gone)
-              (get_set refs.marks place is.place after its (slice_get_within refs.marks place mark is_marked.marked) e)
-            where
-              no_number : after ≡ its → its.number ≡ None → ⊥
-              no_number same gone = let e : Some (length refs.nodes) ≡ None = ap (λ (m : Mark). m.number) same ∙ gone in cc
 
 -- what is read at a word's place
 pub marked_at : (refs : Refs) (word place : ℕ) (mark : Mark) → word < length refs.places → ArePlaced refs → place ≡ get_or refs.places word place → mark ≡ get_or refs.marks place mark → IsMarked refs word place mark

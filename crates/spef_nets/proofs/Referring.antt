@@ -9,7 +9,7 @@ use Rattle.name_table.specs.declared.spef_names.NodeName.{NodeName}
 use Rattle.spef_text.specs.SpefFiles.{SpefText}
 use Rattle.spef_text.specs.Heads.{text_of}
 use Rattle.spef_nets.specs.Nodes.{Key, key_of, among, named, node_at, nodes_at}
-use Rattle.spef_nets.specs.Refs.{Refs, IsPut, held, added, Lists, AreRefs, IsRef, Grows, keys_at, res_keys}
+use Rattle.spef_nets.specs.Refs.{Refs, IsNamed, IsPut, held, added, Lists, AreRefs, IsRef, Grows, keys_at, res_keys}
 use Rattle.spef_nets.specs.Drafts.{Refers, stood, put, unknown, JoinsBy, JoinsAt, AllJoined, AreJoined}
 use Rattle.spef_nets.specs.declared.parts.Joined.{Joined}
 use Rattle.spef_text.specs.declared.entries.Res.{Res}
@@ -69,8 +69,8 @@ module _ (file : SpefText) (net : List ℕ) (listed joined : List Key) where
   pub word_within : (refs : Refs) (token number : ℕ) → AreRefs file net listed joined refs → IsRef file refs.words token (Some number) → number < length refs.places
   word_within refs token number are ref = let w = slice_get_within refs.words number (text_of file token) ref in omega (arith, w, are.words_placed)
 
-  pub word_named : (refs : Refs) (token number : ℕ) → AreRefs file net listed joined refs → IsRef file refs.words token (Some number) → number < length refs.names
-  word_named refs token number are ref = let w = slice_get_within refs.words number (text_of file token) ref in omega (arith, w, are.words_named)
+  pub word_named : (refs : Refs) (token number : ℕ) → AreRefs file net listed joined refs → IsRef file refs.words token (Some number) → IsNamed refs number
+  word_named refs token number are ref = let is = are.spelled number (text_of file token) ref in (is.node, is.kept)
 
   pub node_of : (refs : Refs) (token number : ℕ) → AreRefs file net listed joined refs → IsRef file refs.words token (Some number) → (node : NodeName) × (node_at file token ≡ Some node)
   node_of refs token number are ref = let is = are.spelled number (text_of file token) ref in (is.node, is.names)

@@ -219,5 +219,5 @@ abbrev pub CountsBy : {I : Type 0} → Corners I → Drafted → Drafted → ℕ
 CountsBy corners old new word grains true = PutsCap corners old new word grains
 CountsBy corners old new word grains false = new ≡ old
 
-abbrev pub no_draft : List ℕ → Drafted
-no_draft net = record { refs = no_refs; net = record { net = net; nodes = []; conns = []; loads = []; caps = []; farads = []; joints = []; ohms = []; written = 0 } }
+abbrev pub no_draft : SpefText → List ℕ → Drafted
+no_draft file net = record { refs = no_refs file; net = record { net = net; nodes = []; conns = []; loads = []; caps = []; farads = []; joints = []; ohms = []; written = 0 } }

@@ -1,6 +1,8 @@
 -- What a key of the table of nodes stands for.
-use Rattle.std.specs.Prelude.{ℕ, ◌≤◌, List, [], ◌∷◌, length, take, drop, Option, Some, None, ⊤}
-use Rattle.spef_nets.specs.Nodes.{Key}
+use Rattle.std.specs.Prelude.{◌≡◌, ℕ, ◌≤◌, List, [], ◌∷◌, length, take, drop, Option, Some, None, ⊤}
+use Rattle.name_table.specs.declared.spef_names.NodeName.{NodeName}
+use Rattle.spef_text.specs.SpefFiles.{SpefText}
+use Rattle.spef_nets.specs.Nodes.{Key, key_of, node_at}
 use Rattle.spef_nets.specs.declared.node_table.NodeKey.{NodeKey}
 
 -- head and tail stand one behind the other
@@ -27,3 +29,8 @@ AreCut (key ∷ keys) = IsCut key × AreCut keys
 abbrev pub cut_mark : Option ℕ → ℕ
 cut_mark None = 0
 cut_mark (Some cut) = cut
+
+-- the key of the node that a token names, or nothing where it names none
+abbrev pub IsKeyAt : SpefText → ℕ → Option NodeKey → Type 0
+IsKeyAt file token None = node_at file token ≡ None
+IsKeyAt file token (Some key) = (node : NodeName) × (node_at file token ≡ Some node) × (key_in key ≡ key_of node) × IsCut key

@@ -7,6 +7,11 @@ use Rattle.spef_nets.specs.Nodes.{node_at, nodes_at}
 use Rattle.spef_nets.specs.declared.node_names.NodeNames.{NodeNames}
 use Rattle.spef_nets.specs.declared.node_names.NodeNames.TheVariants.{Held, Spelled}
 
+-- a file, and nodes that it names
+pub record SpelledNodes : Type 0 where
+  pub file : SpefText
+  pub nodes : List NodeName
+
 -- each of the tokens names a node of the file
 pub record AreSpelled (file : SpefText) (head : HeadText) (tokens : List ℕ) : Type 0 where
   pub head_of_file : IsHeadOf file head

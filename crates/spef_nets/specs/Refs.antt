@@ -16,8 +16,9 @@ pub data IsInterned (old new : List Key) (key : Key) (place : ℕ) : Type 0 wher
   added : new ≡ old ++ key ∷ [] → place ≡ length old → among key old ≡ false → IsInterned old new key place
 
 pub record Refs : Type 0 where
+  pub file : SpefText
   pub words : List (List ℕ)
-  -- of each word the place of its node, and the node's name until an element stands at it
+  -- of each word the place of its node, and the node's name
   pub places : List ℕ
   pub names : List (Option NodeName)
   pub keys : List Key
@@ -25,8 +26,8 @@ pub record Refs : Type 0 where
   -- the nodes with a number
   pub nodes : List NodeName
 
-abbrev pub no_refs : Refs
-no_refs = record { words = []; places = []; names = []; keys = []; marks = []; nodes = [] }
+abbrev pub no_refs : SpefText → Refs
+no_refs file = record { file = file; words = []; places = []; names = []; keys = []; marks = []; nodes = [] }
 
 abbrev pub ArePlaced : Refs → Type 0
 ArePlaced refs = All (λ place. place < length refs.marks) refs.places
@@ -37,6 +38,7 @@ new_mark net node = record { listed = false; belongs = bytes_eq net node.head; n
 
 abbrev pub with_word : Refs → List ℕ → ℕ → NodeName → List Key → List Mark → Refs
 with_word refs word place node keys marks = record {
+  file = refs.file;
   words = refs.words ++ word ∷ [];
   places = refs.places ++ place ∷ [];
   names = refs.names ++ Some node ∷ [];
@@ -59,6 +61,7 @@ pub record IsMarked (refs : Refs) (word place : ℕ) (mark : Mark) : Type 0 wher
 
 abbrev pub with_mark : Refs → ℕ → Mark → Refs
 with_mark refs place mark = record {
+  file = refs.file;
   words = refs.words;
   places = refs.places;
   names = refs.names;
@@ -97,9 +100,10 @@ pub record Lists (old new : Refs) (word : ℕ) (was : Bool) : Type 0 where
 
 abbrev pub with_number : Refs → ℕ → ℕ → Mark → Option NodeName → Refs
 with_number refs word place mark name = record {
+  file = refs.file;
   words = refs.words;
   places = refs.places;
-  names = slice_set refs.names word None;
+  names = refs.names;
   keys = refs.keys;
   marks = slice_set refs.marks place (numbered_mark mark (length refs.nodes));
   nodes = refs.nodes ++ option_to_list name;
@@ -111,14 +115,18 @@ pub data Numbers (old new : Refs) (word number : ℕ) : Type 0 where
   fresh : (place : ℕ) (mark : Mark) (name : Option NodeName) → IsMarked old word place mark → mark.number ≡ None → slice_get old.names word ≡ Some name
       → number ≡ length old.nodes → new ≡ with_number old word place mark name → Numbers old new word number
 
--- a word names a node of the file, whose name is kept until the node has a number
+-- a word's name is known
+abbrev pub IsNamed : Refs → ℕ → Type 0
+IsNamed refs word = (node : NodeName) × (slice_get refs.names word ≡ Some (Some node))
+
+-- a word names a node of the file
 pub record IsSpelled (file : SpefText) (refs : Refs) (number : ℕ) (word : List ℕ) : Type 0 where
   pub node : NodeName
   pub names : named file true word ≡ Some node
   pub place : ℕ
   pub placed : slice_get refs.places number ≡ Some place
   pub key : slice_get refs.keys place ≡ Some (key_of node)
-  pub kept : (mark : Mark) → slice_get refs.marks place ≡ Some mark → mark.number ≡ None → slice_get refs.names number ≡ Some (Some node)
+  pub kept : slice_get refs.names number ≡ Some (Some node)
 
 -- a node's mark says whether it is listed, whether it belongs to the net's section, and its number
 pub record IsMark (net : List ℕ) (listed joined : List Key) (nodes : List NodeName) (key : Key) (mark : Mark) : Type 0 where
@@ -129,6 +137,7 @@ pub record IsMark (net : List ℕ) (listed joined : List Key) (nodes : List Node
 
 -- the references of a section of which these nodes have been listed as connections, and these stand in resistors
 pub record AreRefs (file : SpefText) (net : List ℕ) (listed joined : List Key) (refs : Refs) : Type 0 where
+  pub of_file : refs.file ≡ file
   pub words_placed : length refs.places ≡ length refs.words
   pub words_named : length refs.names ≡ length refs.words
   pub keys_marked : length refs.marks ≡ length refs.keys

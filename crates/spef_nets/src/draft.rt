@@ -1,7 +1,8 @@
 //! The elements of a section that have been read.
 ghost use Rattle.std.specs.Prelude.{◌≡◌, ◌<◌, [], length, IfOk, OnOk};
 ghost use Rattle.spef_nets.specs.NetElements.{AreWhole};
-ghost use Rattle.spef_nets.specs.Refs.{ArePlaced};
+ghost use Rattle.spef_text.specs.Heads.{IsHeadOf};
+ghost use Rattle.spef_nets.specs.Refs.{ArePlaced, IsNamed};
 ghost use Rattle.spef_nets.specs.RefsOf.{refs_of};
 ghost use Rattle.spef_nets.specs.Drafts.{Drafted, corners_of, AddsRow, no_draft, written_net, FaradsOf, OhmsOf, PutsConn, PutsCap, PutsRes};
 ghost use Rattle.spef_nets.specs.DraftOf.{drafted};
@@ -11,12 +12,12 @@ use crate::elements::Elements;
 use crate::parts::{Ends, Listed};
 use crate::pushing::push;
 use crate::referred::Referred;
-use crate::section::Section;
+use crate::source::Source;
+use crate::spelled_section::SpelledSection;
 use corner_set::{CornerSet, Pick};
 use delay_units::{Farads, Ohms};
 use edge_io::{OutOfMemory, Text};
 use spef_text::Conn;
-use std::alloc::Global;
 use std::marker::PhantomData;
 
 /// With fewer capacitances a net is small.
@@ -24,9 +25,9 @@ const FEW_CAPS: usize = 32;
 
 /// The elements that have been read of the section of a net.
 #[derive(Drop)]
-pub struct Draft<'t> {
+pub struct Draft<'r, 'f> {
     pub net: Text,
-    pub refs: Referred<'t>,
+    pub refs: Referred<'r, 'f>,
     conns: Vec<Listed>,
     loads: Vec<Farads>,
     caps: Vec<u32>,
@@ -79,20 +80,22 @@ fn room_for(caps: usize, ress: usize) -> usize {
     }
 }
 
-impl<'t> Draft<'t> {
+impl<'r, 'f> Draft<'r, 'f> {
     /// No element, with room for so many connections, capacitances and resistors.
     pub fn with_room<C: CornerSet>(
-        alloc: Global,
+        source: &Source<'r, 'f>,
         net: Text,
         conns: usize,
         caps: usize,
         ress: usize,
-    ) -> Result<Draft<'t>, OutOfMemory>
-        ensures { IfOk result (λ draft. drafted draft ≡ no_draft net) }
+    ) -> Result<Draft<'r, 'f>, OutOfMemory>
+        requires { IsHeadOf source.now.file.now source.now.head.now }
+        ensures { IfOk result (λ draft. drafted draft ≡ no_draft source.now.file.now net) }
     {
+        let alloc = source.alloc;
         Ok(Draft {
             net,
-            refs: Referred::with_room(alloc, room_for(caps, ress))?,
+            refs: Referred::with_room(alloc, source.file, source.head, room_for(caps, ress))?,
             conns: Vec::with_capacity(alloc, conns)?,
             loads: Vec::with_capacity(alloc, conns.saturating_mul(C::COUNT))?,
             caps: Vec::with_capacity(alloc, caps)?,
@@ -111,7 +114,7 @@ impl<'t> Draft<'t> {
         pick: Pick,
     ) -> Result<(), OutOfMemory>
         requires within { spelling < length (refs_of self.old.refs).places }
-        requires named { spelling < length (refs_of self.old.refs).names }
+        requires named { IsNamed (refs_of self.old.refs) spelling }
         requires placed { ArePlaced (refs_of self.old.refs) }
         ensures { OnOk result (PutsConn (corners_of C.COUNT C.number_of C.member_of pick) (drafted self.old) (drafted self.new) spelling conn.now load) }
     {
@@ -134,7 +137,7 @@ impl<'t> Draft<'t> {
         pick: Pick,
     ) -> Result<(), OutOfMemory>
         requires within { spelling < length (refs_of self.old.refs).places }
-        requires named { spelling < length (refs_of self.old.refs).names }
+        requires named { IsNamed (refs_of self.old.refs) spelling }
         requires placed { ArePlaced (refs_of self.old.refs) }
         ensures { OnOk result (PutsCap (corners_of C.COUNT C.number_of C.member_of pick) (drafted self.old) (drafted self.new) spelling value) }
     {
@@ -153,9 +156,9 @@ impl<'t> Draft<'t> {
         pick: Pick,
     ) -> Result<(), OutOfMemory>
         requires first { first < length (refs_of self.old.refs).places }
-        requires first_named { first < length (refs_of self.old.refs).names }
+        requires first_named { IsNamed (refs_of self.old.refs) first }
         requires second { second < length (refs_of self.old.refs).places }
-        requires second_named { second < length (refs_of self.old.refs).names }
+        requires second_named { IsNamed (refs_of self.old.refs) second }
         requires placed { ArePlaced (refs_of self.old.refs) }
         ensures { OnOk result (PutsRes (corners_of C.COUNT C.number_of C.member_of pick) (drafted self.old) (drafted self.new) first second value) }
     {
@@ -167,7 +170,7 @@ impl<'t> Draft<'t> {
     }
 
     /// The net with these elements, of which so many capacitances are written.
-    pub fn into_section<C: CornerSet>(self, written: usize) -> Section<C>
+    pub fn into_section<C: CornerSet>(self, written: usize) -> SpelledSection<'r, 'f, C>
         requires { AreWhole C.COUNT (written_net (drafted self).net written) }
         ensures { result ≡ written_net (drafted self.entry).net written }
     {
@@ -181,7 +184,7 @@ impl<'t> Draft<'t> {
             joints,
             ohms,
         } = self;
-        Section {
+        SpelledSection {
             net,
             nodes: refs.into_nodes(),
             elements: Elements {

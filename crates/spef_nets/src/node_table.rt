@@ -1,5 +1,6 @@
 //! The nodes that a section names, each at its place.
-ghost use Rattle.std.specs.Prelude.{◌≡◌, [], map, Some, IfOk, OnOk};
+ghost use Rattle.std.specs.Prelude.{◌≡◌, [], map, Some, None, IfOk, OnOk};
+ghost use Rattle.std.specs.Option.{option_copied};
 ghost use Rattle.spef_nets.specs.Nodes.{key_of};
 ghost use Rattle.spef_nets.specs.NodeKeys.{key_in, cut_mark, IsCut, AreCut};
 ghost use Rattle.spef_nets.specs.Refs.{IsInterned};
@@ -8,7 +9,7 @@ use crate::name_hash::NameHash;
 use crate::pushing::kept;
 use edge_io::OutOfMemory;
 use indexmap::IndexSet;
-use name_table::NodeName;
+use name_table::{NodeName, WrittenName};
 use std::alloc::Global;
 use std::hash::{Hash, Hasher};
 use std::marker::Model;
@@ -47,19 +48,46 @@ fn cut_mark(cut: Option<u32>) -> u32
 
 impl NodeKey {
     /// The key of a node.
-    fn of(alloc: Global, node: &NodeName) -> Result<NodeKey, OutOfMemory>
+    pub fn of(alloc: Global, node: &NodeName) -> Result<NodeKey, OutOfMemory>
         ensures key { IfOk result (λ key. key_in key ≡ key_of node.now) }
         ensures cut { IfOk result IsCut }
     {
         let head = node.head.bytes();
         match &node.tail {
             Some(tail) => halves_key(alloc, head, tail.bytes()),
-            None => {
-                let text = Vec::from_slice(alloc, head)?;
-                Ok(NodeKey { text, cut: None })
-            }
+            None => whole_key(alloc, head),
         }
     }
+
+    /// The key of a node whose name stands as it is written.
+    pub fn of_written(alloc: Global, name: &WrittenName) -> Result<NodeKey, OutOfMemory>
+        ensures key { IfOk result (λ key. key_in key ≡ record { head = name.now.head.now; tail = option_copied name.now.tail }) }
+        ensures cut { IfOk result IsCut }
+    {
+        match name.tail {
+            Some(tail) => halves_key(alloc, name.head, tail),
+            None => whole_key(alloc, name.head),
+        }
+    }
+
+    /// The node's head.
+    pub fn head(&self) -> &[u8]
+        requires { IsCut self.now }
+        ensures { result.now ≡ (key_in self.now).head }
+    {
+        match self.cut {
+            Some(cut) => &self.text[..cut as usize],
+            None => self.text.as_slice(),
+        }
+    }
+}
+
+fn whole_key(alloc: Global, head: &[u8]) -> Result<NodeKey, OutOfMemory>
+    ensures key { IfOk result (λ key. key_in key ≡ record { head = head.now; tail = None }) }
+    ensures cut { IfOk result IsCut }
+{
+    let text = Vec::from_slice(alloc, head)?;
+    Ok(NodeKey { text, cut: None })
 }
 
 fn halves_key(alloc: Global, head: &[u8], tail: &[u8]) -> Result<NodeKey, OutOfMemory>
@@ -80,7 +108,6 @@ fn halves_key(alloc: Global, head: &[u8], tail: &[u8]) -> Result<NodeKey, OutOfM
 #[derive(Drop)]
 pub struct NodeTable {
     keys: IndexSet<NodeKey, NameHash>,
-    alloc: Global,
 }
 
 impl Model for NodeTable {
@@ -101,14 +128,14 @@ impl NodeTable {
         ensures { IfOk result (λ table. table ≡ []) }
     {
         let keys = IndexSet::with_capacity_and_hasher(alloc, many, NameHash::default())?;
-        Ok(NodeTable { keys, alloc })
+        Ok(NodeTable { keys })
     }
 
     /// The place of a node: its own where it is held, and else a new last one. It is one look-up.
-    pub fn intern(&mut self, node: &NodeName) -> Result<usize, OutOfMemory>
-        ensures { IfOk result (IsInterned self.old self.new (key_of node.now)) }
+    pub fn intern(&mut self, key: NodeKey) -> Result<usize, OutOfMemory>
+        requires { IsCut key }
+        ensures { IfOk result (IsInterned self.old self.new (key_in key)) }
     {
-        let key = NodeKey::of(self.alloc, node)?;
         intern(&mut self.keys, key)
     }
 }

@@ -34,7 +34,7 @@ pub fn read_sections<C: CornerSet>(
     let mut sections = Vec::new(alloc);
     for _ in 0..file.section_count() {
         let section = reader.read::<C>()?;
-        push(&mut sections, section)?;
+        push(&mut sections, section.into_section(alloc)?)?;
     }
     Ok(Sections {
         sections,

@@ -1,43 +1,54 @@
 //! The nodes that a section refers to, and which of them belong to it.
 ghost use Rattle.std.specs.Prelude.{◌≡◌, ◌<◌, false, [], ◌∷◌, ◌++◌, length, slice_get, Some, None, Contains, IfOk, OnOk, IfSome, IfNone, option_to_list};
-ghost use Rattle.spef_nets.specs.Refs.{no_refs, ArePlaced, IsPut, Belongs, Joins, Lists, Numbers};
+ghost use Rattle.name_table.specs.declared.spef_names.NodeName.{NodeName};
+ghost use Rattle.spef_text.specs.Heads.{IsHeadOf};
+ghost use Rattle.spef_nets.specs.Nodes.{node_at};
+ghost use Rattle.spef_nets.specs.NodeKeys.{IsKeyAt};
+ghost use Rattle.spef_nets.specs.Refs.{no_refs, ArePlaced, IsNamed, IsPut, Belongs, Joins, Lists, Numbers};
 ghost use Rattle.spef_nets.specs.RefsOf.{refs_of};
 ghost use Rattle.spef_nets.specs.Drafts.{BelongsBy};
 
 use crate::marks::Mark;
-use crate::node_table::NodeTable;
+use crate::node_table::{NodeKey, NodeTable};
+use crate::node_tokens::NodeTokens;
 use crate::pushing::{kept, push};
 use crate::spellings::Spellings;
 use edge_io::{OutOfMemory, Text};
-use name_table::NodeName;
+use spef_text::{Head, SpefFile};
 use std::alloc::Global;
 
 /// The spellings that stand in a section, and the nodes that they name, also those that do not belong to it.
 #[derive(Drop)]
-pub struct Referred<'t> {
-    words: Spellings<'t>,
-    // of each spelling the place of its node, and its name until an element stands at it
+pub struct Referred<'r, 'f> {
+    words: Spellings<'r>,
+    // of each spelling the place of its node, and the token where it stands first
     places: Vec<u32>,
-    names: Vec<Option<NodeName>>,
+    tokens: Vec<u32>,
     table: NodeTable,
     // of each node
     marks: Vec<Mark>,
     // the nodes with a number
-    nodes: Vec<NodeName>,
+    nodes: NodeTokens<'r, 'f>,
 }
 
-impl<'t> Referred<'t> {
+impl<'r, 'f> Referred<'r, 'f> {
     /// No spelling yet, with room for those of so many nodes.
-    pub fn with_room(alloc: Global, nodes: usize) -> Result<Referred<'t>, OutOfMemory>
-        ensures { IfOk result (λ refs. refs_of refs ≡ no_refs) }
+    pub fn with_room(
+        alloc: Global,
+        file: &'r SpefFile<'f>,
+        head: &'r Head,
+        nodes: usize,
+    ) -> Result<Referred<'r, 'f>, OutOfMemory>
+        requires { IsHeadOf file.now head.now }
+        ensures { IfOk result (λ refs. refs_of refs ≡ no_refs file.now) }
     {
         Ok(Referred {
             words: Spellings::with_room(alloc, nodes)?,
             places: Vec::with_capacity(alloc, nodes)?,
-            names: Vec::with_capacity(alloc, nodes)?,
+            tokens: Vec::with_capacity(alloc, nodes)?,
             table: NodeTable::with_room(alloc, nodes)?,
             marks: Vec::with_capacity(alloc, nodes)?,
-            nodes: Vec::with_capacity(alloc, nodes)?,
+            nodes: NodeTokens::with_room(alloc, file, head, nodes)?,
         })
     }
 
@@ -50,17 +61,24 @@ impl<'t> Referred<'t> {
         self.words.find(word)
     }
 
-    /// Puts a spelling at the end that did not stand before, and what it names.
-    pub fn put(&mut self, word: &'t [u8], node: NodeName, net: &Text) -> Result<(), OutOfMemory>
+    /// Puts a spelling at the end that did not stand before, which is that of a token, and the key of the node that it names.
+    pub fn put(
+        &mut self,
+        word: &'r [u8],
+        token: u64,
+        key: NodeKey,
+        net: &Text,
+    ) -> Result<(), OutOfMemory>
         requires absent { ¬ Contains (refs_of self.old).words word.now }
         requires marked { length (refs_of self.old).marks ≡ length (refs_of self.old).keys }
-        ensures { OnOk result (IsPut net.now (refs_of self.old) (refs_of self.new) word.now node) }
+        requires key { IsKeyAt (refs_of self.old).file token (Some key) }
+        ensures { (node : NodeName) → node_at (refs_of self.old).file token ≡ Some node → OnOk result (IsPut net.now (refs_of self.old) (refs_of self.new) word.now node) }
     {
-        let place = self.table.intern(&node)?;
-        let belongs = net.bytes() == node.head.bytes();
+        let belongs = net.bytes() == key.head();
+        let place = self.table.intern(key)?;
         mark_new(&mut self.marks, place, belongs)?;
         push(&mut self.places, kept(place)?)?;
-        push(&mut self.names, Some(node))?;
+        push(&mut self.tokens, kept(token as usize)?)?;
         self.words.add(word)?;
         Ok(())
     }
@@ -125,10 +143,10 @@ impl<'t> Referred<'t> {
         mark.listed
     }
 
-    /// The number of a node in the section: its own, and else that of a new last one, with this spelling.
+    /// The number of a node in the section: its own, and else that of a new last one, named by this spelling.
     pub fn number(&mut self, spelling: usize) -> Result<u32, OutOfMemory>
         requires within { spelling < length (refs_of self.old).places }
-        requires named { spelling < length (refs_of self.old).names }
+        requires named { IsNamed (refs_of self.old) spelling }
         requires placed { ArePlaced (refs_of self.old) }
         ensures { IfOk result (Numbers (refs_of self.old) (refs_of self.new) spelling) }
     {
@@ -138,8 +156,7 @@ impl<'t> Referred<'t> {
             Some(number) => Ok(number),
             None => {
                 let number = kept(self.nodes.len())?;
-                let name = self.names[spelling].take();
-                push_name(&mut self.nodes, name)?;
+                self.nodes.push(self.tokens[spelling])?;
                 self.marks[place] = Mark {
                     listed: mark.listed,
                     belongs: mark.belongs,
@@ -151,8 +168,8 @@ impl<'t> Referred<'t> {
     }
 
     /// The nodes with a number, in its order.
-    pub fn into_nodes(self) -> Vec<NodeName>
-        ensures { result.items ≡ (refs_of self.entry).nodes }
+    pub fn into_nodes(self) -> NodeTokens<'r, 'f>
+        ensures { result ≡ record { file = (refs_of self.entry).file; nodes = (refs_of self.entry).nodes } }
     {
         self.nodes
     }
@@ -170,15 +187,6 @@ fn mark_new(marks: &mut Vec<Mark>, place: usize, belongs: bool) -> Result<(), Ou
             number: None,
         };
         push(marks, mark)?;
-    }
-    Ok(())
-}
-
-fn push_name(nodes: &mut Vec<NodeName>, name: Option<NodeName>) -> Result<(), OutOfMemory>
-    ensures { OnOk result (nodes.new.items ≡ nodes.old.items ++ option_to_list name) }
-{
-    if let Some(node) = name {
-        push(nodes, node)?;
     }
     Ok(())
 }

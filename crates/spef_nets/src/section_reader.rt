@@ -8,8 +8,8 @@ ghost use Rattle.spef_nets.specs.Drafts.{corners_of};
 ghost use Rattle.spef_nets.specs.Reading.{IsReading, AreFaultlessBefore, next_section, with_net};
 
 use crate::ends::SectionEnd;
-use crate::section::Section;
 use crate::source::Source;
+use crate::spelled_section::SpelledSection;
 use corner_set::{CornerSet, Pick};
 use edge_io::{OutOfMemory, Text};
 use name_table::Names;
@@ -68,7 +68,10 @@ fn put_net(nets: &mut Names, net: &Text) -> Result<(), OutOfMemory>
 }
 
 // Reads the section behind those of these nets, and puts its net behind them.
-fn read_behind<C: CornerSet>(source: &Source, nets: &mut Names) -> Result<Section<C>, SectionEnd>
+fn read_behind<'r, 'f, C: CornerSet>(
+    source: &Source<'r, 'f>,
+    nets: &mut Names,
+) -> Result<SpelledSection<'r, 'f, C>, SectionEnd>
     requires reading { IsReading (record { file = source.now.file.now; head = source.now.head.now; pick = source.now.pick; nets = nets.old }) }
     requires left { length nets.old < length source.now.file.now.reading.sections }
     ensures ok { IfOk result (IsNet (corners_of C.COUNT C.number_of C.member_of source.now.pick) source.now.file.now source.now.head.now (section_at source.now.file.now.reading.sections (length nets.old))) }
@@ -117,7 +120,7 @@ impl<'r, 'f> SectionReader<'r, 'f> {
     /// The first fault in the order of the file is told, which is the one with the least token; at one token they come in the
     /// order of [`SectionEnd`]. All three members of a value are examined. The total behind a net, the lines `*N`, and the loads
     /// of later connections with one node are not. After a refusal the section is still the next one.
-    pub fn read<C: CornerSet>(&mut self) -> Result<Section<C>, SectionEnd>
+    pub fn read<C: CornerSet>(&mut self) -> Result<SpelledSection<'r, 'f, C>, SectionEnd>
         requires { length self.old.nets < length self.old.file.reading.sections }
         // What is answered is what the section says.
         ensures ok { IfOk result (IsNet (record { count = C.COUNT; number = C.number_of; member = λ corner. C.member_of corner self.old.pick }) self.old.file self.old.head (next_section self.old)) }

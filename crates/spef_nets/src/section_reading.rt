@@ -6,7 +6,7 @@ ghost use Rattle.spef_text.specs.declared.entries.Res.{Res};
 ghost use Rattle.spef_nets.specs.Nodes.{net_at};
 ghost use Rattle.spef_nets.specs.Sections.{IsNet};
 ghost use Rattle.spef_nets.specs.Faults.{naming, IsGood, IsFaultless};
-ghost use Rattle.spef_nets.specs.Refs.{ArePlaced, AreRefs, IsRef, Grows, res_keys};
+ghost use Rattle.spef_nets.specs.Refs.{ArePlaced, IsNamed, AreRefs, IsRef, Grows, res_keys};
 ghost use Rattle.spef_nets.specs.RefsOf.{refs_of};
 ghost use Rattle.spef_nets.specs.Drafts.{corners_of, IsUpto, IsStop, AreSomeRefs, JoinsAt, AllJoined, AreJoined, points_upto, IsLoad, IsLoadFault, IsUnless, CountsBy, no_draft};
 ghost use Rattle.spef_nets.specs.DraftOf.{drafted};
@@ -17,8 +17,8 @@ use crate::ends::SectionEnd;
 use crate::parts::{Joined, spelling_of};
 use crate::pushing::push;
 use crate::referred::Referred;
-use crate::section::Section;
 use crate::source::Source;
+use crate::spelled_section::SpelledSection;
 use corner_set::CornerSet;
 use edge_io::{OutOfMemory, Text};
 use spef_text::{Cap, Conn};
@@ -45,7 +45,7 @@ impl<'r, 'f> Source<'r, 'f> {
     // The spelling of a node that stands in a resistor.
     fn joined_at(
         &self,
-        refs: &mut Referred<'r>,
+        refs: &mut Referred<'r, 'f>,
         net: &Text,
         token: u64,
     ) -> Result<Option<usize>, OutOfMemory>
@@ -66,7 +66,7 @@ impl<'r, 'f> Source<'r, 'f> {
     fn read_joints(
         &self,
         s: usize,
-        refs: &mut Referred<'r>,
+        refs: &mut Referred<'r, 'f>,
         net: &Text,
     ) -> Result<Vec<Joined>, OutOfMemory>
         requires section { s < length self.now.file.now.reading.sections }
@@ -91,13 +91,13 @@ impl<'r, 'f> Source<'r, 'f> {
     fn begin<C: CornerSet>(
         &self,
         s: usize,
-        draft: &mut Draft<'r>,
+        draft: &mut Draft<'r, 'f>,
     ) -> Result<Vec<Joined>, OutOfMemory>
         requires section { s < length self.now.file.now.reading.sections }
         requires head { IsHeadOf self.now.file.now self.now.head.now }
         requires net { net_at self.now.file.now (section_at self.now.file.now.reading.sections s).net ≡ Some (drafted draft.old).net.net }
         requires new { IsGood self.now.file.now s (section_at self.now.file.now.reading.sections s) (naming (section_at self.now.file.now.reading.sections s).net) }
-        requires fresh { drafted draft.old ≡ no_draft (drafted draft.old).net.net }
+        requires fresh { drafted draft.old ≡ no_draft self.now.file.now (drafted draft.old).net.net }
         ensures upto { OnOk result (IsUpto (corners_of C.COUNT C.number_of C.member_of self.now.pick) self.now.file.now self.now.head.now s (length (section_at self.now.file.now.reading.sections s).ress) 0 0 0 (drafted draft.new)) }
         ensures joints { IfOk result (λ joints. AllJoined self.now.file.now (drafted draft.new).refs.words (section_at self.now.file.now.reading.sections s).ress joints.items) }
         ensures count { IfOk result (λ joints. length joints.items ≡ length (section_at self.now.file.now.reading.sections s).ress) }
@@ -126,7 +126,7 @@ impl<'r, 'f> Source<'r, 'f> {
         &self,
         s: usize,
         i: usize,
-        draft: &mut Draft<'r>,
+        draft: &mut Draft<'r, 'f>,
     ) -> Result<(), SectionEnd>
         requires section { s < length self.now.file.now.reading.sections }
         requires place { i < length (section_at self.now.file.now.reading.sections s).conns }
@@ -147,7 +147,11 @@ impl<'r, 'f> Source<'r, 'f> {
         Ok(())
     }
 
-    fn read_conns<C: CornerSet>(&self, s: usize, draft: &mut Draft<'r>) -> Result<(), SectionEnd>
+    fn read_conns<C: CornerSet>(
+        &self,
+        s: usize,
+        draft: &mut Draft<'r, 'f>,
+    ) -> Result<(), SectionEnd>
         requires section { s < length self.now.file.now.reading.sections }
         requires head { IsHeadOf self.now.file.now self.now.head.now }
         requires upto { IsUpto (corners_of C.COUNT C.number_of C.member_of self.now.pick) self.now.file.now self.now.head.now s (length (section_at self.now.file.now.reading.sections s).ress) 0 0 0 (drafted draft.old) }
@@ -173,13 +177,13 @@ impl<'r, 'f> Source<'r, 'f> {
     // Puts a capacitance to ground at a node, if it counts there.
     fn count<C: CornerSet>(
         &self,
-        draft: &mut Draft<'r>,
+        draft: &mut Draft<'r, 'f>,
         counts: bool,
         spelling: usize,
         value: Grains,
     ) -> Result<(), OutOfMemory>
         requires within { spelling < length (refs_of draft.old.refs).places }
-        requires named { spelling < length (refs_of draft.old.refs).names }
+        requires named { IsNamed (refs_of draft.old.refs) spelling }
         requires placed { ArePlaced (refs_of draft.old.refs) }
         ensures { OnOk result (CountsBy (corners_of C.COUNT C.number_of C.member_of self.now.pick) (drafted draft.old) (drafted draft.new) spelling value counts) }
     {
@@ -195,7 +199,7 @@ impl<'r, 'f> Source<'r, 'f> {
         &self,
         s: usize,
         i: usize,
-        draft: &mut Draft<'r>,
+        draft: &mut Draft<'r, 'f>,
         cap: &Cap,
         first: usize,
         second_token: u64,
@@ -227,7 +231,7 @@ impl<'r, 'f> Source<'r, 'f> {
         &self,
         s: usize,
         i: usize,
-        draft: &mut Draft<'r>,
+        draft: &mut Draft<'r, 'f>,
     ) -> Result<(), SectionEnd>
         requires section { s < length self.now.file.now.reading.sections }
         requires head { IsHeadOf self.now.file.now self.now.head.now }
@@ -250,7 +254,7 @@ impl<'r, 'f> Source<'r, 'f> {
         }
     }
 
-    fn read_caps<C: CornerSet>(&self, s: usize, draft: &mut Draft<'r>) -> Result<(), SectionEnd>
+    fn read_caps<C: CornerSet>(&self, s: usize, draft: &mut Draft<'r, 'f>) -> Result<(), SectionEnd>
         requires section { s < length self.now.file.now.reading.sections }
         requires head { IsHeadOf self.now.file.now self.now.head.now }
         requires upto { IsUpto (corners_of C.COUNT C.number_of C.member_of self.now.pick) self.now.file.now self.now.head.now s (length (section_at self.now.file.now.reading.sections s).ress) (length (section_at self.now.file.now.reading.sections s).conns) 0 0 (drafted draft.old) }
@@ -268,7 +272,7 @@ impl<'r, 'f> Source<'r, 'f> {
         &self,
         s: usize,
         i: usize,
-        draft: &mut Draft<'r>,
+        draft: &mut Draft<'r, 'f>,
         joined: Joined,
     ) -> Result<(), SectionEnd>
         requires section { s < length self.now.file.now.reading.sections }
@@ -291,7 +295,7 @@ impl<'r, 'f> Source<'r, 'f> {
     fn read_ress<C: CornerSet>(
         &self,
         s: usize,
-        draft: &mut Draft<'r>,
+        draft: &mut Draft<'r, 'f>,
         joints: &[Joined],
     ) -> Result<(), SectionEnd>
         requires section { s < length self.now.file.now.reading.sections }
@@ -309,7 +313,11 @@ impl<'r, 'f> Source<'r, 'f> {
     }
 
     /// Reads the section at a place, of the net with this name. Its faults are looked for in the order of its tokens.
-    pub fn read_section<C: CornerSet>(&self, s: usize, net: Text) -> Result<Section<C>, SectionEnd>
+    pub fn read_section<C: CornerSet>(
+        &self,
+        s: usize,
+        net: Text,
+    ) -> Result<SpelledSection<'r, 'f, C>, SectionEnd>
         requires section { s < length self.now.file.now.reading.sections }
         requires head { IsHeadOf self.now.file.now self.now.head.now }
         requires net { net_at self.now.file.now (section_at self.now.file.now.reading.sections s).net ≡ Some net }
@@ -322,7 +330,7 @@ impl<'r, 'f> Source<'r, 'f> {
         let conns = self.file.conn_count(s);
         let caps = self.file.cap_count(s);
         let ress = self.file.res_count(s);
-        let mut draft = Draft::with_room::<C>(self.alloc, net, conns, caps, ress)?;
+        let mut draft = Draft::with_room::<C>(self, net, conns, caps, ress)?;
         let joints = self.begin::<C>(s, &mut draft)?;
         self.read_conns::<C>(s, &mut draft)?;
         self.read_caps::<C>(s, &mut draft)?;

@@ -6,11 +6,13 @@ ghost use Rattle.spef_nets.specs.Values.{AreGrains, triple_of};
 ghost use Rattle.spef_nets.specs.Nodes.{named, net_at};
 ghost use Rattle.spef_nets.specs.NetElements.{most_farads, most_ohms};
 ghost use Rattle.spef_nets.specs.Faults.{IsUnknownAt, IsValueAt};
+ghost use Rattle.spef_nets.specs.NodeKeys.{IsKeyAt};
 ghost use Rattle.spef_nets.specs.RefsOf.{refs_of};
 ghost use Rattle.spef_nets.specs.Drafts.{AreSomeRefs, Refers, IsUnless};
 
 use crate::amounts::{AmountFault, Grains, grains_of};
 use crate::ends::SectionEnd;
+use crate::node_table::NodeKey;
 use crate::referred::Referred;
 use corner_set::Pick;
 use delay_units::{Farads, Ohms, Unit};
@@ -53,11 +55,33 @@ impl<'r, 'f> Source<'r, 'f> {
         }
     }
 
+    // What makes the node that a token names the one that it is. Of most nodes parts of the file tell it, and no name is made.
+    fn key_at(&self, token: u64) -> Result<Option<NodeKey>, OutOfMemory>
+        requires { IsHeadOf self.now.file.now self.now.head.now }
+        ensures { IfOk result (IsKeyAt self.now.file.now token) }
+    {
+        match self.head.written(self.file, token) {
+            Some(name) => Ok(Some(NodeKey::of_written(self.alloc, &name)?)),
+            None => self.named_key(token),
+        }
+    }
+
+    // The same by the name.
+    fn named_key(&self, token: u64) -> Result<Option<NodeKey>, OutOfMemory>
+        requires { IsHeadOf self.now.file.now self.now.head.now }
+        ensures { IfOk result (IsKeyAt self.now.file.now token) }
+    {
+        match self.name_at(token, true)? {
+            Some(node) => Ok(Some(NodeKey::of(self.alloc, &node)?)),
+            None => Ok(None),
+        }
+    }
+
     /// The number of the spelling at a token, if its index is in the map. It is one look-up; a spelling that is new to the
     /// section is resolved besides.
     pub fn spelling_at(
         &self,
-        refs: &mut Referred<'r>,
+        refs: &mut Referred<'r, 'f>,
         net: &Text,
         token: u64,
     ) -> Result<Option<usize>, OutOfMemory>
@@ -68,10 +92,10 @@ impl<'r, 'f> Source<'r, 'f> {
         let word = self.file.text_of(token);
         match refs.find(word) {
             Some(spelling) => Ok(Some(spelling)),
-            None => match self.name_at(token, true)? {
-                Some(node) => {
+            None => match self.key_at(token)? {
+                Some(key) => {
                     let spelling = refs.len();
-                    refs.put(word, node, net)?;
+                    refs.put(word, token, key, net)?;
                     Ok(Some(spelling))
                 }
                 None => Ok(None),

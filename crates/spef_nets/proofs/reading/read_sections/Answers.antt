@@ -1,4 +1,5 @@
-use Rattle.std.proofs.Common.{◌≡◌, ◌⊎◌, length, arith}
+use Rattle.std.proofs.Common.{◌≡◌, ◌⊎◌, [], ◌∷◌, ◌++◌, length, ap, ◌∙◌, arith}
+use Rattle.spef_nets.specs.NetElements.{NetElements}
 use Rattle.spef_nets.specs.Faults.{IsLeastFault}
 use Rattle.spef_nets.specs.Drafts.{corners_of}
 use Rattle.spef_nets.specs.declared.ends.SectionEnd.TheVariants.{OutOfMemory}
@@ -15,7 +16,7 @@ returns-in_err-section-clause-least g c =
 pub loop-preserved : goal.loop-preserved
 loop-preserved g c =
     one_more (corners_of g.C.CornerSet.COUNT g.C.CornerSet.number_of g.C.CornerSet.member_of) c.args.file.now c.args.head.now c.args.pick c.loop.reader c.loop.sections.items c.loop.counter c.loop.invariant c.read.new.self c.in_ok-section.section c.in_ok-section.ensures.ok c.in_ok-section.ensures.read
-    c.push.new.items.items c.in_ok-push.ensures
+    c.push.new.items.items (c.in_ok-push.ensures ∙ ap (λ (n : NetElements). c.loop.sections.items ++ n ∷ []) c.in_ok-into_section.ensures)
 
 pub returns-clause-faultless : goal.returns-clause-faultless
 returns-clause-faultless g c =

@@ -3,7 +3,8 @@ use Rattle.spef_text.specs.Entries.{section_at}
 use Rattle.spef_nets.specs.NetElements.{NetElements}
 use Rattle.spef_nets.specs.Sections.{IsNet}
 use Rattle.spef_nets.specs.DraftOf.{drafted}
-use Rattle.spef_nets.specs.Drafts.{corners_of}
+use Rattle.spef_nets.specs.Drafts.{corners_of, IsStop}
+use Rattle.spef_nets.proofs.Stepping.{handed_on}
 use Rattle.spef_nets.proofs.Referring.{joined_grown, grows_more}
 use Rattle.spef_nets.proofs.ResStepping.{whole_draft, is_net, is_faultless}
 use Rattle.spef_nets.proofs.source.Source.read_section.Goals as goal
@@ -25,3 +26,15 @@ returns-clause-ok g c =
 
 pub returns-clause-faultless : goal.returns-clause-faultless
 returns-clause-faultless g c = is_faultless (corners_of g.C.CornerSet.COUNT g.C.CornerSet.number_of g.C.CornerSet.member_of c.args.self.now.pick) c.args.self.now.file.now c.args.self.now.head.now c.args.s (drafted c.read_ress.new.draft) c.in_ok-read_ress.ensures.upto
+
+pub returns-in_err-read_conns-clause-err : goal.returns-in_err-read_conns-clause-err
+returns-in_err-read_conns-clause-err g c =
+    handed_on c.from_residual-in_err-read_conns.result c.in_err-read_conns.field-0.0 (IsStop c.args.self.now.file.now c.args.self.now.head.now c.args.s) c.from_residual-in_err-read_conns.ensures.1 c.in_err-read_conns.ensures.err
+
+pub returns-in_err-read_caps-clause-err : goal.returns-in_err-read_caps-clause-err
+returns-in_err-read_caps-clause-err g c =
+    handed_on c.from_residual-in_err-read_caps.result c.in_err-read_caps.field-0.0 (IsStop c.args.self.now.file.now c.args.self.now.head.now c.args.s) c.from_residual-in_err-read_caps.ensures.1 c.in_err-read_caps.ensures.err
+
+pub returns-in_err-read_ress-clause-err : goal.returns-in_err-read_ress-clause-err
+returns-in_err-read_ress-clause-err g c =
+    handed_on c.from_residual-in_err-read_ress.result c.in_err-read_ress.field-0.0 (IsStop c.args.self.now.file.now c.args.self.now.head.now c.args.s) c.from_residual-in_err-read_ress.ensures.1 c.in_err-read_ress.ensures.err

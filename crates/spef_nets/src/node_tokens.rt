@@ -1,0 +1,95 @@
+//! The nodes of a section, by the tokens where they stand first.
+ghost use Rattle.std.specs.Prelude.{◌≡◌, ◌<◌, [], ◌∷◌, ◌++◌, length, Some, IfOk, OnOk, OnErr};
+ghost use Rattle.name_table.specs.declared.spef_names.NodeName.{NodeName};
+ghost use Rattle.spef_text.specs.Heads.{IsHeadOf};
+ghost use Rattle.spef_nets.specs.Nodes.{node_at};
+ghost use Rattle.spef_nets.specs.NodeNames.{nodes_in, AreNames};
+
+use crate::node_names::{NodeNames, Spelled};
+use crate::pushing::push;
+use edge_io::OutOfMemory;
+use name_table::NodeName;
+use spef_text::{Head, SpefFile};
+use std::alloc::Global;
+use std::marker::Model;
+
+/// The nodes of a section, each by a token that names it, in a file whose head this is. Contracts see the file and the nodes.
+#[derive(Drop)]
+pub struct NodeTokens<'r, 'f> {
+    file: &'r SpefFile<'f>,
+    head: &'r Head,
+    tokens: Vec<u32>,
+}
+
+impl<'r, 'f> Model for NodeTokens<'r, 'f> {
+    ghost use Rattle.spef_nets.specs.Nodes.{nodes_at};
+    ghost use Rattle.spef_nets.specs.NodeNames.{SpelledNodes, AreSpelled};
+
+    ghost Value = { SpelledNodes };
+
+    ghost view = { λ n. record { file = n.file.now; nodes = nodes_at n.file.now n.tokens.items } };
+
+    ghost invariant = { λ n. AreSpelled n.file.now n.head.now n.tokens.items };
+}
+
+impl<'r, 'f> NodeTokens<'r, 'f> {
+    /// No node, with room for so many.
+    pub fn with_room(
+        alloc: Global,
+        file: &'r SpefFile<'f>,
+        head: &'r Head,
+        many: usize,
+    ) -> Result<NodeTokens<'r, 'f>, OutOfMemory>
+        requires { IsHeadOf file.now head.now }
+        ensures { IfOk result (λ nodes. nodes ≡ record { file = file.now; nodes = [] }) }
+    {
+        let tokens = Vec::with_capacity(alloc, many)?;
+        Ok(NodeTokens { file, head, tokens })
+    }
+
+    /// Puts the node of a token at the end.
+    pub fn push(&mut self, token: u32) -> Result<(), OutOfMemory>
+        requires { (node : NodeName) × (node_at self.old.file token ≡ Some node) }
+        ensures { (node : NodeName) → node_at self.old.file token ≡ Some node → OnOk result (self.new ≡ record { file = self.old.file; nodes = self.old.nodes ++ node ∷ [] }) }
+    {
+        push_token(&mut self.tokens, token)
+    }
+
+    /// How many nodes there are.
+    pub fn len(&self) -> usize
+        ensures { result ≡ length self.now.nodes }
+    {
+        self.tokens.len()
+    }
+
+    /// The names of the nodes, to be made when they are asked for.
+    pub fn names(&self) -> NodeNames<'_, 'f>
+        ensures names { AreNames result }
+        ensures nodes { nodes_in result ≡ self.now.nodes }
+    {
+        NodeNames::Spelled(Spelled {
+            file: self.file,
+            head: self.head,
+            tokens: self.tokens.as_slice(),
+        })
+    }
+
+    /// The names of all nodes.
+    pub fn all_names(&self, alloc: Global) -> Result<Vec<NodeName>, OutOfMemory>
+        ensures { IfOk result (λ names. names.items ≡ self.now.nodes) }
+    {
+        let spelled = self.names();
+        let mut names = Vec::with_capacity(alloc, self.tokens.len())?;
+        for node in 0..self.len() {
+            push(&mut names, spelled.name(alloc, node)?)?;
+        }
+        Ok(names)
+    }
+}
+
+fn push_token(tokens: &mut Vec<u32>, token: u32) -> Result<(), OutOfMemory>
+    ensures ok { OnOk result (tokens.new.items ≡ tokens.old.items ++ token ∷ []) }
+    ensures err { OnErr result (tokens.new.items ≡ tokens.old.items) }
+{
+    tokens.push(token).map_err(|_| OutOfMemory)
+}
