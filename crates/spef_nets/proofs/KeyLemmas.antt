@@ -125,5 +125,5 @@ interned keys after key place are cut is at (stored, stands, same) = by (list_an
         added (ap (map key_in) grows ∙ map_push key_in keys key) (at ∙ past key keys e ∙ sym (length-map keys key_in)) (sym (any_is key keys cut are) ∙ e)
 
 -- what stands at a number among the words that are borrowed
-pub stands_is : (keys : List (Bor (List ℕ))) (number : ℕ) (kept : Bor (List ℕ)) (word : List ℕ) → Some kept ≡ slice_get keys number → bytes_eq kept.now word ≡ true → slice_get (map (λ key. key.now) keys) number ≡ Some word
-stands_is keys number kept word stands same = map_at (λ (key : Bor (List ℕ)). key.now) keys number kept (sym stands) ∙ ap Some ((bytes_eq-Decides kept.now word).0 same)
+pub stands_is : (keys : List (Bor (List ℕ))) (number : ℕ) (kept : Bor (List ℕ)) (word : List ℕ) → Some kept ≡ slice_get keys number → kept.now ≡ word → slice_get (map (λ key. key.now) keys) number ≡ Some word
+stands_is keys number kept word stands same = map_at (λ (key : Bor (List ℕ)). key.now) keys number kept (sym stands) ∙ ap Some same

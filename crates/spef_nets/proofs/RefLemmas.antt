@@ -12,7 +12,7 @@ use Rattle.spef_text.specs.SpefFiles.{SpefText}
 use Rattle.spef_nets.specs.Nodes.{Key, key_of, same_tail, same_key, among, named}
 use Rattle.spef_nets.specs.Refs.{IsInterned, Refs, no_refs, ArePlaced, new_mark, with_word, IsPut, held, added, IsMarked, with_mark, listed_mark, joined_mark, numbered_mark, with_number, IsSpelled, IsMark, AreRefs}
 use Rattle.spef_nets.specs.declared.marks.Mark.{Mark}
-use Rattle.spef_nets.proofs.Lists.{get_left, get_last, get_push, get_set, get_set_other, length_set, all_at, map_at}
+use Rattle.spef_nets.proofs.Lists.{get_left, get_last, get_push, get_set, length_set, all_at, map_at}
 
 same_tail_is : (one other : Option (List ℕ)) → same_tail one other ≡ true → one ≡ other
 same_tail_is None None e = refl

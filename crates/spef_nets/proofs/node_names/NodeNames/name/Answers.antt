@@ -1,4 +1,4 @@
-use Rattle.std.proofs.Common.{◌≡◌, sym, subst, ◌∙◌, ap, length, ◌<◌}
+use Rattle.std.proofs.Common.{subst, ◌∙◌, ap, length, ◌<◌}
 use Rattle.spef_nets.specs.NodeNames.{AreNames, nodes_in}
 use Rattle.spef_nets.proofs.NodeNameLemmas.{as_many_names}
 use Rattle.spef_nets.proofs.node_names.NodeNames.name.Goals as goal

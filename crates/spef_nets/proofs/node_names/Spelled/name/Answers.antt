@@ -1,4 +1,4 @@
-use Rattle.std.proofs.Common.{◌≡◌, sym, subst, ◌∙◌, ap, true}
+use Rattle.std.proofs.Common.{sym, subst, ◌∙◌}
 use Rattle.std.specs.Prelude.{slice_index}
 use Rattle.spef_text.specs.References.{IsResolveEnd}
 use Rattle.spef_nets.proofs.Naming.{resolved_node, refused_node}

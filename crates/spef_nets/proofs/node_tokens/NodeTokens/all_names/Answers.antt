@@ -1,5 +1,5 @@
 use Rattle.std.proofs.Common.{◌≡◌, List, ap, sym, ◌∙◌, ◌++◌, ◌∷◌, [], add-one}
-use Rattle.std.specs.Prelude.{take, slice_get, Some}
+use Rattle.std.specs.Prelude.{slice_get, Some}
 use Rattle.name_table.specs.declared.spef_names.NodeName.{NodeName}
 use Rattle.spef_nets.proofs.Lists.{take_push}
 use Rattle.spef_nets.proofs.node_tokens.NodeTokens.all_names.Goals as goal

@@ -1,5 +1,4 @@
-use Rattle.std.proofs.Common.{◌≡◌, ◌∙◌}
-use Rattle.spef_nets.specs.Nodes.{Key, key_of}
+use Rattle.std.proofs.Common.{◌∙◌}
 use Rattle.spef_nets.proofs.Naming.{resolved_node}
 use Rattle.spef_nets.proofs.source.Source.key_at.Goals as goal
 

@@ -1,5 +1,5 @@
 use Rattle.std.proofs.Common.{◌≡◌, sym, ap, ◌∙◌, subst, List, ℕ, length}
-use Rattle.std.specs.Prelude.{Option, Some}
+use Rattle.std.specs.Prelude.{Some}
 use Rattle.spef_text.specs.SpefFiles.{SpefText}
 use Rattle.spef_text.specs.Heads.{text_of}
 use Rattle.spef_nets.specs.Nodes.{node_at}
@@ -7,7 +7,6 @@ use Rattle.spef_nets.specs.NodeKeys.{IsKeyAt}
 use Rattle.spef_nets.specs.Refs.{Refs, IsPut}
 use Rattle.spef_nets.specs.RefsOf.{refs_of}
 use Rattle.spef_nets.specs.Drafts.{stood, put, unknown}
-use Rattle.spef_nets.specs.declared.node_table.NodeKey.{NodeKey}
 use Rattle.spef_nets.proofs.source.Source.spelling_at.Goals as goal
 
 -- src/source.rt
