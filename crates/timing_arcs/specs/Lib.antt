@@ -16,6 +16,7 @@ pub mod NumberLists
 pub mod OneAnswer
 pub mod OneMeaning
 pub mod PinModel
+pub mod PinReadings
 pub mod PinTable
 pub mod RelatedPins
 pub mod SameShapes

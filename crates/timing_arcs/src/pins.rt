@@ -8,6 +8,7 @@ ghost use Rattle.timing_arcs.specs.Library.{is_named};
 ghost use Rattle.timing_arcs.specs.LibraryUnits.{IsLoadUnit};
 ghost use Rattle.timing_arcs.specs.PinModel.{PinEntry, direction_named, direction_of, entries_of, with_entry, pins_of, IsPin, IsPinCapacitance};
 ghost use Rattle.timing_arcs.specs.PinTable.{entry_at, entries_in, ArePins};
+ghost use Rattle.timing_arcs.specs.PinReadings.{IsReadingOf};
 ghost use Rattle.timing_arcs.specs.CellFaults.{pin_questions, IsSound, IsRefusal};
 
 use crate::capacitances::capacitance_of;
@@ -97,21 +98,21 @@ fn grains_of(tree: &GroupTree, unit: &Unit, direction: Direction, pin: GroupId) 
     }
 }
 
-/// A pin, with its direction and its capacitance.
-#[tactic(auto, using(crate::specs::CellFaults::no_memory))]
-fn read_pin(
-    alloc: Global,
-    tree: &GroupTree,
-    unit: &Unit,
-    name: &[u8],
+/// What a `pin` group says of each of its names.
+#[derive(Clone, Copy)]
+struct PinReading {
     group: GroupId,
-) -> Result<Pin, CellFault>
+    direction: Direction,
+    cap: Farads,
+}
+
+// What a `pin` group says.
+fn read_group(tree: &GroupTree, unit: &Unit, group: GroupId) -> Result<PinReading, CellFault>
     requires library { 0 < length tree.now.rows }
     requires group { IsGroup tree.now group.0 }
     requires unit { IsLoadUnit (tree_of tree.now) unit.now }
-    ensures ok { IfOk result (IsPin (tree_of tree.now) (entry_at tree.now name.now group)) }
-    ensures sound { OnOk result (All (IsSound (tree_of tree.now)) (pin_questions (entry_at tree.now name.now group))) }
-    ensures refused { IfErr result (IsRefusal (tree_of tree.now) (pin_questions (entry_at tree.now name.now group))) }
+    ensures ok { IfOk result (IsReadingOf tree.now group) }
+    ensures refused { (name : List ℕ) → IfErr result (IsRefusal (tree_of tree.now) (pin_questions (entry_at tree.now name group))) }
 {
     let Some(direction) = direction_of(tree, group) else {
         return Err(CellFault::BadDirection);
@@ -119,11 +120,42 @@ fn read_pin(
     let Some(grains) = grains_of(tree, unit, direction, group) else {
         return Err(CellFault::BadNumber);
     };
+    Ok(PinReading {
+        group,
+        direction,
+        cap: Farads(grains),
+    })
+}
+
+// What the group of a name says. The names that one group adds stand together, so that a group is read once for all of them.
+fn read_once(
+    tree: &GroupTree,
+    unit: &Unit,
+    last: Option<PinReading>,
+    group: GroupId,
+) -> Result<PinReading, CellFault>
+    requires library { 0 < length tree.now.rows }
+    requires group { IsGroup tree.now group.0 }
+    requires unit { IsLoadUnit (tree_of tree.now) unit.now }
+    requires last { IfSome last (λ reading. IsReadingOf tree.now reading.group reading) }
+    ensures ok { IfOk result (IsReadingOf tree.now group) }
+    ensures refused { (name : List ℕ) → IfErr result (IsRefusal (tree_of tree.now) (pin_questions (entry_at tree.now name group))) }
+{
+    match last {
+        Some(reading) if reading.group == group => Ok(reading),
+        _ => read_group(tree, unit, group),
+    }
+}
+
+/// A pin of a name, with what its group says.
+fn pin_of(alloc: Global, name: &[u8], reading: PinReading) -> Result<Pin, OutOfMemory>
+    ensures { (tree : Tables) (group : GroupId) → IsReadingOf tree group reading → IfOk result (IsPin (tree_of tree) (entry_at tree name.now group)) }
+{
     let name = Text::from_bytes(alloc, name)?;
     Ok(Pin {
         name,
-        direction,
-        cap: Farads(grains),
+        direction: reading.direction,
+        cap: reading.cap,
     })
 }
 
@@ -243,11 +275,15 @@ pub(crate) fn read_pins(
     ensures refused { IfErr result (IsRefusal (tree_of tree.now) (flat_map pin_questions (entries_in tree.now table.now.names table.now.groups.items))) }
 {
     let mut pins = Vec::new(alloc);
+    let mut last = None;
     for place in 0..table.groups.len() {
-        let pin = read_pin(alloc, tree, unit, table.name(place), table.group(place))?;
+        let name = table.name(place);
+        let reading = read_once(tree, unit, last, table.group(place))?;
+        let pin = pin_of(alloc, name, reading)?;
         if pins.push(pin).is_err() {
             return Err(CellFault::OutOfMemory);
         }
+        last = Some(reading);
     }
     Ok(pins)
 }

@@ -74,7 +74,7 @@ pub const LIBRARY_CELLS: [(&[u8], &[WantedPin<'static>], &[WantedArc]); 6] = [
 ];
 
 /// Cells whose pins are told apart.
-pub const PINS: [Wanted<'static>; 18] = [
+pub const PINS: [Wanted<'static>; 19] = [
     // a name's first group counts
     (
         b"library (l) { time_unit : \"1ps\"; capacitive_load_unit (1, ff);  cell (c) { pin (A) { direction : input; capacitance : 2; } pin (A, B) { direction : output; capacitance : 3; } pin (B) { direction : input; } } }",
@@ -82,6 +82,21 @@ pub const PINS: [Wanted<'static>; 18] = [
         &[
             (b"A", Direction::Input, 2000000),
             (b"B", Direction::Output, 0),
+        ],
+        &[],
+    ),
+    // groups of several names, each with a capacitance of its own
+    (
+        b"library (l) { time_unit : \"1ps\"; capacitive_load_unit (1, ff);  cell (c) { pin (A, B) { direction : input; capacitance : 2; } pin (C, B, D) { direction : input; capacitance : 3; } pin (Y, Z) { direction : output; capacitance : 4; } pin (E) { direction : input; } } }",
+        b"c",
+        &[
+            (b"A", Direction::Input, 2000000),
+            (b"B", Direction::Input, 2000000),
+            (b"C", Direction::Input, 3000000),
+            (b"D", Direction::Input, 3000000),
+            (b"Y", Direction::Output, 0),
+            (b"Z", Direction::Output, 0),
+            (b"E", Direction::Input, 0),
         ],
         &[],
     ),
@@ -378,7 +393,7 @@ pub const ARCS: [Wanted<'static>; 13] = [
 /// A library, and why its cell `c` has no model.
 pub type Refusal<'a> = (&'a [u8], CellFault);
 
-pub const REFUSED: [Refusal<'static>; 35] = [
+pub const REFUSED: [Refusal<'static>; 36] = [
     (
         b"library (l) { cell () { } cell (d, c) { } }",
         CellFault::NoSuchCell,
@@ -482,6 +497,10 @@ pub const REFUSED: [Refusal<'static>; 35] = [
     ),
     (
         b"library (l) { time_unit : \"1ps\"; capacitive_load_unit (1, ff);  cell (c) { pin (A) { } pin (B) { direction : input; capacitance : x; } } }",
+        CellFault::BadDirection,
+    ),
+    (
+        b"library (l) { time_unit : \"1ps\"; capacitive_load_unit (1, ff);  cell (c) { pin (A, B) { direction : input; } pin (C, D) { } } }",
         CellFault::BadDirection,
     ),
     (

@@ -2,6 +2,7 @@ use Rattle.std.proofs.Common.{rules, ◌≡◌, ◌+◌, ◌++◌, ◌∷◌, []
 use Rattle.std.specs.List.{flat_map, AllZip}
 use Rattle.liberty_groups.specs.Tables.{tree_of}
 use Rattle.timing_arcs.specs.PinModel.{IsPin}
+use Rattle.timing_arcs.specs.PinReadings.{IsReadingOf}
 use Rattle.timing_arcs.specs.PinTable.{entries_in, entry_at}
 use Rattle.timing_arcs.specs.CellFaults.{pin_questions, IsSound, IsRefusal}
 use Rattle.timing_arcs.proofs.Fronts.{zip_at, all_taken}
@@ -9,24 +10,27 @@ use Rattle.timing_arcs.proofs.PinLemmas.{entry_here, entries_length}
 use Rattle.timing_arcs.proofs.Refusals.{refused_part, sound_part, handed_on}
 use Rattle.timing_arcs.proofs.pins.read_pins.Goals as goal
 
-pub returns-in_err-pin-clause-refused : goal.returns-in_err-pin-clause-refused
-returns-in_err-pin-clause-refused c =
+pub returns-in_err-reading-clause-refused : goal.returns-in_err-reading-clause-refused
+returns-in_err-reading-clause-refused c =
     let tree = c.args.tree.now in
     let entries = entries_in tree c.args.table.now.names c.args.table.now.groups.items in
-    let here = entry_here tree c.args.table.now.names c.args.table.now.groups.items c.loop-place.place c.name.result.now c.group.result c.name.ensures c.group.ensures in
-    handed_on c.from_residual.result c.in_err-pin.field-0.0 (IsRefusal (tree_of tree) (flat_map pin_questions entries)) c.from_residual.ensures.1
-    (refused_part pin_questions entries c.loop-place.place (entry_at tree c.name.result.now c.group.result) here c.loop-place.invariant.sound c.in_err-pin.ensures.refused)
+    let here = entry_here tree c.args.table.now.names c.args.table.now.groups.items c.loop-place.place c.name-name.result.now c.group.result c.name-name.ensures c.group.ensures in
+    handed_on c.from_residual.result c.in_err-reading.field-0.0 (IsRefusal (tree_of tree) (flat_map pin_questions entries)) c.from_residual.ensures.1
+    (refused_part pin_questions entries c.loop-place.place (entry_at tree c.name-name.result.now c.group.result) here c.loop-place.invariant.sound (c.in_err-reading.ensures.refused c.name-name.result.now))
 
 pub loop-place-preserved : goal.loop-place-preserved
 loop-place-preserved c =
     let tree = c.args.tree.now in
     let entries = entries_in tree c.args.table.now.names c.args.table.now.groups.items in
-    let here = entry_here tree c.args.table.now.names c.args.table.now.groups.items c.loop-place.place c.name.result.now c.group.result c.name.ensures c.group.ensures in
+    let here = entry_here tree c.args.table.now.names c.args.table.now.groups.items c.loop-place.place c.name-name.result.now c.group.result c.name-name.ensures c.group.ensures in
+    let reading = c.in_ok-reading.ensures.ok in
+    let pin = c.in_ok-pin.ensures tree c.group.result reading in
     let pushed : c.push.new.self.items ≡ c.loop-place.pins.items ++ c.in_ok-pin.pin ∷ [] = search rules in
     record {
       pins = subst (λ l. AllZip (IsPin (tree_of tree)) (take (c.loop-place.place + 1) entries) l) (sym pushed)
-          (zip_at (IsPin (tree_of tree)) entries c.loop-place.pins.items c.loop-place.place (entry_at tree c.name.result.now c.group.result) c.in_ok-pin.pin here c.loop-place.invariant.pins c.in_ok-pin.ensures.ok);
-      sound = sound_part pin_questions entries c.loop-place.place (entry_at tree c.name.result.now c.group.result) here c.loop-place.invariant.sound c.in_ok-pin.ensures.sound;
+          (zip_at (IsPin (tree_of tree)) entries c.loop-place.pins.items c.loop-place.place (entry_at tree c.name-name.result.now c.group.result) c.in_ok-pin.pin here c.loop-place.invariant.pins pin);
+      sound = sound_part pin_questions entries c.loop-place.place (entry_at tree c.name-name.result.now c.group.result) here c.loop-place.invariant.sound (reading.sound c.name-name.result.now);
+      last = subst (λ id. IsReadingOf tree id c.in_ok-reading.reading) (sym reading.group) reading;
     }
 
 pub returns-clause-ok : goal.returns-clause-ok
