@@ -1,6 +1,7 @@
 pub mod AddingLemmas
 pub mod AttributeLemmas
 pub mod AxisLemmas
+pub mod CopiedLemmas
 mod CornerLemmas
 pub mod DirectionLemmas
 pub mod EdgeLemmas

@@ -3,6 +3,7 @@ pub mod BuiltParts
 pub mod CellFaults
 pub mod CellModel
 pub mod Cells
+pub mod CopiedArcs
 pub mod CornerCells
 pub mod DelayGroups
 pub mod FullTables

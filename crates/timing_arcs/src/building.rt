@@ -11,7 +11,8 @@ ghost use Rattle.timing_arcs.specs.BuiltParts.{AreArcsOf, IsModelOf};
 ghost use Rattle.timing_arcs.specs.CellFaults.{unit_questions, delay_questions, cell_questions, IsRefusal, IsCellFault};
 
 use crate::cell::{Arc, Cell, Pin};
-use crate::delay_groups::{LibraryBasis, add_pin_arcs};
+use crate::copied_arcs::add_next_arcs;
+use crate::delay_groups::LibraryBasis;
 use crate::faults::CellFault;
 use crate::groups::group_for;
 use crate::pins::{PinTable, pin_table, read_pins};
@@ -54,11 +55,14 @@ fn read_arcs(
     ensures refused { IfErr result (IsRefusal (tree_of tree.now) (flat_map (delay_questions (entries_in tree.now table.now.names table.now.groups.items)) (flat_map delays_in (entries_in tree.now table.now.names table.now.groups.items)))) }
 {
     let mut arcs = Vec::new(alloc);
+    let mut start = 0;
     for to in 0..pins.len() {
-        match add_pin_arcs(alloc, tree, basis, table, pins, to, &mut arcs) {
+        let next = arcs.len();
+        match add_next_arcs(alloc, tree, basis, table, pins, to, start, &mut arcs) {
             Ok(_) => {}
             Err(fault) => return Err(fault),
         }
+        start = next;
     }
     Ok(arcs)
 }

@@ -210,7 +210,10 @@ impl EdgeTables {
     }
 }
 
-fn copied(alloc: Global, tables: &Option<EdgeTables>) -> Result<Option<EdgeTables>, OutOfMemory>
+pub(crate) fn copied(
+    alloc: Global,
+    tables: &Option<EdgeTables>,
+) -> Result<Option<EdgeTables>, OutOfMemory>
     ensures { IfOk result (λ copy. copy ≡ tables.now) }
 {
     match tables {

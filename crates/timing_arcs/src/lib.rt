@@ -9,6 +9,7 @@ mod cell;
 mod cell_list;
 mod cell_set;
 mod cell_sets;
+mod copied_arcs;
 mod delay_groups;
 mod faults;
 mod groups;

@@ -238,7 +238,7 @@ pub const PINS: [Wanted<'static>; 19] = [
 ];
 
 /// Cells with arcs.
-pub const ARCS: [Wanted<'static>; 13] = [
+pub const ARCS: [Wanted<'static>; 14] = [
     // the pins of a group with two names, and two names in related_pin
     (
         b"library (l) { time_unit : \"1ps\"; capacitive_load_unit (1, ff);  cell (c) { pin (A, B) { direction : input; } pin (Z) { direction : output; timing () { related_pin : \"B A\"; cell_rise (scalar) { values (\"5\"); } rise_transition (scalar) { values (\"6\"); } } } } }",
@@ -251,6 +251,27 @@ pub const ARCS: [Wanted<'static>; 13] = [
         &[
             (1, 2, ArcKind::Both, true, false),
             (0, 2, ArcKind::Both, true, false),
+        ],
+    ),
+    // the names of an output group have the same arcs, and those of the group before have theirs
+    (
+        b"library (l) { time_unit : \"1ps\"; capacitive_load_unit (1, ff);  cell (c) { pin (A, B) { direction : input; } pin (X) { direction : output; timing () { related_pin : \"A\"; timing_sense : positive_unate; cell_rise (scalar) { values (\"5\"); } rise_transition (scalar) { values (\"6\"); } } } pin (Y, X, Z) { direction : output; timing () { related_pin : \"B A\"; timing_sense : negative_unate; cell_rise (scalar) { values (\"5\"); } rise_transition (scalar) { values (\"6\"); } cell_fall (scalar) { values (\"7\"); } fall_transition (scalar) { values (\"8\"); } } } pin (W) { direction : output; timing () { related_pin : \"B\"; cell_fall (scalar) { values (\"7\"); } fall_transition (scalar) { values (\"8\"); } } } } }",
+        b"c",
+        &[
+            (b"A", Direction::Input, 0),
+            (b"B", Direction::Input, 0),
+            (b"X", Direction::Output, 0),
+            (b"Y", Direction::Output, 0),
+            (b"Z", Direction::Output, 0),
+            (b"W", Direction::Output, 0),
+        ],
+        &[
+            (0, 2, ArcKind::Positive, true, false),
+            (1, 3, ArcKind::Negative, true, true),
+            (0, 3, ArcKind::Negative, true, true),
+            (1, 4, ArcKind::Negative, true, true),
+            (0, 4, ArcKind::Negative, true, true),
+            (1, 5, ArcKind::Both, false, true),
         ],
     ),
     // blanks of each kind part names

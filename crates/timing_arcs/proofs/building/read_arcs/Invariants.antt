@@ -1,13 +1,19 @@
--- The arcs to the pins so far.
-use Rattle.std.proofs.Common.{take, []}
+-- The arcs to the pins so far, and where those to the last of them begin.
+use Rattle.std.proofs.Common.{◌≡◌, ◌<◌, ◌-◌, take, drop, [], Some, slice_get}
 use Rattle.std.specs.List.{flat_map}
 use Rattle.liberty_groups.specs.Tables.{tree_of}
+use Rattle.timing_arcs.specs.PinModel.{PinEntry}
 use Rattle.timing_arcs.specs.PinTable.{entries_in}
 use Rattle.timing_arcs.specs.DelayGroups.{arcs_in, delays_in}
 use Rattle.timing_arcs.specs.LibraryBasis.{AreAdded}
+use Rattle.timing_arcs.specs.CopiedArcs.{AreArcsTo}
 use Rattle.timing_arcs.specs.CellFaults.{delay_questions}
 use Rattle.timing_arcs.proofs.building.read_arcs.Given as goal
 
 abbrev pub invariant-loop-to : goal.invariant-loop-to
-invariant-loop-to l = AreAdded (tree_of l.tree) l.table.names (flat_map (λ entry. flat_map (arcs_in (entries_in l.tree l.table.names l.table.groups.items)) (delays_in entry)) (take l.to (entries_in l.tree l.table.names l.table.groups.items)))
-    (flat_map (λ entry. flat_map (delay_questions (entries_in l.tree l.table.names l.table.groups.items)) (delays_in entry)) (take l.to (entries_in l.tree l.table.names l.table.groups.items))) [] l.arcs.items
+invariant-loop-to l = record {
+  added : AreAdded (tree_of l.tree) l.table.names (flat_map (λ entry. flat_map (arcs_in (entries_in l.tree l.table.names l.table.groups.items)) (delays_in entry)) (take l.to (entries_in l.tree l.table.names l.table.groups.items)))
+      (flat_map (λ entry. flat_map (delay_questions (entries_in l.tree l.table.names l.table.groups.items)) (delays_in entry)) (take l.to (entries_in l.tree l.table.names l.table.groups.items))) [] l.arcs.items;
+  last : 0 < l.to → (entry : PinEntry) → slice_get (entries_in l.tree l.table.names l.table.groups.items) (l.to - 1) ≡ Some entry
+      → AreArcsTo (tree_of l.tree) l.table.names (entries_in l.tree l.table.names l.table.groups.items) entry (drop l.start l.arcs.items);
+}
