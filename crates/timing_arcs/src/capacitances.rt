@@ -127,9 +127,10 @@ fn larger(unit: &Unit, text: &[u8], other: &[u8]) -> Option<u64>
     one.larger(two).within()
 }
 
-// That of the library's default.
+/// The capacitance of an input pin that has none of its own: the library's default, else 0. `None` where that is no number, or is below 0 or more than a
+/// nanofarad.
 #[tactic(auto, using(crate::proofs::SizeLemmas::nothing_given))]
-fn default_capacitance(tree: &GroupTree, unit: &Unit) -> Option<u64>
+pub(crate) fn default_capacitance(tree: &GroupTree, unit: &Unit) -> Option<u64>
     requires { 0 < length tree.now.rows }
     ensures some { IfSome result (IsCapacitance unit.now (default_texts (tree_of tree.now))) }
     ensures none { IfNone result ((grains : ℕ) → ¬ IsCapacitance unit.now (default_texts (tree_of tree.now)) grains) }
@@ -141,9 +142,16 @@ fn default_capacitance(tree: &GroupTree, unit: &Unit) -> Option<u64>
 }
 
 // That of the edges, else that of the library's default.
-fn edges_capacitance(tree: &GroupTree, unit: &Unit, pin: GroupId) -> Option<u64>
+fn edges_capacitance(
+    tree: &GroupTree,
+    unit: &Unit,
+    default: Option<u64>,
+    pin: GroupId,
+) -> Option<u64>
     requires library { 0 < length tree.now.rows }
     requires pin { IsGroup tree.now pin.0 }
+    requires some { IfSome default (IsCapacitance unit.now (default_texts (tree_of tree.now))) }
+    requires none { IfNone default ((grains : ℕ) → ¬ IsCapacitance unit.now (default_texts (tree_of tree.now)) grains) }
     ensures some { IfSome result (IsCapacitance unit.now (edges_texts (tree_of tree.now) (group_at tree.now pin.0))) }
     ensures none { IfNone result ((grains : ℕ) → ¬ IsCapacitance unit.now (edges_texts (tree_of tree.now) (group_at tree.now pin.0)) grains) }
 {
@@ -154,20 +162,27 @@ fn edges_capacitance(tree: &GroupTree, unit: &Unit, pin: GroupId) -> Option<u64>
         (Some(rise), Some(fall)) => larger(unit, rise, fall),
         (Some(rise), None) => sole(unit, rise),
         (None, Some(fall)) => sole(unit, fall),
-        (None, None) => default_capacitance(tree, unit),
+        (None, None) => default,
     }
 }
 
-/// The capacitance of an input pin: its own, else the larger of those of its rise and its fall, else the library's default, else 0. `None` where what
+/// The capacitance of an input pin: its own, else the larger of those of its rise and its fall, else the `default`, which is read once. `None` where what
 /// counts is no number, or is below 0 or more than a nanofarad.
-pub(crate) fn capacitance_of(tree: &GroupTree, unit: &Unit, pin: GroupId) -> Option<u64>
+pub(crate) fn capacitance_of(
+    tree: &GroupTree,
+    unit: &Unit,
+    default: Option<u64>,
+    pin: GroupId,
+) -> Option<u64>
     requires library { 0 < length tree.now.rows }
     requires pin { IsGroup tree.now pin.0 }
+    requires some { IfSome default (IsCapacitance unit.now (default_texts (tree_of tree.now))) }
+    requires none { IfNone default ((grains : ℕ) → ¬ IsCapacitance unit.now (default_texts (tree_of tree.now)) grains) }
     ensures some { IfSome result (IsCapacitance unit.now (capacitance_texts (tree_of tree.now) (group_at tree.now pin.0))) }
     ensures none { IfNone result ((grains : ℕ) → ¬ IsCapacitance unit.now (capacitance_texts (tree_of tree.now) (group_at tree.now pin.0)) grains) }
 {
     match value_in(tree, pin, b"capacitance") {
         Some(text) => sole(unit, text),
-        None => edges_capacitance(tree, unit, pin),
+        None => edges_capacitance(tree, unit, default, pin),
     }
 }

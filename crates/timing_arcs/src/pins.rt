@@ -6,12 +6,12 @@ ghost use Rattle.liberty_groups.specs.Tables.{Tables, tree_of, group_at, IsGroup
 ghost use Rattle.timing_arcs.specs.declared.faults.CellFault.TheVariants.{BadNumber};
 ghost use Rattle.timing_arcs.specs.Library.{is_named};
 ghost use Rattle.timing_arcs.specs.LibraryUnits.{IsLoadUnit};
-ghost use Rattle.timing_arcs.specs.PinModel.{PinEntry, direction_named, direction_of, entries_of, with_entry, pins_of, IsPin, IsPinCapacitance};
+ghost use Rattle.timing_arcs.specs.PinModel.{PinEntry, direction_named, direction_of, entries_of, with_entry, pins_of, IsPin, IsPinCapacitance, default_texts, IsCapacitance};
 ghost use Rattle.timing_arcs.specs.PinTable.{entry_at, entries_in, ArePins};
 ghost use Rattle.timing_arcs.specs.PinReadings.{IsReadingOf};
 ghost use Rattle.timing_arcs.specs.CellFaults.{pin_questions, IsSound, IsRefusal};
 
-use crate::capacitances::capacitance_of;
+use crate::capacitances::{capacitance_of, default_capacitance};
 use crate::cell::{Direction, Pin};
 use crate::faults::CellFault;
 use crate::groups::{is_named, value_in};
@@ -92,17 +92,25 @@ fn direction_of(tree: &GroupTree, pin: GroupId) -> Option<Direction>
 }
 
 // The capacitance of a pin: of one that is no input, 0.
-fn grains_of(tree: &GroupTree, unit: &Unit, direction: Direction, pin: GroupId) -> Option<u64>
+fn grains_of(
+    tree: &GroupTree,
+    unit: &Unit,
+    default: Option<u64>,
+    direction: Direction,
+    pin: GroupId,
+) -> Option<u64>
     requires library { 0 < length tree.now.rows }
     requires pin { IsGroup tree.now pin.0 }
     requires direction { direction_of (group_at tree.now pin.0) ≡ Some direction }
     requires unit { IsLoadUnit (tree_of tree.now) unit.now }
+    requires some { IfSome default (IsCapacitance unit.now (default_texts (tree_of tree.now))) }
+    requires none { IfNone default ((grains : ℕ) → ¬ IsCapacitance unit.now (default_texts (tree_of tree.now)) grains) }
     ensures some { IfSome result (IsPinCapacitance direction (tree_of tree.now) (group_at tree.now pin.0)) }
     ensures sound { IfSome result (λ _. (name : List ℕ) → All (IsSound (tree_of tree.now)) (pin_questions (record { name = name; group = group_at tree.now pin.0 }))) }
     ensures none { IfNone result ((name : List ℕ) → IsRefusal (tree_of tree.now) (pin_questions (record { name = name; group = group_at tree.now pin.0 })) BadNumber) }
 {
     match direction {
-        Direction::Input => capacitance_of(tree, unit, pin),
+        Direction::Input => capacitance_of(tree, unit, default, pin),
         _ => Some(0),
     }
 }
@@ -116,17 +124,24 @@ struct PinReading {
 }
 
 // What a `pin` group says.
-fn read_group(tree: &GroupTree, unit: &Unit, group: GroupId) -> Result<PinReading, CellFault>
+fn read_group(
+    tree: &GroupTree,
+    unit: &Unit,
+    default: Option<u64>,
+    group: GroupId,
+) -> Result<PinReading, CellFault>
     requires library { 0 < length tree.now.rows }
     requires group { IsGroup tree.now group.0 }
     requires unit { IsLoadUnit (tree_of tree.now) unit.now }
+    requires some { IfSome default (IsCapacitance unit.now (default_texts (tree_of tree.now))) }
+    requires none { IfNone default ((grains : ℕ) → ¬ IsCapacitance unit.now (default_texts (tree_of tree.now)) grains) }
     ensures ok { IfOk result (IsReadingOf tree.now group) }
     ensures refused { (name : List ℕ) → IfErr result (IsRefusal (tree_of tree.now) (pin_questions (entry_at tree.now name group))) }
 {
     let Some(direction) = direction_of(tree, group) else {
         return Err(CellFault::BadDirection);
     };
-    let Some(grains) = grains_of(tree, unit, direction, group) else {
+    let Some(grains) = grains_of(tree, unit, default, direction, group) else {
         return Err(CellFault::BadNumber);
     };
     Ok(PinReading {
@@ -140,19 +155,22 @@ fn read_group(tree: &GroupTree, unit: &Unit, group: GroupId) -> Result<PinReadin
 fn read_once(
     tree: &GroupTree,
     unit: &Unit,
+    default: Option<u64>,
     last: Option<PinReading>,
     group: GroupId,
 ) -> Result<PinReading, CellFault>
     requires library { 0 < length tree.now.rows }
     requires group { IsGroup tree.now group.0 }
     requires unit { IsLoadUnit (tree_of tree.now) unit.now }
+    requires some { IfSome default (IsCapacitance unit.now (default_texts (tree_of tree.now))) }
+    requires none { IfNone default ((grains : ℕ) → ¬ IsCapacitance unit.now (default_texts (tree_of tree.now)) grains) }
     requires last { IfSome last (λ reading. IsReadingOf tree.now reading.group reading) }
     ensures ok { IfOk result (IsReadingOf tree.now group) }
     ensures refused { (name : List ℕ) → IfErr result (IsRefusal (tree_of tree.now) (pin_questions (entry_at tree.now name group))) }
 {
     match last {
         Some(reading) if reading.group == group => Ok(reading),
-        _ => read_group(tree, unit, group),
+        _ => read_group(tree, unit, default, group),
     }
 }
 
@@ -283,11 +301,12 @@ pub(crate) fn read_pins(
     ensures sound { OnOk result (All (IsSound (tree_of tree.now)) (flat_map pin_questions (entries_in tree.now table.now.names table.now.groups.items))) }
     ensures refused { IfErr result (IsRefusal (tree_of tree.now) (flat_map pin_questions (entries_in tree.now table.now.names table.now.groups.items))) }
 {
+    let default = default_capacitance(tree, unit);
     let mut pins = Vec::new(alloc);
     let mut last = None;
     for place in 0..table.groups.len() {
         let name = table.name(place);
-        let reading = read_once(tree, unit, last, table.group(place))?;
+        let reading = read_once(tree, unit, default, last, table.group(place))?;
         let pin = pin_of(alloc, name, reading)?;
         if pins.push(pin).is_err() {
             return Err(CellFault::OutOfMemory);
