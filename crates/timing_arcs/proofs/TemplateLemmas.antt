@@ -1,15 +1,16 @@
 -- The templates among some groups, and one group more.
 use Rattle.std.proofs.Common.{◌≡◌, ℕ, zero, suc, ◌+◌, ◌<◌, ◌⊎◌, inl, inr, Bool, true, false, cond, List, [], ◌∷◌, ◌++◌, length, take, Some, None, Contains, slice_index_or, length-append, refl, sym, ap, subst, ◌∙◌, arith}
-use Rattle.std.specs.Prelude.{slice_get}
+use Rattle.std.specs.Prelude.{slice_get, codes, if◌then◌else◌, Option, IfSome}
 use Rattle.std.specs.List.{find}
+use Rattle.std.specs.Option.{option_map, option_and_then}
 use Rattle.std.specs.Str.{bytes_eq}
 use Rattle.std.proofs.lemmas.List.Elements.{Contains-append_left, Contains-push}
 use Rattle.std.proofs.lemmas.Slice.Eq.{bytes_eq-Decides}
-use Rattle.liberty_groups.specs.Groups.{Group}
-use Rattle.liberty_groups.specs.Tables.{Tables, group_at, IsGroup}
-use Rattle.liberty_groups.specs.declared.rows.GroupId.{GroupId}
-use Rattle.timing_arcs.specs.Templates.{name_of_template, is_text, is_template, template_in}
-use Rattle.timing_arcs.specs.TemplateIndex.{IsTemplateOf, AreTemplates, Adds, is_held, is_added}
+use Rattle.liberty_groups.specs.Groups.{Group, attributes_of, args_of, groups_of}
+use Rattle.liberty_groups.specs.Tables.{Tables, tree_of}
+use Rattle.timing_arcs.specs.Templates.{name_of_template, is_text, is_template, template_in, template_named}
+use Rattle.timing_arcs.specs.TemplateIndex.{IsReadOf, IsTemplateOf, AreTemplates, IsNamedBy, IsUnder, Adds, is_held, is_added}
+use Rattle.timing_arcs.specs.declared.templates.Template.{Template}
 
 stays : {X : Type 0} (p : X → Bool) (xs ys : List X) (x : X) → find p xs ≡ Some x → find p (xs ++ ys) ≡ Some x
 stays p [] ys x e = absurd (cc)
@@ -46,8 +47,8 @@ contains_got xs x k e = (k, got_within xs x k e, index_is xs x k e)
     index_is (y ∷ xs) x zero e = cc
     index_is (y ∷ xs) x (suc k) e = index_is xs x k e
 
-more_template : (tree : Tables) (groups : List Group) (last : Group) (name : List ℕ) (id : GroupId) → IsTemplateOf tree groups name id → IsTemplateOf tree (groups ++ last ∷ []) name id
-more_template tree groups last name id is = record { within = is.within; first = stays (is_template name) groups (last ∷ []) (group_at tree id.0) is.first }
+more_template : (tree : Tables) (groups : List Group) (last : Group) (name : List ℕ) (template : Template) → IsTemplateOf tree groups name template → IsTemplateOf tree (groups ++ last ∷ []) name template
+more_template tree groups last name template is = record { group = is.group; first = stays (is_template name) groups (last ∷ []) is.group is.first; read = is.read }
 
 other_name : (name other : List ℕ) (last : Group) → name_of_template last ≡ Some other → (other ≡ name → ⊥) → is_template name last ≡ false
 other_name name other last named differs = ap (is_text name) named ∙ otherwise (bytes_eq other name) (λ same. differs ((bytes_eq-Decides other name).0 same))
@@ -60,59 +61,74 @@ none_more : (groups : List Group) (last : Group) (name : List ℕ) → template_
 none_more groups last name none other = pushed (is_template name) groups last none ∙ ap (λ b. cond b (Some last) None) other
 
 -- no group yet
-pub no_templates : (tree : Tables) (names : List (List ℕ)) (ids : List GroupId) → names ≡ [] → ids ≡ [] → AreTemplates tree [] names ids
-no_templates tree names ids no_name no_id = record {
-  even = ap length no_id ∙ sym (ap length no_name);
-  held = λ place name id at here. absurd (cc);
+pub no_templates : (tree : Tables) (names : List (List ℕ)) (templates : List Template) → names ≡ [] → templates ≡ [] → AreTemplates tree [] names templates
+no_templates tree names templates no_name no_template = record {
+  even = ap length no_template ∙ sym (ap length no_name);
+  held = λ place name template at here. absurd (cc);
   absent = λ name none. refl;
 }
 
 -- a group that is no template with a name
-pub passed_over : (tree : Tables) (groups : List Group) (names : List (List ℕ)) (ids : List GroupId) (last : Group) → AreTemplates tree groups names ids → name_of_template last ≡ None → AreTemplates tree (groups ++ last ∷ []) names ids
-passed_over tree groups names ids last so_far none = record {
+pub passed_over : (tree : Tables) (groups : List Group) (names : List (List ℕ)) (templates : List Template) (last : Group) → AreTemplates tree groups names templates → name_of_template last ≡ None → AreTemplates tree (groups ++ last ∷ []) names templates
+passed_over tree groups names templates last so_far none = record {
   even = so_far.even;
-  held = λ place name id at here. more_template tree groups last name id (so_far.held place name id at here);
+  held = λ place name template at here. more_template tree groups last name template (so_far.held place name template at here);
   absent = λ name out. none_more groups last name (so_far.absent name out) (ap (is_text name) none);
 }
 
 -- a template that is added
-pub added : (tree : Tables) (groups : List Group) (names : List (List ℕ)) (ids : List GroupId) (name : List ℕ) (id : GroupId) (names' : List (List ℕ)) (ids' : List GroupId)
-    → IsGroup tree id.0 → name_of_template (group_at tree id.0) ≡ Some name → AreTemplates tree groups names ids → Adds name id names ids names' ids' → AreTemplates tree (groups ++ group_at tree id.0 ∷ []) names' ids'
-added tree groups names ids name id names' ids' within named so_far (is_held held same_names same_ids) =
-    subst (λ ns. AreTemplates tree (groups ++ group_at tree id.0 ∷ []) ns ids') (sym same_names) (subst (AreTemplates tree (groups ++ group_at tree id.0 ∷ []) names) (sym same_ids) record {
+pub added : (tree : Tables) (groups : List Group) (last : Group) (names : List (List ℕ)) (templates : List Template) (name : List ℕ) (template : Template) (names' : List (List ℕ)) (templates' : List Template)
+    → IsReadOf tree (attributes_of last) template → name_of_template last ≡ Some name → AreTemplates tree groups names templates → Adds name template names templates names' templates' → AreTemplates tree (groups ++ last ∷ []) names' templates'
+added tree groups last names templates name template names' templates' read named so_far (is_held held same_names same_templates) =
+    subst (λ ns. AreTemplates tree (groups ++ last ∷ []) ns templates') (sym same_names) (subst (AreTemplates tree (groups ++ last ∷ []) names) (sym same_templates) record {
       even = so_far.even;
-      held = λ place other of at here. more_template tree groups (group_at tree id.0) other of (so_far.held place other of at here);
-      absent = λ other out. none_more groups (group_at tree id.0) other (so_far.absent other out) (other_name other name (group_at tree id.0) named (λ same. out (subst (Contains names) same held)));
+      held = λ place other of at here. more_template tree groups last other of (so_far.held place other of at here);
+      absent = λ other out. none_more groups last other (so_far.absent other out) (other_name other name last named (λ same. out (subst (Contains names) same held)));
     })
-added tree groups names ids name id names' ids' within named so_far (is_added out more_names more_ids) =
-    subst (λ ns. AreTemplates tree (groups ++ group_at tree id.0 ∷ []) ns ids') (sym more_names) (subst (AreTemplates tree (groups ++ group_at tree id.0 ∷ []) (names ++ name ∷ [])) (sym more_ids) record {
-      even = length-append ids (id ∷ []) ∙ ap (λ (n : ℕ). n + 1) so_far.even ∙ sym (length-append names (name ∷ []));
+added tree groups last names templates name template names' templates' read named so_far (is_added out more_names more_templates) =
+    subst (λ ns. AreTemplates tree (groups ++ last ∷ []) ns templates') (sym more_names) (subst (AreTemplates tree (groups ++ last ∷ []) (names ++ name ∷ [])) (sym more_templates) record {
+      even = length-append templates (template ∷ []) ∙ ap (λ (n : ℕ). n + 1) so_far.even ∙ sym (length-append names (name ∷ []));
       held = λ place other of at here. elim (got_push names name other place at) [
-        | inl old ↦ elim (got_push ids id of place here) [
-          | inl before ↦ more_template tree groups (group_at tree id.0) other of (so_far.held place other of old before)
+        | inl old ↦ elim (got_push templates template of place here) [
+          | inl before ↦ more_template tree groups last other of (so_far.held place other of old before)
           | inr end ↦ (let below = got_within names other place old in let even = so_far.even in let l = end.0 in absurd (omega (arith, below, even, l)))
         ]
-        | inr end ↦ elim (got_push ids id of place here) [
-          | inl before ↦ (let below = got_within ids of place before in let even = so_far.even in let l = end.0 in absurd (omega (arith, below, even, l)))
-          | inr last ↦ subst (λ n. IsTemplateOf tree (groups ++ group_at tree id.0 ∷ []) n of) end.1 (subst (IsTemplateOf tree (groups ++ group_at tree id.0 ∷ []) name) last.1 (newest))
+        | inr end ↦ elim (got_push templates template of place here) [
+          | inl before ↦ (let below = got_within templates of place before in let even = so_far.even in let l = end.0 in absurd (omega (arith, below, even, l)))
+          | inr also ↦ subst (λ n. IsTemplateOf tree (groups ++ last ∷ []) n of) end.1 (subst (IsTemplateOf tree (groups ++ last ∷ []) name) also.1 (newest))
         ]
       ];
-      absent = λ other none. none_more groups (group_at tree id.0) other (so_far.absent other (λ among. none (Contains-append_left names (name ∷ []) other among)))
-          (other_name other name (group_at tree id.0) named (λ same. none (subst (Contains (names ++ name ∷ [])) same (Contains-push names name))));
+      absent = λ other none. none_more groups last other (so_far.absent other (λ among. none (Contains-append_left names (name ∷ []) other among)))
+          (other_name other name last named (λ same. none (subst (Contains (names ++ name ∷ [])) same (Contains-push names name))));
     })
   where
-    newest : IsTemplateOf tree (groups ++ group_at tree id.0 ∷ []) name id
-    newest = record { within = within; first = pushed (is_template name) groups (group_at tree id.0) (so_far.absent name out) ∙ ap (λ b. cond b (Some (group_at tree id.0)) None) (ap (is_text name) named ∙ (bytes_eq-Decides name name).1 refl) }
+    newest : IsTemplateOf tree (groups ++ last ∷ []) name template
+    newest = record { group = last; first = pushed (is_template name) groups last (so_far.absent name out) ∙ ap (λ b. cond b (Some last) None) (ap (is_text name) named ∙ (bytes_eq-Decides name name).1 refl); read = read }
 
--- what stands under a name is the first template of it
-pub under : (tree : Tables) (groups : List Group) (names : List (List ℕ)) (ids : List GroupId) (name : List ℕ) (id : GroupId) (place : ℕ) → AreTemplates tree groups names ids → slice_get names place ≡ Some name → slice_get ids place ≡ Some id → IsTemplateOf tree groups name id
-under tree groups names ids name id place are at here = are.held place name id at here
+-- a table that names the built-in template
+pub named_scalar : (tree : Tables) (table : Group) (template : Template) → slice_get (args_of table) 0 ≡ Some (codes "scalar") → IsReadOf tree [] template → IsNamedBy tree table template
+named_scalar tree table template at read = record { attributes = []; named = ap (option_and_then (template_named (tree_of tree))) at; read = read }
+
+-- a table that names another, which stands among those of the library
+pub named_other : (tree : Tables) (table : Group) (names : List (List ℕ)) (templates : List Template) (name : List ℕ) (found : Option Template)
+    → AreTemplates tree (groups_of (tree_of tree)) names templates → slice_get (args_of table) 0 ≡ Some name → bytes_eq name (codes "scalar") ≡ false
+    → IfSome found (IsUnder names templates name) → IfSome found (IsNamedBy tree table)
+named_other tree table names templates name None are at other under = tt
+named_other tree table names templates name (Some template) are at other under =
+    let of = are.held under.place name template under.named under.here in
+    record {
+      attributes = attributes_of of.group;
+      named = ap (option_and_then (template_named (tree_of tree))) at
+          ∙ ap (λ (b : Bool). if b then Some [] else option_map attributes_of (template_in (groups_of (tree_of tree)) name)) other
+          ∙ ap (option_map attributes_of) of.first;
+      read = of.read;
+    }
 
 -- the same of one group after another
-pub taken : (tree : Tables) (groups : List Group) (place : ℕ) (last : Group) (names : List (List ℕ)) (ids : List GroupId) → slice_get groups place ≡ Some last → AreTemplates tree (take place groups ++ last ∷ []) names ids → AreTemplates tree (take (place + 1) groups) names ids
-taken tree groups place last names ids at are =
+pub taken : (tree : Tables) (groups : List Group) (place : ℕ) (last : Group) (names : List (List ℕ)) (templates : List Template) → slice_get groups place ≡ Some last → AreTemplates tree (take place groups ++ last ∷ []) names templates → AreTemplates tree (take (place + 1) groups) names templates
+taken tree groups place last names templates at are =
     let next : suc place ≡ place + 1 = omega arith in
-    subst (λ (n : ℕ). AreTemplates tree (take n groups) names ids) next (subst (λ gs. AreTemplates tree gs names ids) (sym (take_suc groups place last at)) are)
+    subst (λ (n : ℕ). AreTemplates tree (take n groups) names templates) next (subst (λ gs. AreTemplates tree gs names templates) (sym (take_suc groups place last at)) are)
   where
     take_suc : {X : Type 0} (xs : List X) (k : ℕ) (x : X) → slice_get xs k ≡ Some x → take (suc k) xs ≡ take k xs ++ x ∷ []
     take_suc [] k x e = absurd (cc)

@@ -1,40 +1,49 @@
 -- An index of the templates of a library, made once.
-use Rattle.std.specs.Prelude.{◌≡◌, ℕ, List, [], ◌∷◌, ◌++◌, length, slice_get, Some, None, Contains, ⊤}
+use Rattle.std.specs.Prelude.{◌≡◌, ℕ, List, [], ◌∷◌, ◌++◌, length, slice_get, Option, Some, None, IfSome, Contains, codes}
+use Rattle.std.specs.Option.{option_map}
 use Rattle.liberty_groups.specs.Groups.{Group, attributes_of, Attribute}
-use Rattle.liberty_groups.specs.Tables.{Tables, group_at, IsGroup}
-use Rattle.liberty_groups.specs.declared.rows.GroupId.{GroupId}
-use Rattle.timing_arcs.specs.Templates.{template_in}
+use Rattle.liberty_groups.specs.Tables.{Tables, tree_of, attribute_at, IsAttribute}
+use Rattle.liberty_groups.specs.declared.rows.AttrId.{AttrId}
+use Rattle.timing_arcs.specs.Attributes.{values_of}
+use Rattle.timing_arcs.specs.Templates.{template_in, template_of, variables_of}
 use Rattle.timing_arcs.specs.declared.templates.Template.{Template}
-use Rattle.timing_arcs.specs.declared.templates.Template.TheVariants.{BuiltIn, OfLibrary}
 
--- a group of the tree, which is the first template of this name among some groups
-pub record IsTemplateOf (tree : Tables) (groups : List Group) (name : List ℕ) (id : GroupId) : Type 0 where
-  pub within : IsGroup tree id.0
-  pub first : template_in groups name ≡ Some (group_at tree id.0)
+-- an attribute of the tree, whose values are those of the last one of this name among some; none, where none has the name
+pub record IsIndexOf (tree : Tables) (key : List ℕ) (attributes : List Attribute) (index : Option AttrId) : Type 0 where
+  pub values : option_map (λ a. (attribute_at tree a.0).values) index ≡ values_of key attributes
+  pub within : IfSome index (λ a. IsAttribute tree a.0)
 
--- the names of the templates among some groups, and at the place of each name the first template of it
-pub record AreTemplates (tree : Tables) (groups : List Group) (names : List (List ℕ)) (ids : List GroupId) : Type 0 where
-  pub even : length ids ≡ length names
-  pub held : (place : ℕ) (name : List ℕ) (id : GroupId) → slice_get names place ≡ Some name → slice_get ids place ≡ Some id → IsTemplateOf tree groups name id
+-- what a template of these attributes says to each table that names it
+pub record IsReadOf (tree : Tables) (attributes : List Attribute) (template : Template) : Type 0 where
+  pub variables : template.variables ≡ variables_of attributes
+  pub first : IsIndexOf tree (codes "index_1") attributes template.first_index
+  pub second : IsIndexOf tree (codes "index_2") attributes template.second_index
+
+-- what the first template of this name among some groups says
+pub record IsTemplateOf (tree : Tables) (groups : List Group) (name : List ℕ) (template : Template) : Type 0 where
+  pub group : Group
+  pub first : template_in groups name ≡ Some group
+  pub read : IsReadOf tree (attributes_of group) template
+
+-- the names of the templates among some groups, and at the place of each name what the first template of it says
+pub record AreTemplates (tree : Tables) (groups : List Group) (names : List (List ℕ)) (templates : List Template) : Type 0 where
+  pub even : length templates ≡ length names
+  pub held : (place : ℕ) (name : List ℕ) (template : Template) → slice_get names place ≡ Some name → slice_get templates place ≡ Some template → IsTemplateOf tree groups name template
   pub absent : (name : List ℕ) → ¬ Contains names name → template_in groups name ≡ None
 
--- the attributes of a template
-abbrev pub attributes_in : Tables → Template → List Attribute
-attributes_in tree BuiltIn = []
-attributes_in tree (OfLibrary id) = attributes_of (group_at tree id.0)
-
--- a template of the library is a group of the tree
-abbrev pub IsTemplateIn : Tables → Template → Type 0
-IsTemplateIn tree BuiltIn = ⊤
-IsTemplateIn tree (OfLibrary id) = IsGroup tree id.0
+-- what the template that a table names says, in the library of the tree
+pub record IsNamedBy (tree : Tables) (table : Group) (template : Template) : Type 0 where
+  pub attributes : List Attribute
+  pub named : template_of (tree_of tree) table ≡ Some attributes
+  pub read : IsReadOf tree attributes template
 
 -- a template is added under its name, unless the name is held
-pub data Adds (name : List ℕ) (id : GroupId) (names : List (List ℕ)) (ids : List GroupId) (names' : List (List ℕ)) (ids' : List GroupId) : Type 0 where
-  is_held : Contains names name → names' ≡ names → ids' ≡ ids → Adds name id names ids names' ids'
-  is_added : ¬ Contains names name → names' ≡ names ++ name ∷ [] → ids' ≡ ids ++ id ∷ [] → Adds name id names ids names' ids'
+pub data Adds (name : List ℕ) (template : Template) (names : List (List ℕ)) (templates : List Template) (names' : List (List ℕ)) (templates' : List Template) : Type 0 where
+  is_held : Contains names name → names' ≡ names → templates' ≡ templates → Adds name template names templates names' templates'
+  is_added : ¬ Contains names name → names' ≡ names ++ name ∷ [] → templates' ≡ templates ++ template ∷ [] → Adds name template names templates names' templates'
 
--- at some place a name stands, and a group
-pub record IsUnder (names : List (List ℕ)) (ids : List GroupId) (name : List ℕ) (id : GroupId) : Type 0 where
+-- at some place a name stands, and a template
+pub record IsUnder (names : List (List ℕ)) (templates : List Template) (name : List ℕ) (template : Template) : Type 0 where
   pub place : ℕ
   pub named : slice_get names place ≡ Some name
-  pub here : slice_get ids place ≡ Some id
+  pub here : slice_get templates place ≡ Some template

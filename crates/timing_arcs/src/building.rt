@@ -26,7 +26,7 @@ use std::alloc::Global;
 #[tactic(auto, using(crate::specs::CellFaults::no_memory))]
 fn library_basis(alloc: Global, tree: &GroupTree) -> Result<LibraryBasis, CellFault>
     requires { 0 < length tree.now.rows }
-    ensures ok { IfOk result (λ basis. IsBasis tree.now basis.units basis.templates.names basis.templates.ids.items) }
+    ensures ok { IfOk result (λ basis. IsBasis tree.now basis.units basis.templates.names basis.templates.read.items) }
     ensures refused { IfErr result (IsRefusal (tree_of tree.now) unit_questions) }
 {
     let units = match library_units(tree) {
@@ -47,7 +47,7 @@ fn read_arcs(
     table: &PinTable,
     pins: &[Pin],
 ) -> Result<Vec<Arc>, CellFault>
-    requires basis { IsBasis tree.now basis.now.units basis.now.templates.names basis.now.templates.ids.items }
+    requires basis { IsBasis tree.now basis.now.units basis.now.templates.names basis.now.templates.read.items }
     requires even { length table.now.names ≡ length table.now.groups.items }
     requires within { All (λ id. IsGroup tree.now id.0) table.now.groups.items }
     requires pins { AllZip (IsPin (tree_of tree.now)) (entries_in tree.now table.now.names table.now.groups.items) pins.now }
@@ -76,7 +76,7 @@ fn build_group(
     group: GroupId,
 ) -> Result<Cell, CellFault>
     requires library { 0 < length tree.now.rows }
-    requires basis { IsBasis tree.now basis.now.units basis.now.templates.names basis.now.templates.ids.items }
+    requires basis { IsBasis tree.now basis.now.units basis.now.templates.names basis.now.templates.read.items }
     requires group { IsGroup tree.now group.0 }
     ensures ok { IfOk result (IsModelOf (tree_of tree.now) (group_at tree.now group.0)) }
     ensures refused { IfErr result (IsRefusal (tree_of tree.now) (cell_questions (group_at tree.now group.0))) }

@@ -58,7 +58,7 @@ pub(crate) fn add_next_arcs(
     start: usize,
     arcs: &mut Vec<Arc>,
 ) -> Result<(), CellFault>
-    requires basis { IsBasis tree.now basis.now.units basis.now.templates.names basis.now.templates.ids.items }
+    requires basis { IsBasis tree.now basis.now.units basis.now.templates.names basis.now.templates.read.items }
     requires even { length table.now.names ≡ length table.now.groups.items }
     requires within { All (λ id. IsGroup tree.now id.0) table.now.groups.items }
     requires pins { AllZip (IsPin (tree_of tree.now)) (entries_in tree.now table.now.names table.now.groups.items) pins.now }

@@ -117,7 +117,7 @@ fn read_tables(
     delay: GroupId,
     slew: Option<GroupId>,
 ) -> Result<EdgeTables, CellFault>
-    requires basis { IsBasis tree.now basis.now.units basis.now.templates.names basis.now.templates.ids.items }
+    requires basis { IsBasis tree.now basis.now.units basis.now.templates.names basis.now.templates.read.items }
     requires delay { IsGroup tree.now delay.0 }
     requires slew { IfSome slew (λ slew. IsGroup tree.now slew.0) }
     ensures ok { IfOk result (λ tables. AreEdgeTables (tree_of tree.now) (Some (group_at tree.now delay.0)) (option_map (λ slew. group_at tree.now slew.0) slew) (Some tables)) }
@@ -146,7 +146,7 @@ fn read_edge(
     delay: Option<GroupId>,
     slew: Option<GroupId>,
 ) -> Result<Option<EdgeTables>, CellFault>
-    requires basis { IsBasis tree.now basis.now.units basis.now.templates.names basis.now.templates.ids.items }
+    requires basis { IsBasis tree.now basis.now.units basis.now.templates.names basis.now.templates.read.items }
     requires delay { IfSome delay (λ delay. IsGroup tree.now delay.0) }
     requires slew { IfSome slew (λ slew. IsGroup tree.now slew.0) }
     ensures ok { IfOk result (AreEdgeTables (tree_of tree.now) (option_map (λ delay. group_at tree.now delay.0) delay) (option_map (λ slew. group_at tree.now slew.0) slew)) }
@@ -169,7 +169,7 @@ fn read_rise(
     basis: &LibraryBasis,
     group: GroupId,
 ) -> Result<Option<EdgeTables>, CellFault>
-    requires basis { IsBasis tree.now basis.now.units basis.now.templates.names basis.now.templates.ids.items }
+    requires basis { IsBasis tree.now basis.now.units basis.now.templates.names basis.now.templates.read.items }
     requires group { IsGroup tree.now group.0 }
     ensures ok { IfOk result (IsRise (tree_of tree.now) (group_at tree.now group.0)) }
     ensures sound { OnOk result (All (IsSound (tree_of tree.now)) (rise_questions (group_at tree.now group.0))) }
@@ -187,7 +187,7 @@ fn read_fall(
     basis: &LibraryBasis,
     group: GroupId,
 ) -> Result<Option<EdgeTables>, CellFault>
-    requires basis { IsBasis tree.now basis.now.units basis.now.templates.names basis.now.templates.ids.items }
+    requires basis { IsBasis tree.now basis.now.units basis.now.templates.names basis.now.templates.read.items }
     requires group { IsGroup tree.now group.0 }
     ensures ok { IfOk result (IsFall (tree_of tree.now) (group_at tree.now group.0)) }
     ensures sound { OnOk result (All (IsSound (tree_of tree.now)) (fall_questions (group_at tree.now group.0))) }
@@ -237,7 +237,7 @@ fn read_timing(
     basis: &LibraryBasis,
     group: GroupId,
 ) -> Result<Timing, CellFault>
-    requires basis { IsBasis tree.now basis.now.units basis.now.templates.names basis.now.templates.ids.items }
+    requires basis { IsBasis tree.now basis.now.units basis.now.templates.names basis.now.templates.read.items }
     requires group { IsGroup tree.now group.0 }
     ensures ok { IfOk result (λ timing. IsTiming (tree_of tree.now) (group_at tree.now group.0) timing.kind timing.rise timing.fall) }
     ensures sound { OnOk result (All (IsSound (tree_of tree.now)) (rise_questions (group_at tree.now group.0) ++ fall_questions (group_at tree.now group.0))) }
@@ -294,7 +294,7 @@ fn add_arcs(
     group: GroupId,
     arcs: &mut Vec<Arc>,
 ) -> Result<(), CellFault>
-    requires basis { IsBasis tree.now basis.now.units basis.now.templates.names basis.now.templates.ids.items }
+    requires basis { IsBasis tree.now basis.now.units basis.now.templates.names basis.now.templates.read.items }
     requires group { IsGroup tree.now group.0 }
     requires even { length table.now.names ≡ length table.now.groups.items }
     requires pins { AllZip (IsPin (tree_of tree.now)) (entries_in tree.now table.now.names table.now.groups.items) pins.now }
@@ -325,7 +325,7 @@ fn add_group(
     group: GroupId,
     arcs: &mut Vec<Arc>,
 ) -> Result<(), CellFault>
-    requires basis { IsBasis tree.now basis.now.units basis.now.templates.names basis.now.templates.ids.items }
+    requires basis { IsBasis tree.now basis.now.units basis.now.templates.names basis.now.templates.read.items }
     requires group { IsGroup tree.now group.0 }
     requires even { length table.now.names ≡ length table.now.groups.items }
     requires pins { AllZip (IsPin (tree_of tree.now)) (entries_in tree.now table.now.names table.now.groups.items) pins.now }
@@ -351,7 +351,7 @@ fn add_groups(
     to: usize,
     arcs: &mut Vec<Arc>,
 ) -> Result<(), CellFault>
-    requires basis { IsBasis tree.now basis.now.units basis.now.templates.names basis.now.templates.ids.items }
+    requires basis { IsBasis tree.now basis.now.units basis.now.templates.names basis.now.templates.read.items }
     requires even { length table.now.names ≡ length table.now.groups.items }
     requires within { All (λ id. IsGroup tree.now id.0) table.now.groups.items }
     requires pins { AllZip (IsPin (tree_of tree.now)) (entries_in tree.now table.now.names table.now.groups.items) pins.now }
@@ -392,7 +392,7 @@ pub(crate) fn add_pin_arcs(
     to: usize,
     arcs: &mut Vec<Arc>,
 ) -> Result<(), CellFault>
-    requires basis { IsBasis tree.now basis.now.units basis.now.templates.names basis.now.templates.ids.items }
+    requires basis { IsBasis tree.now basis.now.units basis.now.templates.names basis.now.templates.read.items }
     requires even { length table.now.names ≡ length table.now.groups.items }
     requires within { All (λ id. IsGroup tree.now id.0) table.now.groups.items }
     requires pins { AllZip (IsPin (tree_of tree.now)) (entries_in tree.now table.now.names table.now.groups.items) pins.now }

@@ -1,18 +1,18 @@
 //! The axes of tables (Liberty, `index_1` and `index_2`).
-ghost use Rattle.std.specs.Prelude.{◌≡◌, ◌↔◌, ℤ, pos, ◌≤ℤ◌, All, IsTrue, IfSome};
-ghost use Rattle.liberty_groups.specs.Groups.{attributes_of};
+ghost use Rattle.std.specs.Prelude.{◌≡◌, ◌↔◌, ℤ, pos, ◌≤ℤ◌, List, All, IsTrue, IfSome, unwrap_or};
+ghost use Rattle.liberty_groups.specs.Groups.{Attribute, attributes_of};
 ghost use Rattle.liberty_groups.specs.Tables.{group_at, IsGroup, IsAttribute};
 ghost use Rattle.nldm_lookup.specs.Tables.{IsSmall};
+ghost use Rattle.timing_arcs.specs.Attributes.{values_of};
 ghost use Rattle.timing_arcs.specs.Kept.{texts_of, refusal_of};
 ghost use Rattle.timing_arcs.specs.NumberLists.{pieces_of};
-ghost use Rattle.timing_arcs.specs.TableModel.{IsAxisOf, AxisMeans, PointsMean, unit_of, index_of};
-ghost use Rattle.timing_arcs.specs.TemplateIndex.{IsTemplateIn, attributes_in};
+ghost use Rattle.timing_arcs.specs.TableModel.{IsAxisOf, AxisMeans, PointsMean, unit_of};
+ghost use Rattle.timing_arcs.specs.TemplateIndex.{IsIndexOf};
 
 use crate::attribute_texts::last_of;
 use crate::faults::CellFault;
 use crate::library_units::LibraryUnits;
 use crate::number_lists::read_list;
-use crate::templates::Template;
 use delay_units::Unit;
 use liberty_groups::{AttrId, GroupId, GroupTree};
 use nldm_lookup::{Axis, AxisFault, Which};
@@ -67,16 +67,21 @@ fn read_axis(
     }
 }
 
-// The index of a table: its own in place of the template's.
-fn index_of(tree: &GroupTree, table: GroupId, template: Template, key: &[u8]) -> Option<AttrId>
+// The index of a table: its own in place of the template's, which is then not read.
+fn index_of(
+    tree: &GroupTree,
+    table: GroupId,
+    key: &[u8],
+    of_template: Option<AttrId>,
+) -> Option<AttrId>
     requires table { IsGroup tree.now table.0 }
-    requires template { IsTemplateIn tree.now template }
-    ensures texts { texts_of tree.now result ≡ index_of key.now (attributes_of (group_at tree.now table.0)) (attributes_in tree.now template) }
+    requires template { IfSome of_template (λ a. IsAttribute tree.now a.0) }
+    ensures texts { texts_of tree.now result ≡ unwrap_or (values_of key.now (attributes_of (group_at tree.now table.0))) (texts_of tree.now of_template) }
     ensures within { IfSome result (λ a. IsAttribute tree.now a.0) }
 {
     match last_of(tree, table, key) {
         Some(index) => Some(index),
-        None => template.attribute(tree, key),
+        None => of_template,
     }
 }
 
@@ -92,23 +97,25 @@ impl LibraryUnits {
     }
 }
 
-/// The axis of a variable of a table, by its index; and the axis of the one point 0, where there is no variable.
+/// The axis of a variable of a table, by its index, or where it has none of its own by that of its template; and the axis of the one point 0,
+/// where there is no variable.
 pub(crate) fn axis_of_variable(
     alloc: Global,
     tree: &GroupTree,
     table: GroupId,
-    template: Template,
-    units: &LibraryUnits,
     key: &[u8],
+    of_template: Option<AttrId>,
+    units: &LibraryUnits,
     variable: Option<Which>,
 ) -> Result<Axis, CellFault>
     requires table { IsGroup tree.now table.0 }
-    requires template { IsTemplateIn tree.now template }
-    ensures { PointsMean units.now key.now (attributes_of (group_at tree.now table.0)) (attributes_in tree.now template) variable result }
+    requires template { IfSome of_template (λ a. IsAttribute tree.now a.0) }
+    ensures { (template : List Attribute) → IsIndexOf tree.now key.now template of_template
+        → PointsMean units.now key.now (attributes_of (group_at tree.now table.0)) template variable result }
 {
     let Some(which) = variable else {
         return axis_of(alloc, &[0]);
     };
-    let index = index_of(tree, table, template, key);
+    let index = index_of(tree, table, key, of_template);
     read_axis(alloc, tree, index, units.of(which))
 }

@@ -102,7 +102,7 @@ fn build(
     units: &LibraryUnits,
 ) -> Result<Built, CellFault>
     requires group { IsGroup tree.now group.0 }
-    requires templates { AreTemplates tree.now (groups_of (tree_of tree.now)) templates.now.names templates.now.ids.items }
+    requires templates { AreTemplates tree.now (groups_of (tree_of tree.now)) templates.now.names templates.now.read.items }
     ensures table { IfOk result (λ built. TableMeans (tree_of tree.now) (group_at tree.now group.0) units.now (Ok built.table)) }
     ensures settled { IfOk result (λ built. IsTrue built.is_settled ↔ All (λ value. pos 0 ≤ℤ value) built.table.values) }
     ensures fault { IfErr result (λ fault. TableMeans (tree_of tree.now) (group_at tree.now group.0) units.now (Err fault)) }
@@ -110,25 +110,25 @@ fn build(
     let Some(template) = templates.of_table(tree, group) else {
         return Err(CellFault::UnknownTemplate);
     };
-    let Some(variables) = template.variables(tree) else {
+    let Some(variables) = template.variables else {
         return Err(CellFault::UnknownVariable);
     };
     let first = axis_of_variable(
         alloc,
         tree,
         group,
-        template,
-        units,
         b"index_1",
+        template.first_index,
+        units,
         variables.first,
     )?;
     let second = axis_of_variable(
         alloc,
         tree,
         group,
-        template,
-        units,
         b"index_2",
+        template.second_index,
+        units,
         variables.second,
     )?;
     let values = read_values(alloc, tree, group, &units.time)?;
@@ -148,7 +148,7 @@ pub(crate) fn build_table(
     units: &LibraryUnits,
 ) -> Result<Table, CellFault>
     requires group { IsGroup tree.now group.0 }
-    requires templates { AreTemplates tree.now (groups_of (tree_of tree.now)) templates.now.names templates.now.ids.items }
+    requires templates { AreTemplates tree.now (groups_of (tree_of tree.now)) templates.now.names templates.now.read.items }
     ensures means { TableMeans (tree_of tree.now) (group_at tree.now group.0) units.now result }
 {
     match build(alloc, tree, group, templates, units) {
@@ -166,7 +166,7 @@ pub(crate) fn build_transition(
     units: &LibraryUnits,
 ) -> Result<Table, CellFault>
     requires group { IsGroup tree.now group.0 }
-    requires templates { AreTemplates tree.now (groups_of (tree_of tree.now)) templates.now.names templates.now.ids.items }
+    requires templates { AreTemplates tree.now (groups_of (tree_of tree.now)) templates.now.names templates.now.read.items }
     ensures means { TransitionMeans (tree_of tree.now) (group_at tree.now group.0) units.now result }
 {
     let built = build(alloc, tree, group, templates, units)?;

@@ -1,11 +1,10 @@
 //! The templates of a library (Liberty, `lu_table_template`).
-ghost use Rattle.std.specs.Prelude.{◌≡◌, ◌<◌, ◌++◌, ◌∷◌, [], List, length, IfOk, OnOk, IfSome, IfNone, Contains};
-ghost use Rattle.std.specs.Option.{option_copied, option_map};
-ghost use Rattle.liberty_groups.specs.Groups.{Group, groups_of};
-ghost use Rattle.liberty_groups.specs.Tables.{tree_of, group_at, attribute_at, IsGroup, IsAttribute};
-ghost use Rattle.timing_arcs.specs.Attributes.{simple_of, values_of};
+ghost use Rattle.std.specs.Prelude.{◌≡◌, ◌<◌, ◌++◌, ◌∷◌, [], List, None, length, IfOk, OnOk, IfSome, IfNone, Contains};
+ghost use Rattle.std.specs.Option.{option_copied};
+ghost use Rattle.liberty_groups.specs.Groups.{Group, groups_of, attributes_of};
+ghost use Rattle.liberty_groups.specs.Tables.{Tables, tree_of, group_at, IsGroup};
 ghost use Rattle.timing_arcs.specs.Templates.{axis_of, both, variables_by, variables_of, template_of, name_of_template};
-ghost use Rattle.timing_arcs.specs.TemplateIndex.{AreTemplates, IsTemplateIn, Adds, IsUnder, attributes_in};
+ghost use Rattle.timing_arcs.specs.TemplateIndex.{AreTemplates, IsReadOf, IsNamedBy, IsIndexOf, Adds, IsUnder};
 
 use crate::attribute_texts::{last_of, simple};
 use edge_io::OutOfMemory;
@@ -70,46 +69,59 @@ fn variables_by(one: Option<&[u8]>, two: Option<&[u8]>, three: Option<&[u8]>) ->
     }
 }
 
-/// A template: the built-in one, which has no axis, or a group of a library.
+// The variables of a group that is a template, if they are known ones.
+fn variables_of(tree: &GroupTree, group: GroupId) -> Option<Variables>
+    requires { IsGroup tree.now group.0 }
+    ensures { result ≡ variables_of (attributes_of (group_at tree.now group.0)) }
+{
+    variables_by(
+        simple(tree, group, b"variable_1"),
+        simple(tree, group, b"variable_2"),
+        simple(tree, group, b"variable_3"),
+    )
+}
+
+// The last attribute of a name in a group that is a template.
+fn index_of(tree: &GroupTree, group: GroupId, key: &[u8]) -> Option<AttrId>
+    requires { IsGroup tree.now group.0 }
+    ensures { IsIndexOf tree.now key.now (attributes_of (group_at tree.now group.0)) result }
+{
+    last_of(tree, group, key)
+}
+
+/// What the tables that name a template ask of it: its variables, if they are known ones, and the last attribute of each index. It is read
+/// off the template's group once, however many tables name it.
 #[derive(Clone, Copy, Debug)]
-pub(crate) enum Template {
-    BuiltIn,
-    OfLibrary(GroupId),
+pub(crate) struct Template {
+    pub variables: Option<Variables>,
+    pub first_index: Option<AttrId>,
+    pub second_index: Option<AttrId>,
 }
 
 impl Template {
-    // A simple attribute of it.
-    fn simple<'a>(self, tree: &'a GroupTree, key: &[u8]) -> Option<&'a [u8]>
-        requires { IsTemplateIn tree.now self }
-        ensures { option_copied result ≡ simple_of key.now (attributes_in tree.now self) }
+    // The built-in one, which has no axis.
+    fn built_in() -> Template
+        ensures { (tree : Tables) → IsReadOf tree [] result }
     {
-        match self {
-            Template::BuiltIn => None,
-            Template::OfLibrary(group) => simple(tree, group, key),
+        Template {
+            variables: Some(Variables {
+                first: None,
+                second: None,
+            }),
+            first_index: None,
+            second_index: None,
         }
     }
 
-    /// Its variables, if they are known ones.
-    pub(crate) fn variables(self, tree: &GroupTree) -> Option<Variables>
-        requires { IsTemplateIn tree.now self }
-        ensures { result ≡ variables_of (attributes_in tree.now self) }
+    // That of a group.
+    fn of_group(tree: &GroupTree, group: GroupId) -> Template
+        requires { IsGroup tree.now group.0 }
+        ensures { IsReadOf tree.now (attributes_of (group_at tree.now group.0)) result }
     {
-        variables_by(
-            self.simple(tree, b"variable_1"),
-            self.simple(tree, b"variable_2"),
-            self.simple(tree, b"variable_3"),
-        )
-    }
-
-    /// The last attribute of a name.
-    pub(crate) fn attribute(self, tree: &GroupTree, key: &[u8]) -> Option<AttrId>
-        requires { IsTemplateIn tree.now self }
-        ensures values { option_map (λ attribute. (attribute_at tree.now attribute.0).values) result ≡ values_of key.now (attributes_in tree.now self) }
-        ensures within { IfSome result (λ attribute. IsAttribute tree.now attribute.0) }
-    {
-        match self {
-            Template::BuiltIn => None,
-            Template::OfLibrary(group) => last_of(tree, group, key),
+        Template {
+            variables: variables_of(tree, group),
+            first_index: index_of(tree, group, b"index_1"),
+            second_index: index_of(tree, group, b"index_2"),
         }
     }
 }
@@ -118,7 +130,7 @@ impl Template {
 #[derive(Drop)]
 pub(crate) struct Templates {
     pub names: Names,
-    pub ids: Vec<GroupId>,
+    pub read: Vec<Template>,
 }
 
 // The name of a group that is a template with a name.
@@ -133,15 +145,16 @@ fn template_name(tree: &GroupTree, group: GroupId) -> Option<&[u8]>
 }
 
 impl Templates {
-    /// The templates of the library that is the root of a tree. It takes one pass over the groups in it.
+    /// The templates of the library that is the root of a tree. It takes one pass over the groups in it, and a few over the attributes of each
+    /// template.
     pub(crate) fn new(alloc: Global, tree: &GroupTree) -> Result<Templates, OutOfMemory>
         requires { 0 < length tree.now.rows }
-        ensures { IfOk result (λ templates. AreTemplates tree.now (groups_of (tree_of tree.now)) templates.names templates.ids.items) }
+        ensures { IfOk result (λ templates. AreTemplates tree.now (groups_of (tree_of tree.now)) templates.names templates.read.items) }
     {
         let library = tree.root();
         let mut templates = Templates {
             names: Names::new(alloc),
-            ids: Vec::new(alloc),
+            read: Vec::new(alloc),
         };
         for place in 0..tree.child_count(library) {
             templates.add_group(tree, tree.child(library, place))?;
@@ -152,19 +165,19 @@ impl Templates {
     // Adds a group, if it is a template, and none of its name came before.
     fn add_group(&mut self, tree: &GroupTree, group: GroupId) -> Result<(), OutOfMemory>
         requires { IsGroup tree.now group.0 }
-        ensures { OnOk result ((groups : List Group) → AreTemplates tree.now groups self.old.names self.old.ids.items
-            → AreTemplates tree.now (groups ++ group_at tree.now group.0 ∷ []) self.new.names self.new.ids.items) }
+        ensures { OnOk result ((groups : List Group) → AreTemplates tree.now groups self.old.names self.old.read.items
+            → AreTemplates tree.now (groups ++ group_at tree.now group.0 ∷ []) self.new.names self.new.read.items) }
     {
         let Some(name) = template_name(tree, group) else {
             return Ok(());
         };
-        self.add(name, group)?;
+        self.add(name, Template::of_group(tree, group))?;
         Ok(())
     }
 
     // Adds a template, unless one of its name came before.
-    fn add(&mut self, name: &[u8], group: GroupId) -> Result<(), OutOfMemory>
-        ensures { OnOk result (Adds name.now group self.old.names self.old.ids.items self.new.names self.new.ids.items) }
+    fn add(&mut self, name: &[u8], template: Template) -> Result<(), OutOfMemory>
+        ensures { OnOk result (Adds name.now template self.old.names self.old.read.items self.new.names self.new.read.items) }
     {
         if self.names.find(name).is_some() {
             return Ok(());
@@ -172,7 +185,7 @@ impl Templates {
         if self.names.len() >= MOST_TEMPLATES {
             return Err(OutOfMemory);
         }
-        match self.ids.push(group) {
+        match self.read.push(template) {
             Ok(_) => {}
             Err(_) => return Err(OutOfMemory),
         }
@@ -181,30 +194,30 @@ impl Templates {
     }
 
     // The first template of a name in the library.
-    fn find(&self, name: &[u8]) -> Option<GroupId>
-        requires { length self.now.ids.items ≡ length self.now.names }
-        ensures found { IfSome result (IsUnder self.now.names self.now.ids.items name.now) }
+    fn find(&self, name: &[u8]) -> Option<Template>
+        requires { length self.now.read.items ≡ length self.now.names }
+        ensures found { IfSome result (IsUnder self.now.names self.now.read.items name.now) }
         ensures absent { IfNone result (¬ Contains self.now.names name.now) }
     {
         let place = self.names.find(name)?;
-        Some(self.ids[place.0 as usize])
+        Some(self.read[place.0 as usize])
     }
 
     /// The template that a table names by its first argument. It is one look-up.
+    #[tactic(auto, using(crate::proofs::TemplateLemmas::named_scalar, crate::proofs::TemplateLemmas::named_other))]
     pub(crate) fn of_table(&self, tree: &GroupTree, table: GroupId) -> Option<Template>
-        requires templates { AreTemplates tree.now (groups_of (tree_of tree.now)) self.now.names self.now.ids.items }
+        requires templates { AreTemplates tree.now (groups_of (tree_of tree.now)) self.now.names self.now.read.items }
         requires table { IsGroup tree.now table.0 }
-        ensures attributes { option_map (attributes_in tree.now) result ≡ template_of (tree_of tree.now) (group_at tree.now table.0) }
-        ensures within { IfSome result (IsTemplateIn tree.now) }
+        ensures named { IfSome result (IsNamedBy tree.now (group_at tree.now table.0)) }
+        ensures absent { IfNone result (template_of (tree_of tree.now) (group_at tree.now table.0) ≡ None) }
     {
         if tree.arg_count(table) == 0 {
             return None;
         }
         let name = tree.arg(table, 0).bytes();
         if name == b"scalar".as_slice() {
-            return Some(Template::BuiltIn);
+            return Some(Template::built_in());
         }
-        let group = self.find(name)?;
-        Some(Template::OfLibrary(group))
+        self.find(name)
     }
 }

@@ -6,5 +6,5 @@ use Rattle.timing_arcs.proofs.templates.Templates.new.Goals as goal
 
 pub loop-place-preserved : goal.loop-place-preserved
 loop-place-preserved c =
-    taken c.args.tree.now (groups_of (group_at c.args.tree.now c.root-library.result.0)) c.loop-place.place (group_at c.args.tree.now c.child.result.0) c.add_group.new.self.names c.add_group.new.self.ids.items c.child.ensures.tree
+    taken c.args.tree.now (groups_of (group_at c.args.tree.now c.root-library.result.0)) c.loop-place.place (group_at c.args.tree.now c.child.result.0) c.add_group.new.self.names c.add_group.new.self.read.items c.child.ensures.tree
     (c.in_ok-add_group.ensures (take c.loop-place.place (groups_of (group_at c.args.tree.now c.root-library.result.0))) c.loop-place.invariant)
