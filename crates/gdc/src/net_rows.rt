@@ -148,18 +148,21 @@ fn tree_of<L: Ledger>(
     }
 }
 
-// The Elmore delays of a tree.
-fn delays_of<L: Ledger>(
+// The Elmore delays of a tree, in the scratch of the nets before, or in a larger one.
+fn put_delays<L: Ledger>(
     alloc: Global,
     tree: &RcTree<Single>,
+    delays: &mut Scratch<Single>,
     steps: &mut Steps<L>,
-) -> Result<Scratch<Single>, OutOfMemory>
-    ensures delays { IfOk result (HasDelays tree.now) }
+) -> Result<(), OutOfMemory>
+    ensures delays { OnOk result (HasDelays tree.now delays.new) }
     ensures steps { steps.new ≤ steps.old + 12 * node_count tree.now }
 {
-    let mut delays = Scratch::reserve(alloc, tree.len())?;
-    elmore_into(tree, &mut delays, steps);
-    Ok(delays)
+    if delays.room() < tree.len() {
+        *delays = Scratch::reserve(alloc, tree.len())?;
+    }
+    elmore_into(tree, delays, steps);
+    Ok(())
 }
 
 // Adds the rows of a net.
@@ -167,6 +170,7 @@ fn delays_of<L: Ledger>(
 fn draw_net<L: Ledger>(
     alloc: Global,
     net: &Net<Single>,
+    delays: &mut Scratch<Single>,
     delay: &mut Grid<Single, Femto>,
     rows: &mut Rows<Single>,
     steps: &mut Steps<L>,
@@ -179,18 +183,19 @@ fn draw_net<L: Ledger>(
 {
     let driver = sole_driver(alloc, net)?;
     let tree = tree_of(alloc, net, driver, steps)?;
-    let delays = delays_of(alloc, &tree, steps)?;
+    put_delays(alloc, &tree, delays, steps)?;
     let pins = ListedPins { driver };
-    add_rows(alloc, net, &pins, &tree, &delays, delay, rows, steps)?;
+    add_rows(alloc, net, &pins, &tree, delays, delay, rows, steps)?;
     Ok(())
 }
 
-/// Draws a net after others, unless one of them was refused: answers the first refusal.
+/// Draws a net after others, unless one of them was refused: answers the first refusal. One scratch serves all nets.
 #[tactic(auto, using(crate::specs::Drawing::refused_before, crate::specs::Drawing::refused_here, crate::specs::Drawing::has_rows))]
 pub fn draw_next<L: Ledger>(
     alloc: Global,
     net: &Net<Single>,
     refused: Option<Refusal>,
+    delays: &mut Scratch<Single>,
     delay: &mut Grid<Single, Femto>,
     rows: &mut Rows<Single>,
     steps: &mut Steps<L>,
@@ -203,7 +208,7 @@ pub fn draw_next<L: Ledger>(
 {
     match refused {
         Some(refusal) => Ok(Some(refusal)),
-        None => match draw_net(alloc, net, delay, rows, steps) {
+        None => match draw_net(alloc, net, delays, delay, rows, steps) {
             Ok(()) => Ok(None),
             Err(PureEnd::Refused(refusal)) => Ok(Some(refusal)),
             Err(PureEnd::OutOfMemory) => Err(OutOfMemory),

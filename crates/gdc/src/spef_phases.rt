@@ -15,6 +15,7 @@ use crate::refusal::{IndexKind, NumberKind, Refusal};
 use corner_set::{Grid, Pick, Single};
 use delay_units::Femto;
 use edge_io::{Steps, Text};
+use rc_tree::Scratch;
 use sdf_writer::Rows;
 use spef_nets::{SectionEnd, SectionReader, SpelledSection};
 use spef_text::{Head, HeadEnd, SpefEnd, SpefFile, parse, read_head};
@@ -108,6 +109,7 @@ fn draw_sections<L: Ledger>(
     let design = Text::from_bytes(alloc, head.design().bytes())?;
     let mut rows = Rows::new(alloc, design);
     let mut delay = Grid::with_rows(alloc, 1, Femto(0))?;
+    let mut delays = Scratch::reserve(alloc, 0)?;
     let mut reader = SectionReader::new(alloc, file, head, pick);
     let mut refused = None;
     for _ in 0..file.section_count() {
@@ -115,7 +117,15 @@ fn draw_sections<L: Ledger>(
             Ok(net) => net,
             Err(end) => return Err(end),
         };
-        refused = draw_next(alloc, &net.as_net(), refused, &mut delay, &mut rows, steps)?;
+        refused = draw_next(
+            alloc,
+            &net.as_net(),
+            refused,
+            &mut delays,
+            &mut delay,
+            &mut rows,
+            steps,
+        )?;
     }
     match refused {
         Some(refusal) => Err(PureEnd::Refused(refusal)),

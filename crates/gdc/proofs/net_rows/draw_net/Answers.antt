@@ -12,10 +12,10 @@ pub returns-in_err-add_rows-clause-steps : goal.returns-in_err-add_rows-clause-s
 returns-in_err-add_rows-clause-steps g c =
     let few = sinks_few c.args.net.now c.in_ok-driver.driver in
     let most : most_steps c.args.net.now ≡ 16 * (length c.args.net.now.joints + length c.args.net.now.caps + length c.args.net.now.conns) = refl in
-    omega (arith, few, most, c.in_ok-driver.ensures.within, c.in_ok-tree.ensures.nodes, c.tree_of.ensures.steps, c.delays_of.ensures.steps, c.add_rows.ensures.steps)
+    omega (arith, few, most, c.in_ok-driver.ensures.within, c.in_ok-tree.ensures.nodes, c.tree_of.ensures.steps, c.put_delays.ensures.steps, c.add_rows.ensures.steps)
 
 pub returns-clause-steps : goal.returns-clause-steps
 returns-clause-steps g c =
     let few = sinks_few c.args.net.now c.in_ok-driver.driver in
     let most : most_steps c.args.net.now ≡ 16 * (length c.args.net.now.joints + length c.args.net.now.caps + length c.args.net.now.conns) = refl in
-    omega (arith, few, most, c.in_ok-driver.ensures.within, c.in_ok-tree.ensures.nodes, c.tree_of.ensures.steps, c.delays_of.ensures.steps, c.add_rows.ensures.steps)
+    omega (arith, few, most, c.in_ok-driver.ensures.within, c.in_ok-tree.ensures.nodes, c.tree_of.ensures.steps, c.put_delays.ensures.steps, c.add_rows.ensures.steps)

@@ -63,6 +63,9 @@ returns-in_err-design-clause-steps g c = none_read c.args.pick c.args.file.now c
 pub returns-in_err-delay-clause-steps : goal.returns-in_err-delay-clause-steps
 returns-in_err-delay-clause-steps g c = none_read c.args.pick c.args.file.now c.args.head.now c.args.steps.now
 
+pub returns-in_err-delays-clause-steps : goal.returns-in_err-delays-clause-steps
+returns-in_err-delays-clause-steps g c = none_read c.args.pick c.args.file.now c.args.head.now c.args.steps.now
+
 pub returns-in_err-refused-clause-steps : goal.returns-in_err-refused-clause-steps
 returns-in_err-refused-clause-steps g c =
     let few : c.loop.counter + 1 ≤ length c.args.file.now.reading.sections = omega arith in
