@@ -4,9 +4,9 @@ use Rattle.std.specs.Prelude.{◌==◌, Option, Some, None, unwrap_or}
 use Rattle.std.specs.List.{list_all}
 use Rattle.std.proofs.lemmas.Bool.Decides.{Decides-eqb}
 use Rattle.name_table.specs.Characters.{Character, bare, backslash, characters, after_backslash}
-use Rattle.name_table.specs.SdfNames.{slash}
+use Rattle.name_table.specs.SdfNames.{slash, is_plain}
 use Rattle.name_table.specs.SpefNames.{meaning, mark_or_spelled, text_of, spelling_of, whole_node, cut_node}
-use Rattle.name_table.specs.Staying.{stays, stays_as}
+use Rattle.name_table.specs.Staying.{stays, stays_as, are_usual}
 use Rattle.name_table.specs.declared.spef_names.SpefMarks.{SpefMarks}
 
 both_true : (one other : Bool) → (one && other) ≡ true → (one ≡ true) × (other ≡ true)
@@ -62,3 +62,22 @@ halves_stay marks front back one two = sym (λ i. record {
   tail = Some (text_stays marks back two i);
   sdf = spelling_stays marks front one i ++ slash ∷ spelling_stays marks back two i;
 })
+
+-- among usual marks a plain byte stands as it is
+other_than_plain : (mark byte : ℕ) → not (is_plain mark) ≡ true → is_plain byte ≡ true → (byte == mark) ≡ false
+other_than_plain mark byte not_plain plain = by (byte == mark) refl
+  where
+    by : (same : Bool) → (byte == mark) ≡ same → (byte == mark) ≡ false
+    by false is = is
+    by true is = absurd (true≢false (sym (ap is_plain (sym ((Decides-eqb byte mark).0 is)) ∙ plain) ∙ not_true (is_plain mark) not_plain))
+
+pub plain_stays : (marks : SpefMarks) (byte : ℕ) → are_usual marks ≡ true → is_plain byte ≡ true → stays marks byte ≡ true
+plain_stays marks byte usual plain =
+    let first = both_true (not (is_plain marks.divider)) (not (is_plain marks.left) && not (is_plain marks.right)) usual in
+    let rest = both_true (not (is_plain marks.left)) (not (is_plain marks.right)) first.1 in
+    let no_divider = other_than_plain marks.divider byte first.0 plain in
+    let no_left = other_than_plain marks.left byte rest.0 plain in
+    let no_right = other_than_plain marks.right byte rest.1 plain in
+    let no_backslash = other_than_plain backslash byte refl plain in
+    let no_mark : meaning marks byte ≡ None = cc in
+    cc

@@ -12,3 +12,7 @@ stays_as (Some mark) byte = mark == byte
 
 abbrev pub stays : SpefMarks → ℕ → Bool
 stays marks byte = not (byte == backslash) && stays_as (meaning marks byte) byte
+
+-- no mark is a plain byte
+abbrev pub are_usual : SpefMarks → Bool
+are_usual marks = not (is_plain marks.divider) && (not (is_plain marks.left) && not (is_plain marks.right))

@@ -4,7 +4,7 @@ ghost use Rattle.std.specs.List.{list_all};
 ghost use Rattle.name_table.specs.Characters.{bare, characters};
 ghost use Rattle.name_table.specs.SdfNames.{slash, canonical};
 ghost use Rattle.name_table.specs.SpefNames.{sdf_of, meaning, text_of, spelling_of, cut_last, halves_at, whole_node, cut_node, node_name, joined};
-ghost use Rattle.name_table.specs.Staying.{stays, stays_as};
+ghost use Rattle.name_table.specs.Staying.{stays, stays_as, are_usual};
 
 use crate::sdf_names::{is_plain, push, push_spelled};
 use edge_io::{OutOfMemory, Text};
@@ -149,7 +149,28 @@ fn stayed_halves(alloc: Global, front: &[u8], back: &[u8]) -> Result<NodeName, O
 pub(crate) fn all_stay(marks: &SpefMarks, word: &[u8]) -> bool
     ensures { result ≡ list_all (stays marks.now) word.now }
 {
-    word.iter().all(|byte| stays(marks, *byte))
+    let usual = are_usual(marks);
+    word.iter().all(|byte| stays_among(marks, usual, *byte))
+}
+
+// Whether no mark is a plain byte: it is so in all files but those that are made to try a reader.
+fn are_usual(marks: &SpefMarks) -> bool
+    ensures { result ≡ are_usual marks.now }
+{
+    !is_plain(marks.divider) && !is_plain(marks.left) && !is_plain(marks.right)
+}
+
+// Whether a byte stands as it is. Among usual marks a plain one does, which most are.
+#[tactic(auto, using(crate::proofs::Staying::plain_stays))]
+fn stays_among(marks: &SpefMarks, usual: bool, byte: u8) -> bool
+    requires { usual ≡ are_usual marks.now }
+    ensures { result ≡ stays marks.now byte }
+{
+    if usual && is_plain(byte) {
+        true
+    } else {
+        stays(marks, byte)
+    }
 }
 
 // Whether a byte stands as it is, in the text and in SDF.
