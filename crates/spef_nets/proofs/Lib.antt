@@ -20,3 +20,4 @@ pub mod ShortLemmas
 pub mod Stepping
 pub mod ValuePoints
 pub mod NodeNameLemmas
+pub mod FewLemmas

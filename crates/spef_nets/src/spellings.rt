@@ -1,5 +1,5 @@
 //! The spellings of references, each numbered by its first place.
-ghost use Rattle.std.specs.Prelude.{◌≡◌, ℕ, ◌+◌, ◌<◌, true, [], ◌∷◌, ◌++◌, List, length, map, slice_get, Some, Contains, IfOk, OnOk, IfSome, IfNone};
+ghost use Rattle.std.specs.Prelude.{◌≡◌, ◌≢◌, ℕ, ◌+◌, ◌<◌, false, true, [], ◌∷◌, ◌++◌, List, length, map, slice_get, Some, Contains, bytes_eq, IfOk, OnOk, OnErr, IfSome, IfNone};
 
 use crate::name_hash::NameHash;
 use edge_io::OutOfMemory;
@@ -7,20 +7,31 @@ use indexmap::IndexSet;
 use std::alloc::Global;
 use std::marker::Model;
 
-/// Spellings, numbered in the order in which they came. Contracts see the list of them.
+/// So many spellings stand in a list, which is searched through; those behind them stand in a table.
+const FEW: usize = 8;
+
+/// No section has as many spellings, since a file of fewer than 2^30 bytes has fewer tokens.
+const MOST: usize = 1 << 30;
+
+/// Spellings, numbered in the order in which they came. Contracts see the list of them. Most nets are small, and for a few spellings
+/// no hash is taken and no table made.
 #[derive(Drop)]
 pub struct Spellings<'t> {
+    few: Vec<&'t [u8]>,
+    // those behind the few
     words: IndexSet<&'t [u8], NameHash>,
-    // the number that was answered or given last
+    // the place in the table that was answered last
     last: usize,
 }
 
 impl<'t> Model for Spellings<'t> {
-    ghost use Rattle.std.specs.Prelude.{ℕ, List, map};
+    ghost use Rattle.std.specs.Prelude.{ℕ, List, map, ◌++◌, ◌≤◌, ◌^◌, length};
 
     ghost Value = { List (List ℕ) };
 
-    ghost view = { λ s. map (λ word. word.now) s.words.keys };
+    ghost view = { λ s. map (λ word. word.now) s.few.items ++ map (λ word. word.now) s.words.keys };
+
+    ghost invariant = { λ s. (length s.few.items ≤ 8) × (length s.words.keys ≤ 2 ^ 30) };
 }
 
 impl<'t> Spellings<'t> {
@@ -28,8 +39,14 @@ impl<'t> Spellings<'t> {
     pub fn with_room(alloc: Global, many: usize) -> Result<Spellings<'t>, OutOfMemory>
         ensures { IfOk result (λ spellings. spellings ≡ []) }
     {
-        let words = IndexSet::with_capacity_and_hasher(alloc, many, NameHash::default())?;
-        Ok(Spellings { words, last: 0 })
+        let few = Vec::with_capacity(alloc, many.min(FEW))?;
+        let behind = many.saturating_sub(FEW);
+        let words = IndexSet::with_capacity_and_hasher(alloc, behind, NameHash::default())?;
+        Ok(Spellings {
+            few,
+            words,
+            last: 0,
+        })
     }
 
     /// The number of a spelling, if it is held.
@@ -38,9 +55,16 @@ impl<'t> Spellings<'t> {
         ensures absent { IfNone result (¬ Contains self.old word.now) }
         ensures same { self.new ≡ self.old }
     {
-        let number = look_up(&self.words, self.last, word)?;
-        self.last = number;
-        Some(number)
+        if let Some(place) = guessed(&self.words, self.last, word) {
+            self.last = place;
+            return Some(self.few.len() + place);
+        }
+        if let Some(place) = place_among(self.few.as_slice(), word) {
+            return Some(place);
+        }
+        let place = number_of(&self.words, word)?;
+        self.last = place;
+        Some(self.few.len() + place)
     }
 
     /// Puts a spelling at the end that is not held.
@@ -48,9 +72,36 @@ impl<'t> Spellings<'t> {
         requires absent { ¬ Contains self.old word.now }
         ensures added { OnOk result (self.new ≡ self.old ++ word.now ∷ []) }
     {
+        if self.few.len() < FEW && self.words.is_empty() {
+            return push_few(&mut self.few, word);
+        }
+        if self.words.len() >= MOST {
+            return Err(OutOfMemory);
+        }
         self.last = self.words.len();
         add(&mut self.words, word)
     }
+}
+
+fn push_few<'t>(few: &mut Vec<&'t [u8]>, word: &'t [u8]) -> Result<(), OutOfMemory>
+    ensures ok { OnOk result (map (λ held. held.now) few.new.items ≡ map (λ held. held.now) few.old.items ++ word.now ∷ []) }
+    ensures len { OnOk result (length few.new.items ≡ length few.old.items + 1) }
+    ensures err { OnErr result (few.new.items ≡ few.old.items) }
+{
+    few.push(word).map_err(|_| OutOfMemory)
+}
+
+// The place of a spelling in a list, if it stands there.
+fn place_among(few: &[&[u8]], word: &[u8]) -> Option<usize>
+    ensures found { IfSome result (λ place. slice_get (map (λ held. held.now) few.now) place ≡ Some word.now) }
+    ensures absent { IfNone result (¬ Contains (map (λ held. held.now) few.now) word.now) }
+{
+    for place in 0..few.len() {
+        if are_equal(few[place], word) {
+            return Some(place);
+        }
+    }
+    None
 }
 
 // Whether a spelling has this number.
@@ -58,24 +109,17 @@ fn stands_at(words: &IndexSet<&[u8], NameHash>, number: usize, word: &[u8]) -> b
     ensures { result ≡ true → slice_get (map (λ key. key.now) words.now.keys) number ≡ Some word.now }
 {
     match words.get_index(number) {
-        Some(held) => end_alike(held, word) && are_equal(held, word),
+        Some(held) => are_equal(held, word),
         None => false,
     }
 }
 
-// Whether the last bytes are equal, by which most spellings of one net differ.
-fn end_alike(one: &[u8], other: &[u8]) -> bool {
-    match (one.last(), other.last()) {
-        (Some(one), Some(other)) => *one == *other,
-        _ => true,
-    }
-}
-
-// Whether two short words are equal, byte by byte: for those this takes half of the time of the comparison of slices.
+// Whether two short words are equal, byte by byte: for those this takes half of the time of the comparison of slices. Most spellings of a net
+// differ in their last byte, which is looked at first.
 fn are_equal(one: &[u8], other: &[u8]) -> bool
-    ensures { result ≡ true → one.now ≡ other.now }
+    ensures { result ≡ bytes_eq one.now other.now }
 {
-    if one.len() != other.len() {
+    if one.len() != other.len() || !end_alike(one, other) {
         return false;
     }
     for place in 0..one.len() {
@@ -86,11 +130,21 @@ fn are_equal(one: &[u8], other: &[u8]) -> bool
     true
 }
 
-// The number of a spelling, if it is held. It is looked for at the last number and at the next one first: the connections, the
-// capacitances and the resistors of a net name its nodes in one order, as a rule, and then no hash is taken.
-fn look_up(words: &IndexSet<&[u8], NameHash>, last: usize, word: &[u8]) -> Option<usize>
-    ensures found { IfSome result (λ number. slice_get (map (λ key. key.now) words.now.keys) number ≡ Some word.now) }
-    ensures absent { IfNone result (¬ Contains (map (λ key. key.now) words.now.keys) word.now) }
+// Whether the last bytes are equal.
+fn end_alike(one: &[u8], other: &[u8]) -> bool
+    ensures { result ≡ false → one.now ≢ other.now }
+{
+    match (one.last(), other.last()) {
+        (Some(one), Some(other)) => *one == *other,
+        _ => true,
+    }
+}
+
+// The place of a spelling in the table, if it is the last one or the next one: the connections, the capacitances and the resistors of a net
+// name its nodes in one order, as a rule, and then no hash is taken.
+fn guessed(words: &IndexSet<&[u8], NameHash>, last: usize, word: &[u8]) -> Option<usize>
+    ensures within { IfSome result (λ place. place < length words.now.keys) }
+    ensures found { IfSome result (λ place. slice_get (map (λ key. key.now) words.now.keys) place ≡ Some word.now) }
 {
     let next = last.saturating_add(1);
     if stands_at(words, last, word) {
@@ -98,14 +152,19 @@ fn look_up(words: &IndexSet<&[u8], NameHash>, last: usize, word: &[u8]) -> Optio
     } else if stands_at(words, next, word) {
         Some(next)
     } else {
-        number_of(words, word)
+        None
     }
 }
 
+// The place of a spelling in the table, if it is held there.
 fn number_of(words: &IndexSet<&[u8], NameHash>, word: &[u8]) -> Option<usize>
+    ensures within { IfSome result (λ place. place < length words.now.keys) }
     ensures found { IfSome result (λ number. slice_get (map (λ key. key.now) words.now.keys) number ≡ Some word.now) }
     ensures absent { IfNone result (¬ Contains (map (λ key. key.now) words.now.keys) word.now) }
 {
+    if words.is_empty() {
+        return None;
+    }
     let (number, _) = words.get_full(word)?;
     Some(number)
 }
@@ -113,6 +172,8 @@ fn number_of(words: &IndexSet<&[u8], NameHash>, word: &[u8]) -> Option<usize>
 fn add<'t>(words: &mut IndexSet<&'t [u8], NameHash>, word: &'t [u8]) -> Result<(), OutOfMemory>
     requires absent { ¬ Contains (map (λ key. key.now) words.old.keys) word.now }
     ensures added { OnOk result (map (λ key. key.now) words.new.keys ≡ map (λ key. key.now) words.old.keys ++ word.now ∷ []) }
+    ensures len { OnOk result (length words.new.keys ≡ length words.old.keys + 1) }
+    ensures err { OnErr result (words.new.keys ≡ words.old.keys) }
 {
     let Ok(_) = words.insert_full(word) else {
         return Err(OutOfMemory);

@@ -4,6 +4,7 @@ use Rattle.spef_nets.specs.NetElements.{NetElements}
 use Rattle.spef_nets.specs.Sections.{IsNet}
 use Rattle.spef_nets.specs.DraftOf.{drafted}
 use Rattle.spef_nets.specs.Drafts.{corners_of, IsStop}
+use Rattle.spef_nets.specs.declared.ends.SectionEnd.TheVariants.{OutOfMemory}
 use Rattle.spef_nets.proofs.Stepping.{handed_on}
 use Rattle.spef_nets.proofs.Referring.{joined_grown, grows_more}
 use Rattle.spef_nets.proofs.ResStepping.{whole_draft, is_net, is_faultless}
@@ -38,3 +39,7 @@ returns-in_err-read_caps-clause-err g c =
 pub returns-in_err-read_ress-clause-err : goal.returns-in_err-read_ress-clause-err
 returns-in_err-read_ress-clause-err g c =
     handed_on c.from_residual-in_err-read_ress.result c.in_err-read_ress.field-0.0 (IsStop c.args.self.now.file.now c.args.self.now.head.now c.args.s) c.from_residual-in_err-read_ress.ensures.1 c.in_err-read_ress.ensures.err
+
+pub returns-in_err-joints-clause-err : goal.returns-in_err-joints-clause-err
+returns-in_err-joints-clause-err g c =
+    handed_on c.from_residual-in_err-joints.result OutOfMemory (IsStop c.args.self.now.file.now c.args.self.now.head.now c.args.s) c.from_residual-in_err-joints.ensures.1 tt
