@@ -7,11 +7,22 @@ ghost use Rattle.name_table.specs.WellSpelled.{IsPart};
 use edge_io::{OutOfMemory, Text};
 use std::alloc::Global;
 
-// A letter, a digit or `_`.
+// Each letter, each digit and `_` stands at its own place, and a comma at every other place.
+static PLAIN_BYTES: [u8; 256] = *b"\
+    ,,,,,,,,,,,,,,,,,,,,,,,,,,,,,,,,\
+    ,,,,,,,,,,,,,,,,0123456789,,,,,,\
+    ,ABCDEFGHIJKLMNOPQRSTUVWXYZ,,,,_\
+    ,abcdefghijklmnopqrstuvwxyz,,,,,\
+    ,,,,,,,,,,,,,,,,,,,,,,,,,,,,,,,,\
+    ,,,,,,,,,,,,,,,,,,,,,,,,,,,,,,,,\
+    ,,,,,,,,,,,,,,,,,,,,,,,,,,,,,,,,\
+    ,,,,,,,,,,,,,,,,,,,,,,,,,,,,,,,,";
+
+// A letter, a digit or `_`. A look-up takes one test, where the ranges take up to four.
 pub(crate) fn is_plain(byte: u8) -> bool
     ensures { result ≡ is_plain byte }
 {
-    byte.is_ascii_alphanumeric() || byte == b'_'
+    PLAIN_BYTES[byte as usize] != b','
 }
 
 // Puts a byte at the end.
