@@ -1,5 +1,5 @@
 //! Names of SPEF (IEEE 1481-1999).
-ghost use Rattle.std.specs.Prelude.{◌≡◌, ◌+◌, ◌<◌, ◌++◌, ◌∷◌, Bool, ℕ, List, Option, Some, None, take, drop, length, IfOk, IfSome, IfNone, OnOk, OnErr};
+ghost use Rattle.std.specs.Prelude.{◌≡◌, true, ◌+◌, ◌<◌, ◌++◌, ◌∷◌, Bool, ℕ, List, Option, Some, None, take, drop, length, IfOk, IfSome, IfNone, OnOk, OnErr};
 ghost use Rattle.std.specs.List.{list_all};
 ghost use Rattle.name_table.specs.Characters.{bare, characters};
 ghost use Rattle.name_table.specs.SdfNames.{slash, canonical};
@@ -149,8 +149,11 @@ fn stayed_halves(alloc: Global, front: &[u8], back: &[u8]) -> Result<NodeName, O
 pub(crate) fn all_stay(marks: &SpefMarks, word: &[u8]) -> bool
     ensures { result ≡ list_all (stays marks.now) word.now }
 {
-    let usual = are_usual(marks);
-    word.iter().all(|byte| stays_among(marks, usual, *byte))
+    if are_usual(marks) {
+        all_stay_usually(marks, word)
+    } else {
+        word.iter().all(|byte| stays(marks, *byte))
+    }
 }
 
 // Whether no mark is a plain byte: it is so in all files but those that are made to try a reader.
@@ -160,17 +163,21 @@ fn are_usual(marks: &SpefMarks) -> bool
     !is_plain(marks.divider) && !is_plain(marks.left) && !is_plain(marks.right)
 }
 
-// Whether a byte stands as it is. Among usual marks a plain one does, which most are.
+// The same as `all_stay` among usual marks, which are not asked for at each byte.
+fn all_stay_usually(marks: &SpefMarks, word: &[u8]) -> bool
+    requires { are_usual marks.now ≡ true }
+    ensures { result ≡ list_all (stays marks.now) word.now }
+{
+    word.iter().all(|byte| stays_usually(marks, *byte))
+}
+
+// Whether a byte stands as it is among usual marks. A plain one does, which most are.
 #[tactic(auto, using(crate::proofs::Staying::plain_stays))]
-fn stays_among(marks: &SpefMarks, usual: bool, byte: u8) -> bool
-    requires { usual ≡ are_usual marks.now }
+fn stays_usually(marks: &SpefMarks, byte: u8) -> bool
+    requires { are_usual marks.now ≡ true }
     ensures { result ≡ stays marks.now byte }
 {
-    if usual && is_plain(byte) {
-        true
-    } else {
-        stays(marks, byte)
-    }
+    is_plain(byte) || stays(marks, byte)
 }
 
 // Whether a byte stands as it is, in the text and in SDF.
