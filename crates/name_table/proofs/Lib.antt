@@ -1,4 +1,5 @@
 pub mod Cutting
+pub mod FromBehind
 pub mod Keys
 pub mod Reading
 pub mod Spelling

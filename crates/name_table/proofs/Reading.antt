@@ -91,7 +91,7 @@ read_bare word place within outside other =
     ∙ ap (λ last. characters (take place word) ++ last) (bare_ended (get_or word place 0) (not_equal (get_or word place 0) backslash other))
 
 -- and whether it ends inside an escape
-ends_inside_more : (word : List ℕ) (place : ℕ) → place < length word → ends_inside (take (place + 1) word) ≡ goes_inside (ends_inside (take place word)) (get_or word place 0)
+pub ends_inside_more : (word : List ℕ) (place : ℕ) → place < length word → ends_inside (take (place + 1) word) ≡ goes_inside (ends_inside (take place word)) (get_or word place 0)
 ends_inside_more word place within = ap ends_inside (take_more word place 0 within) ∙ ends_inside_push (take place word) (get_or word place 0)
 
 pub leaves_escape : (word : List ℕ) (place : ℕ) → place < length word → ends_inside (take place word) ≡ true → ends_inside (take (place + 1) word) ≡ false

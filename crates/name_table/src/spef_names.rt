@@ -1,13 +1,14 @@
 //! Names of SPEF (IEEE 1481-1999).
-ghost use Rattle.std.specs.Prelude.{◌≡◌, true, ◌+◌, ◌<◌, ◌++◌, ◌∷◌, Bool, ℕ, List, Option, Some, None, take, drop, length, IfOk, IfSome, IfNone, OnOk, OnErr};
+ghost use Rattle.std.specs.Prelude.{◌≡◌, ◌≢◌, true, ◌+◌, ◌-◌, ◌<◌, ◌++◌, ◌∷◌, Bool, ℕ, List, Option, Some, None, take, drop, length, get_or, IfOk, IsTrue, IfSome, IfNone, OnOk, OnErr};
 ghost use Rattle.std.specs.List.{list_all};
-ghost use Rattle.name_table.specs.Characters.{bare, characters};
+ghost use Rattle.name_table.specs.Characters.{bare, backslash, characters};
 ghost use Rattle.name_table.specs.SdfNames.{slash, canonical};
 ghost use Rattle.name_table.specs.SpefNames.{sdf_of, meaning, text_of, spelling_of, cut_last, halves_at, whole_node, cut_node, node_name, joined};
 ghost use Rattle.name_table.specs.Staying.{stays, stays_as, are_usual};
 
 use crate::sdf_names::{is_plain, push, push_spelled};
 use edge_io::{OutOfMemory, Text};
+use memchr::memrchr;
 use std::alloc::Global;
 
 /// The marks of a SPEF file: what divides the parts of a path, what stands between a node's name and its
@@ -210,8 +211,31 @@ pub(crate) fn last_delimiter(word: &[u8], cut: bool, delimiter: u8) -> Option<us
     }
 }
 
-// The place of the last unescaped delimiter, if there is one.
+// The place of the last unescaped delimiter, if there is one. The last delimiter is it where no backslash stands right
+// before it, as in nearly all words, whatever stands further in front.
 fn last_unescaped(word: &[u8], delimiter: u8) -> Option<usize>
+    ensures none { IfNone result (cut_last delimiter (characters word.now) ≡ None) }
+    ensures within { IfSome result (λ place. place < length word.now) }
+    ensures some { IfSome result (λ place. cut_last delimiter (characters word.now) ≡ Some (record { front = characters (take place word.now); back = characters (drop (place + 1) word.now) })) }
+{
+    match memrchr(delimiter, word) {
+        None => None,
+        Some(place) if stands_alone(word, place, delimiter) => Some(place),
+        Some(_) => last_by_reading(word, delimiter),
+    }
+}
+
+// Whether a delimiter has no backslash right before it, and is none.
+fn stands_alone(word: &[u8], place: usize, delimiter: u8) -> bool
+    requires { place < length word.now }
+    ensures delimiter { IsTrue result → delimiter ≢ backslash }
+    ensures before { IsTrue result → 0 < place → get_or word.now (place - 1) 0 ≢ backslash }
+{
+    delimiter != b'\\' && (place == 0 || word[place - 1] != b'\\')
+}
+
+// The same, byte by byte.
+fn last_by_reading(word: &[u8], delimiter: u8) -> Option<usize>
     ensures none { IfNone result (cut_last delimiter (characters word.now) ≡ None) }
     ensures within { IfSome result (λ place. place < length word.now) }
     ensures some { IfSome result (λ place. cut_last delimiter (characters word.now) ≡ Some (record { front = characters (take place word.now); back = characters (drop (place + 1) word.now) })) }

@@ -1,7 +1,7 @@
 use Rattle.std.proofs.Common.{◌≡◌, take}
 use Rattle.name_table.proofs.Cutting.{IsLastAt}
 use Rattle.name_table.proofs.Reading.{ends_inside}
-use Rattle.name_table.proofs.spef_names.last_unescaped.Given as goal
+use Rattle.name_table.proofs.spef_names.last_by_reading.Given as goal
 
 -- the place of the last delimiter of what has been read, and whether that ends inside an escape
 abbrev pub invariant-loop-place : goal.invariant-loop-place
