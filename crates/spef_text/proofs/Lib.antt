@@ -2,6 +2,7 @@ pub mod Beginnings
 pub mod Breaking
 pub mod Cutting
 pub mod Keywords
+pub mod LaneLemmas
 pub mod LiteralReading
 pub mod LiteralShape
 pub mod Parting

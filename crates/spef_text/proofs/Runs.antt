@@ -1,5 +1,5 @@
 -- How long a run is, from its first byte on, and how much stands at the front of some bytes.
-use Rattle.std.proofs.Common.{◌≡◌, ℕ, ◌+◌, ◌-◌, ◌<◌, ◌≤◌, Bool, true, false, cond, ◌||◌, ◌==◌, List, [], ◌∷◌, length, drop, get_or, refl, ap, ◌∙◌, arith}
+use Rattle.std.proofs.Common.{◌≡◌, ℕ, ◌+◌, ◌-◌, ◌<◌, ◌≤◌, Bool, true, false, cond, ◌||◌, ◌==◌, zero, suc, List, [], ◌∷◌, length, drop, get_or, refl, sym, ap, subst, true≢false, ◌∙◌, arith}
 use Rattle.std.proofs.lemmas.Bool.{eq-eqb, eqb-true}
 use Rattle.std.proofs.lemmas.List.{drop_more, drop_all}
 use Rattle.spef_text.specs.Tokens.{is_blank, is_backslash, run_length}
@@ -54,6 +54,18 @@ run_goes_on whole place h lt other plain =
     let step : run_length (drop place whole) ≡ run_length (drop (place + 1) whole) + 1 = ap run_length (drop_more whole place 0 lt) ∙ run_plain (get_or whole place 0) (drop (place + 1) whole) (not_byte _ 92 other) plain in
     let so_far = h.so_far in
     record { within = omega arith; so_far = omega arith }
+
+-- so many bytes more that are no blank and no backslash
+pub run_goes_far : (whole : List ℕ) (place n : ℕ) → RunSoFar whole place → place + n ≤ length whole
+    → ((k : ℕ) → k < n → (is_blank (get_or whole (place + k) 0) ≡ false) × (is_backslash (get_or whole (place + k) 0) ≡ false))
+    → RunSoFar whole (place + n)
+run_goes_far whole place zero h within plain = subst (RunSoFar whole) (let e : place ≡ place + 0 = omega arith in e) h
+run_goes_far whole place (suc n) h within plain =
+    let last = plain n (omega arith) in
+    let before = run_goes_far whole place n h (omega (arith, within)) (λ k lt. plain k (omega (arith, lt))) in
+    let no_backslash : get_or whole (place + n) 0 ≡ 92 → ⊥ = λ e. true≢false (sym (ap is_backslash e) ∙ last.1) in
+    let e : place + n + 1 ≡ place + suc n = omega arith in
+    subst (RunSoFar whole) e (run_goes_on whole (place + n) before (omega (arith, within)) no_backslash last.0)
 
 pub run_stops : (whole : List ℕ) (place : ℕ) → RunSoFar whole place → place < length whole → (get_or whole place 0 ≡ 92 → ⊥) → is_blank (get_or whole place 0) ≡ true → place ≡ run_length whole
 run_stops whole place h lt other blank =

@@ -11,6 +11,7 @@ mod head;
 mod head_ends;
 mod head_items;
 mod head_laws;
+mod lanes;
 mod laws;
 mod modes;
 mod name_map;

@@ -4,6 +4,7 @@ ghost use Rattle.spef_text.specs.Spans.{texts};
 ghost use Rattle.spef_text.specs.Tokens.{is_blank, ends_text, text_cut, comment_end, comment_cut, line_length, run_length, begins_with, cut_at, AreTokens};
 ghost use Rattle.spef_text.specs.Cuts.{IsWithin};
 
+use crate::lanes::plain_length;
 use crate::spans::Span;
 use edge_io::OutOfMemory;
 use memchr::{memchr, memchr2, memmem};
@@ -66,6 +67,10 @@ fn run_length(bytes: &[u8]) -> usize
 {
     let mut place = 0;
     while place < bytes.len() {
+        place += plain_length(bytes, place);
+        if place == bytes.len() {
+            break;
+        }
         let byte = bytes[place];
         if byte == b'\\' {
             if bytes.len() - place == 1 {
