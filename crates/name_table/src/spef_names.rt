@@ -134,16 +134,24 @@ fn stayed_halves(alloc: Global, front: &[u8], back: &[u8]) -> Result<NodeName, O
 {
     let head = Text::from_bytes(alloc, front)?;
     let tail = Text::from_bytes(alloc, back)?;
+    let sdf = sdf_of_halves(alloc, front, back)?;
+    Ok(NodeName {
+        head,
+        tail: Some(tail),
+        sdf,
+    })
+}
+
+// Head and tail as SDF spells them, where each byte of them stands as it is.
+pub(crate) fn sdf_of_halves(alloc: Global, front: &[u8], back: &[u8]) -> Result<Text, OutOfMemory>
+    ensures { IfOk result (λ sdf. sdf ≡ front.now ++ slash ∷ back.now) }
+{
     let room = front.len().saturating_add(back.len()).saturating_add(1);
     let mut sdf = Vec::with_capacity(alloc, room)?;
     sdf.extend_from_slice(front)?;
     push(&mut sdf, b'/')?;
     sdf.extend_from_slice(back)?;
-    Ok(NodeName {
-        head,
-        tail: Some(tail),
-        sdf: Text::from_vec(sdf),
-    })
+    Ok(Text::from_vec(sdf))
 }
 
 /// Whether each byte of a word stands as it is.

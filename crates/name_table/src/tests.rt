@@ -171,12 +171,12 @@ fn nodes_of_spef_are_read(rt: HostRuntime) -> Result<(), Fail> {
     Ok(())
 }
 
-/// Names that stand as they are written, whether to cut them, and their parts.
-const WRITTEN: [(&[u8], bool, &[u8], Option<&[u8]>); 4] = [
-    (b"u1/g[3]:A", true, b"u1/g[3]", Some(b"A")),
-    (b"n_1", true, b"n_1", None),
-    (b":a", true, b"", Some(b"a")),
-    (b"u1/g", false, b"u1/g", None),
+/// Names that stand as they are written, whether to cut them, their parts and their spellings in SDF.
+const WRITTEN: [(&[u8], bool, &[u8], Option<&[u8]>, &[u8]); 4] = [
+    (b"u1/g[3]:A", true, b"u1/g[3]", Some(b"A"), b"u1/g[3]/A"),
+    (b"n_1", true, b"n_1", None, b"n_1"),
+    (b":a", true, b"", Some(b"a"), b"/a"),
+    (b"u1/g", false, b"u1/g", None, b"u1/g"),
 ];
 
 /// Names of which some byte means another, or is spelled otherwise in SDF.
@@ -189,9 +189,13 @@ const OTHERWISE: [(SpefMarks, bool, &[u8]); 4] = [
 
 #[test]
 fn names_that_stand_as_written_are_parted(rt: HostRuntime) -> Result<(), Fail> {
-    for (word, cut, head, tail) in WRITTEN {
-        let found = written_name(word, cut, &USUAL).map(|name| (name.head, name.tail));
-        assert!(rt; found == Some((head, tail)), "{word:?}");
+    for (word, cut, head, tail, sdf) in WRITTEN {
+        let found = written_name(word, cut, &USUAL);
+        let parts = found.map(|name| (name.head, name.tail));
+        assert!(rt; parts == Some((head, tail)), "{word:?}");
+        if let Some(name) = found {
+            assert_eq!(rt; name.sdf(rt.alloc())?.bytes(), sdf, "{word:?}");
+        }
     }
     for (marks, cut, word) in OTHERWISE {
         assert!(rt; written_name(word, cut, &marks).is_none(), "{word:?}");

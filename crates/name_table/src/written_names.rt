@@ -1,17 +1,32 @@
 //! Names of SPEF (IEEE 1481-1999) that stand as they are written.
-ghost use Rattle.std.specs.Prelude.{◌≡◌, Bool, ◌∷◌, ◌++◌, IfSome, true};
+ghost use Rattle.std.specs.Prelude.{◌≡◌, Bool, ◌∷◌, ◌++◌, IfOk, IfSome, true};
 ghost use Rattle.std.specs.List.{list_all};
+ghost use Rattle.std.specs.Option.{option_copied};
 ghost use Rattle.name_table.specs.Characters.{characters};
 ghost use Rattle.name_table.specs.SpefNames.{whole_node, cut_node, node_name};
-ghost use Rattle.name_table.specs.WrittenNames.{IsWritten};
+ghost use Rattle.name_table.specs.WrittenNames.{IsWritten, in_sdf};
 
-use crate::spef_names::{SpefMarks, all_stay, last_delimiter};
+use crate::spef_names::{SpefMarks, all_stay, last_delimiter, sdf_of_halves};
+use edge_io::{OutOfMemory, Text};
+use std::alloc::Global;
 
 /// A node's name that stands as it is written: its head and its tail are parts of the word, and no byte of them means another.
 #[derive(Clone, Copy, Debug)]
 pub struct WrittenName<'w> {
     pub head: &'w [u8],
     pub tail: Option<&'w [u8]>,
+}
+
+impl<'w> WrittenName<'w> {
+    /// The name's spelling in SDF, in which head and tail are joined by `/`.
+    pub fn sdf(&self, alloc: Global) -> Result<Text, OutOfMemory>
+        ensures { IfOk result (λ sdf. sdf ≡ in_sdf self.now.head.now (option_copied self.now.tail)) }
+    {
+        match self.tail {
+            Some(tail) => sdf_of_halves(alloc, self.head, tail),
+            None => Text::from_bytes(alloc, self.head),
+        }
+    }
 }
 
 /// The head and the tail of a name, cut as [`read_spef_node`](crate::read_spef_node) cuts it, where they stand in the word as they are:
