@@ -12,6 +12,7 @@ pub mod Scanning
 pub mod Searching
 pub mod Living
 pub mod Overlaps
+pub mod PlainDecimals
 pub mod Taking
 pub mod Meaning
 pub mod Fitting

@@ -1,5 +1,5 @@
 //! The classes of one token: what it may stand for. A broken token is in none.
-ghost use Rattle.std.specs.Prelude.{◌≡◌, ◌+◌, ◌^◌, ◌<◌, ◌≤◌, not, ◌&&◌, length, drop, position, bytes_eq};
+ghost use Rattle.std.specs.Prelude.{◌≡◌, IsTrue, ◌+◌, ◌^◌, ◌<◌, ◌≤◌, not, ◌&&◌, length, drop, position, bytes_eq};
 ghost use Rattle.std.specs.List.{list_all, prefix_len};
 ghost use Rattle.std.specs.Char.{is_ascii_digit};
 ghost use Rattle.delay_units.specs.Literal.{without_leading_zeros};
@@ -110,7 +110,18 @@ fn are_two_literals(text: &[u8]) -> bool
 pub fn is_value(text: &[u8]) -> bool
     ensures { result ≡ is_value text.now }
 {
-    begins_as_literal(text) && is_any_value(text)
+    begins_as_literal(text) && (is_plain_decimal(text) || is_any_value(text))
+}
+
+/// Digits with at most one point among them, as most values are written.
+fn is_plain_decimal(text: &[u8]) -> bool
+    ensures { IsTrue result → IsTrue (is_value text.now) }
+{
+    let (whole, rest) = text.split_at(digits_in_front(text));
+    match rest {
+        [] => !whole.is_empty(),
+        [point, fraction @ ..] => *point == b'.' && text.len() > 1 && are_digits(fraction),
+    }
 }
 
 /// The same, whatever stands first.
