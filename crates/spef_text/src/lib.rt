@@ -5,6 +5,7 @@
 mod broken;
 mod classes;
 mod entries;
+mod equality;
 mod file;
 mod file_texts;
 mod head;
@@ -26,6 +27,7 @@ mod units;
 mod words;
 
 pub use entries::{Cap, Conn, Res};
+pub use equality::are_equal;
 pub use file::SpefFile;
 pub use head::{Head, read_head};
 pub use head_ends::HeadEnd;

@@ -1,6 +1,8 @@
 //! The keywords of SPEF.
-ghost use Rattle.std.specs.Prelude.{◌≡◌, bytes_eq, map, None, if◌then◌else◌};
+ghost use Rattle.std.specs.Prelude.{◌≡◌, map, None, if◌then◌else◌};
 ghost use Rattle.spef_text.specs.Classes.{word_of, keywords, lookup, is_top, is_tight, lone_word, sifted_word};
+
+use crate::equality::are_equal;
 
 /// What a keyword stands for in the grammar.
 #[derive(Clone, Copy, PartialEq, Eq, Debug)]
@@ -88,20 +90,12 @@ const KEYWORDS: [(&[u8], Word); 35] = [
     (b"*INDUC", Word::Induc),
 ];
 
-/// Whether a text is a keyword. Few keywords have its length, which is looked at first.
-#[inline]
-fn is_spelled(keyword: &[u8], text: &[u8]) -> bool
-    ensures { result ≡ bytes_eq keyword.now text.now }
-{
-    keyword.len() == text.len() && keyword == text
-}
-
 /// What stands in the table beside the text.
 fn look_up(table: &[(&[u8], Word)], text: &[u8]) -> Option<Word>
     ensures { result ≡ lookup (map (λ k. (k.0.now, k.1)) table.now) text.now }
 {
     for keyword in table {
-        if is_spelled(keyword.0, text) {
+        if are_equal(keyword.0, text) {
             return Some(keyword.1);
         }
     }

@@ -1,9 +1,8 @@
 -- A bit is set where the byte is at most a space or a backslash.
-use Rattle.std.proofs.Common.{◌≡◌, ◌<◌, ℕ, take, drop, leb, eqb, map, replicate, sym, subst, ap, ◌∙◌, w8, arith}
+use Rattle.std.proofs.Common.{take, drop, leb, eqb, sym, ◌∙◌, w8, arith}
 use Rattle.std.proofs.lemmas.Simd.{bitmask_splat, length-chunk}
 use Rattle.std.specs.Int.{bit_at}
 use Rattle.std.specs.Int.Bits.{bit_or}
-use Rattle.std.specs.Simd.Lanes.{mask_l}
 use Rattle.spef_text.proofs.LaneLemmas.{neither_set}
 use Rattle.spef_text.proofs.lanes.ends_from.Goals as goal
 

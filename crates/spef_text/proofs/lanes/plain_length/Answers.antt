@@ -1,5 +1,5 @@
 -- Below the lowest bit that is set none is.
-use Rattle.std.proofs.Common.{◌<◌, arith}
+use Rattle.std.proofs.Common.{arith}
 use Rattle.spef_text.proofs.LaneLemmas.{below_lowest}
 use Rattle.spef_text.proofs.lanes.plain_length.Goals as goal
 

@@ -1,6 +1,6 @@
 -- A byte more of the run, and where it ends.
-use Rattle.std.proofs.Common.{◌+◌, sym, ◌∙◌, arith}
-use Rattle.spef_text.proofs.Runs.{RunSoFar, run_goes_far, run_takes, run_goes_on, run_stops, run_ends, run_ends_taking}
+use Rattle.std.proofs.Common.{sym, ◌∙◌, arith}
+use Rattle.spef_text.proofs.Runs.{run_goes_far, run_takes, run_goes_on, run_stops, run_ends, run_ends_taking}
 use Rattle.spef_text.proofs.scan.run_length.Goals as goal
 
 pub loop-place-preserved-then-byte-eq92 : goal.loop-place-preserved-then-byte-eq92
