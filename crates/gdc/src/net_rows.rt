@@ -54,8 +54,8 @@ fn add_row<L: Ledger>(
     let elmore = delays.value(tree.sink(sink), (), steps);
     put_delay(delay, sink_femto(elmore));
     let from = Text::from_bytes(alloc, from.bytes())?;
-    let to = pins.sink_name(alloc, net, sink)?;
-    rows.add_wire(from, to.sdf, delay)
+    let to = pins.sink_sdf(alloc, net, sink)?;
+    rows.add_wire(from, to, delay)
 }
 
 // Adds the rows of the wires to all sinks.
@@ -77,19 +77,10 @@ fn add_rows<L: Ledger>(
     ensures one_row { length delay.new ≡ 1 }
     ensures steps { steps.new ≤ steps.old + length (listed_pins 1 net.now pins.now.driver).sinks }
 {
-    let driver = pins.driver_name(alloc, net)?;
+    let driver = pins.driver_sdf(alloc, net)?;
     for sink in 0..pins.len(net) {
         add_row(
-            alloc,
-            net,
-            pins,
-            &driver.sdf,
-            tree,
-            delays,
-            sink,
-            delay,
-            rows,
-            steps,
+            alloc, net, pins, &driver, tree, delays, sink, delay, rows, steps,
         )?;
     }
     Ok(())

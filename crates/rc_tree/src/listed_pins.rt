@@ -1,6 +1,7 @@
 //! The pins of a net that are the connections of its section.
 ghost use Rattle.std.specs.Prelude.{◌≡◌, ℕ, ◌+◌, ◌-◌, ◌^◌, ◌<◌, ◌≤◌, length, slice_get, slice_index, Some, IfOk};
 ghost use Rattle.corner_set.specs.Places.{value_at};
+ghost use Rattle.spef_nets.specs.NodeNames.{IsSdfAt};
 ghost use Rattle.rc_tree.specs.Arenas.{most_farads};
 ghost use Rattle.rc_tree.specs.ListedPins.{listed_pins, other_place};
 ghost use Rattle.rc_tree.specs.Pins.{pin_nodes};
@@ -12,7 +13,7 @@ use crate::node_ids::NodeId;
 use crate::numbered::Numbered;
 use corner_set::CornerSet;
 use delay_units::Farads;
-use edge_io::OutOfMemory;
+use edge_io::{OutOfMemory, Text};
 use name_table::NodeName;
 use spef_nets::Net;
 use std::alloc::Global;
@@ -44,32 +45,32 @@ impl ListedPins {
         }
     }
 
-    /// The name of the driver.
-    pub fn driver_name<C: CornerSet>(
+    /// The driver as SDF spells it.
+    pub fn driver_sdf<C: CornerSet>(
         &self,
         alloc: Global,
         section: &Net<C>,
-    ) -> Result<NodeName, OutOfMemory>
+    ) -> Result<Text, OutOfMemory>
         requires { self.now.driver < length section.now.conns }
-        ensures { IfOk result (λ name. name ≡ (listed_pins C.COUNT section.now self.now.driver).driver) }
+        ensures { IfOk result (λ sdf. sdf ≡ (listed_pins C.COUNT section.now self.now.driver).driver.sdf) }
     {
-        let name = section.node_name(alloc, section.conn(self.driver).node)?;
-        Ok(name)
+        let sdf = section.node_sdf(alloc, section.conn(self.driver).node)?;
+        Ok(sdf)
     }
 
-    /// The name of a sink.
-    pub fn sink_name<C: CornerSet>(
+    /// A sink as SDF spells it.
+    pub fn sink_sdf<C: CornerSet>(
         &self,
         alloc: Global,
         section: &Net<C>,
         sink: usize,
-    ) -> Result<NodeName, OutOfMemory>
+    ) -> Result<Text, OutOfMemory>
         requires within { sink < length (listed_pins C.COUNT section.now self.now.driver).sinks }
         requires fits { sink + 1 < 2 ^ 64 }
-        ensures { IfOk result (λ name. slice_get (listed_pins C.COUNT section.now self.now.driver).sinks sink ≡ Some name) }
+        ensures { IfOk result (IsSdfAt (listed_pins C.COUNT section.now self.now.driver).sinks sink) }
     {
-        let name = section.node_name(alloc, section.conn(self.place(sink)).node)?;
-        Ok(name)
+        let sdf = section.node_sdf(alloc, section.conn(self.place(sink)).node)?;
+        Ok(sdf)
     }
 
     /// The load of a sink at a corner.

@@ -1,5 +1,5 @@
 -- The names of a net's nodes, as they are held or still to be made.
-use Rattle.std.specs.Prelude.{◌≡◌, ℕ, List, All, Some, ⊤}
+use Rattle.std.specs.Prelude.{◌≡◌, ℕ, List, All, slice_get, Some, ⊤}
 use Rattle.name_table.specs.declared.spef_names.NodeName.{NodeName}
 use Rattle.spef_text.specs.SpefFiles.{SpefText}
 use Rattle.spef_text.specs.Heads.{HeadText, IsHeadOf}
@@ -25,3 +25,7 @@ AreNames (Spelled spelled) = AreSpelled spelled.file.now spelled.head.now spelle
 abbrev pub nodes_in : NodeNames → List NodeName
 nodes_in (Held names) = names.now
 nodes_in (Spelled spelled) = nodes_at spelled.file.now spelled.tokens.now
+
+-- the spelling in SDF of the node of this number
+abbrev pub IsSdfAt : List NodeName → ℕ → List ℕ → Type 0
+IsSdfAt nodes number sdf = (node : NodeName) × (slice_get nodes number ≡ Some node) × (node.sdf ≡ sdf)

@@ -3,6 +3,7 @@ ghost use Rattle.std.specs.Prelude.{◌≡◌, ◌+◌, ◌*◌, ◌<◌, ◌≤
 ghost use Rattle.corner_set.specs.Places.{value_at};
 ghost use Rattle.spef_nets.specs.NetElements.{NetElements, most_farads, most_ohms};
 ghost use Rattle.spef_nets.specs.Nodes.{AreDistinctNodes};
+ghost use Rattle.spef_nets.specs.NodeNames.{IsSdfAt};
 
 use crate::elements::Elements;
 use crate::node_names::NodeNames;
@@ -69,6 +70,14 @@ impl<'s, 'f, C: CornerSet> Net<'s, 'f, C> {
         ensures { IfOk result (λ name. slice_get self.now.nodes i ≡ Some name) }
     {
         self.names.name(alloc, i)
+    }
+
+    /// The spelling in SDF of the name of a node by its number.
+    pub fn node_sdf(&self, alloc: Global, i: usize) -> Result<Text, OutOfMemory>
+        requires { i < length self.now.nodes }
+        ensures { IfOk result (IsSdfAt self.now.nodes i) }
+    {
+        self.names.sdf(alloc, i)
     }
 
     /// No two nodes are one: they differ by head or by tail. It does nothing when it is called.

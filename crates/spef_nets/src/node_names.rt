@@ -1,7 +1,7 @@
 //! The names of a net's nodes, wherever they are.
 ghost use Rattle.std.specs.Prelude.{◌≡◌, ◌<◌, length, slice_get, Some, IfOk};
 ghost use Rattle.spef_nets.specs.Nodes.{nodes_at};
-ghost use Rattle.spef_nets.specs.NodeNames.{nodes_in, AreNames, AreSpelled};
+ghost use Rattle.spef_nets.specs.NodeNames.{nodes_in, AreNames, AreSpelled, IsSdfAt};
 
 use edge_io::{OutOfMemory, Text};
 use name_table::NodeName;
@@ -42,6 +42,20 @@ impl<'s, 'f> Spelled<'s, 'f> {
     }
 }
 
+impl<'s, 'f> Spelled<'s, 'f> {
+    // The spelling of a node in SDF. Where its name stands as it is written, nothing else of it is made.
+    fn sdf(&self, alloc: Global, node: usize) -> Result<Text, OutOfMemory>
+        requires spelled { AreSpelled self.now.file.now self.now.head.now self.now.tokens.now }
+        requires within { node < length self.now.tokens.now }
+        ensures { IfOk result (IsSdfAt (nodes_at self.now.file.now self.now.tokens.now) node) }
+    {
+        match self.head.written(self.file, self.tokens[node] as u64) {
+            Some(name) => name.sdf(alloc),
+            None => Ok(self.name(alloc, node)?.sdf),
+        }
+    }
+}
+
 /// A copy of a name.
 pub fn copy_name(alloc: Global, name: &NodeName) -> Result<NodeName, OutOfMemory>
     ensures { IfOk result (λ copy. copy ≡ name.now) }
@@ -61,6 +75,15 @@ fn held_name(alloc: Global, names: &[NodeName], node: usize) -> Result<NodeName,
     ensures { IfOk result (λ name. slice_get names.now node ≡ Some name) }
 {
     copy_name(alloc, &names[node])
+}
+
+// A copy of the spelling in SDF of a name that is held.
+fn held_sdf(alloc: Global, names: &[NodeName], node: usize) -> Result<Text, OutOfMemory>
+    requires { node < length names.now }
+    ensures { IfOk result (IsSdfAt names.now node) }
+{
+    let sdf = Text::from_bytes(alloc, names[node].sdf.bytes())?;
+    Ok(sdf)
 }
 
 impl<'s, 'f> NodeNames<'s, 'f> {
@@ -84,6 +107,18 @@ impl<'s, 'f> NodeNames<'s, 'f> {
         match self {
             NodeNames::Held(names) => held_name(alloc, names, node),
             NodeNames::Spelled(spelled) => spelled.name(alloc, node),
+        }
+    }
+
+    /// The spelling of a node in SDF.
+    pub fn sdf(&self, alloc: Global, node: usize) -> Result<Text, OutOfMemory>
+        requires names { AreNames self.now }
+        requires within { node < length (nodes_in self.now) }
+        ensures { IfOk result (IsSdfAt (nodes_in self.now) node) }
+    {
+        match self {
+            NodeNames::Held(names) => held_sdf(alloc, names, node),
+            NodeNames::Spelled(spelled) => spelled.sdf(alloc, node),
         }
     }
 }

@@ -1,4 +1,4 @@
-use Rattle.std.proofs.Common.{refl, subst, ◌+◌, ◌*◌, ◌<◌, ◌∙◌, arith}
+use Rattle.std.proofs.Common.{sym, subst, ◌+◌, ◌*◌, ◌<◌, ◌∙◌, arith}
 use Rattle.rc_tree.specs.ListedPins.{listed_pins}
 use Rattle.elmore_pass.specs.Delays.{delay_limit}
 use Rattle.gdc.proofs.Places.{within}
@@ -23,5 +23,6 @@ pub returns-clause-row : goal.returns-clause-row
 returns-clause-row g c =
     let delay = c.requires.delays c.sink.result.0 c.sink.ensures.within in
     let is = delay_is c.args.tree.now c.args.delays.now c.sink.result.0 c.value-elmore.result delay c.value-elmore.ensures.value in
-    adds_row (listed_pins 1 c.args.net.now c.args.pins.now.driver) c.args.tree.now c.args.sink c.sink.result c.in_ok-to.to c.value-elmore.result c.sink_femto.result c.put_delay.new.delay c.in_ok-from.from c.in_ok-to.to.sdf c.args.rows.now c.add_wire.new.self c.args.delays.now c.add_wire.result
-    c.sink.ensures.sink c.in_ok-to.ensures delay is c.sink_femto.ensures.rounded c.put_delay.ensures (c.in_ok-from.ensures ∙ c.bytes.ensures ∙ c.requires.from) refl c.add_wire.ensures.ok
+    let (name, at, spelled) = c.in_ok-to.ensures in
+    adds_row (listed_pins 1 c.args.net.now c.args.pins.now.driver) c.args.tree.now c.args.sink c.sink.result name c.value-elmore.result c.sink_femto.result c.put_delay.new.delay c.in_ok-from.from c.in_ok-to.to c.args.rows.now c.add_wire.new.self c.args.delays.now c.add_wire.result
+    c.sink.ensures.sink at delay is c.sink_femto.ensures.rounded c.put_delay.ensures (c.in_ok-from.ensures ∙ c.bytes.ensures ∙ c.requires.from) (sym spelled) c.add_wire.ensures.ok

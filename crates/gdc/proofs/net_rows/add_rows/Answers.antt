@@ -1,5 +1,4 @@
-use Rattle.std.proofs.Common.{ap, arith}
-use Rattle.name_table.specs.declared.spef_names.NodeName.{NodeName}
+use Rattle.std.proofs.Common.{arith}
 use Rattle.rc_tree.specs.ListedPins.{listed_pins}
 use Rattle.gdc.proofs.TreeRows.{no_rows, rows_more}
 use Rattle.gdc.proofs.net_rows.add_rows.Goals as goal
@@ -15,4 +14,4 @@ loop-sink-preserved g c = (
 )
 
 pub add_row-requires-clause-from : goal.add_row-requires-clause-from
-add_row-requires-clause-from g c = ap (λ (n : NodeName). n.sdf) c.in_ok-driver.ensures
+add_row-requires-clause-from g c = c.in_ok-driver.ensures
