@@ -122,8 +122,8 @@ fn are_equal(one: &[u8], other: &[u8]) -> bool
     if one.len() != other.len() || !end_alike(one, other) {
         return false;
     }
-    for place in 0..one.len() {
-        if one[place] != other[place] {
+    for (byte, twin) in one.iter().zip(other) {
+        if *byte != *twin {
             return false;
         }
     }
