@@ -1,40 +1,18 @@
 -- The references of a section stay what they are while it is read.
-use Rattle.std.proofs.Common.{◌≡◌, ℕ, zero, suc, ◌+◌, ◌<◌, ◌≤◌, Bool, true, false, ◌||◌, cond, List, [], ◌∷◌, ◌++◌, length, map, get_or, set, ⊎_elim, refl, sym, ap, ◌∙◌, subst, arith, true≢false, length-append}
-use Rattle.std.specs.Prelude.{Option, Some, None, slice_get, All}
+use Rattle.std.proofs.Common.{◌≡◌, ℕ, zero, suc, ◌+◌, ◌<◌, ◌≤◌, Bool, true, false, ◌||◌, List, [], ◌∷◌, ◌++◌, length, map, get_or, set, ⊎_elim, refl, sym, ap, ◌∙◌, subst, arith, true≢false, length-append}
+use Rattle.std.specs.Prelude.{Some, None, slice_get, All}
 use Rattle.std.specs.Str.{bytes_eq}
-use Rattle.std.proofs.lemmas.Slice.Eq.{bytes_eq-Decides}
 use Rattle.std.proofs.lemmas.List.{map_push}
 use Rattle.std.proofs.lemmas.List.Folds.{list_any-append}
 use Rattle.std.proofs.lemmas.List.Elements.{All-push}
 use Rattle.std.proofs.lemmas.Option.{slice_get_within, slice_get_read}
 use Rattle.name_table.specs.declared.spef_names.NodeName.{NodeName}
 use Rattle.spef_text.specs.SpefFiles.{SpefText}
-use Rattle.spef_nets.specs.Nodes.{Key, key_of, same_tail, same_key, among, named}
+use Rattle.spef_nets.specs.Nodes.{Key, key_of, same_key, among, named}
 use Rattle.spef_nets.specs.Refs.{IsInterned, Refs, no_refs, ArePlaced, new_mark, with_word, IsPut, held, added, IsMarked, with_mark, listed_mark, joined_mark, numbered_mark, with_number, IsSpelled, IsMark, AreRefs}
 use Rattle.spef_nets.specs.declared.marks.Mark.{Mark}
+pub use Rattle.spef_nets.specs.SameKeys.{same_key_is, key_is_same}
 use Rattle.spef_nets.proofs.Lists.{get_left, get_last, get_push, get_set, length_set, all_at, map_at}
-
-same_tail_is : (one other : Option (List ℕ)) → same_tail one other ≡ true → one ≡ other
-same_tail_is None None e = refl
-same_tail_is None (Some b) e = absurd (cc)
-same_tail_is (Some a) None e = absurd (cc)
-same_tail_is (Some a) (Some b) e = ap Some ((bytes_eq-Decides a b).0 e)
-
-tail_is_same : (one : Option (List ℕ)) → same_tail one one ≡ true
-tail_is_same None = refl
-tail_is_same (Some a) = (bytes_eq-Decides a a).1 refl
-
-pub same_key_is : (one other : Key) → same_key one other ≡ true → one ≡ other
-unfolding same_key
-same_key_is one other e = by (bytes_eq one.head other.head) refl e
-  where
-    by : (same : Bool) → bytes_eq one.head other.head ≡ same → cond same (same_tail one.tail other.tail) false ≡ true → one ≡ other
-    by true is e = λ i. record { head = (bytes_eq-Decides one.head other.head).0 is i; tail = same_tail_is one.tail other.tail e i }
-    by false is e = absurd (cc)
-
-pub key_is_same : (one : Key) → same_key one one ≡ true
-unfolding same_key
-key_is_same one = ap (λ b. cond b (same_tail one.tail one.tail) false) ((bytes_eq-Decides one.head one.head).1 refl) ∙ tail_is_same one.tail
 
 pub other_key : (one other : Key) → (one ≡ other → ⊥) → same_key one other ≡ false
 other_key one other differ = by (same_key one other) refl

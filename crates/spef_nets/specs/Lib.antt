@@ -14,3 +14,4 @@ pub mod ShortLiterals
 pub mod Reading
 pub mod NodeNames
 pub mod ElementsOf
+pub mod SameKeys

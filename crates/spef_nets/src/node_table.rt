@@ -1,130 +1,148 @@
 //! The nodes that a section names, each at its place.
-ghost use Rattle.std.specs.Prelude.{◌≡◌, [], map, Some, None, IfOk, OnOk};
+ghost use Rattle.std.specs.Prelude.{◌≡◌, [], IfOk, option_map};
 ghost use Rattle.std.specs.Option.{option_copied};
-ghost use Rattle.spef_nets.specs.Nodes.{key_of};
-ghost use Rattle.spef_nets.specs.NodeKeys.{key_in, cut_mark, IsCut, AreCut};
+ghost use Rattle.std.specs.Cow.{cow_slice_items};
+ghost use Rattle.spef_nets.specs.Nodes.{key_of, same_key, same_tail};
 ghost use Rattle.spef_nets.specs.Refs.{IsInterned};
 
 use crate::name_hash::NameHash;
-use crate::pushing::kept;
+use crate::spellings::are_equal;
 use edge_io::OutOfMemory;
 use indexmap::IndexSet;
 use name_table::{NodeName, WrittenName};
 use std::alloc::Global;
+use std::borrow::CowSlice;
 use std::hash::{Hash, Hasher};
 use std::marker::Model;
 
-/// What makes a node the one that it is: its head and its tail, however they are written, one behind the other.
-#[derive(PartialEq, Eq, Debug, Drop)]
-pub struct NodeKey {
-    pub text: Vec<u8>,
-    // where the tail begins, if there is one
-    pub cut: Option<u32>,
+/// What makes a node the one that it is: its head and its tail, however they are written. Of most nodes both stand in the file, and
+/// nothing is copied. Contracts see the two.
+#[derive(Drop)]
+pub struct NodeKey<'r> {
+    head: CowSlice<'r, u8, Global>,
+    tail: Option<CowSlice<'r, u8, Global>>,
 }
 
-// The text comes last, so that nodes whose tails differ in their last byte stand side by side in the table.
-impl Hash for NodeKey {
-    ghost use Rattle.std.specs.Prelude.{[], ◌∷◌, ◌++◌};
-    ghost use Rattle.std.specs.Hash as fed;
-    ghost use Rattle.std.specs.Cmp.Rules.{hashing};
-    ghost use Rattle.std.proofs.Common.{rules};
-    ghost use Rattle.spef_nets.specs.NodeKeys.{cut_mark};
+impl<'r> Model for NodeKey<'r> {
+    ghost use Rattle.std.specs.Prelude.{option_map};
+    ghost use Rattle.std.specs.Cow.{cow_slice_items};
+    ghost use Rattle.spef_nets.specs.Nodes.{Key};
 
-    ghost hash_input = { λ key. fed.u32 (cut_mark key.cut) ++ key.text.items ∷ [] };
+    ghost Value = { Key };
 
-    ghost respects_eq = { Prim.search (hashing, rules) };
+    ghost view = { λ key. record { head = cow_slice_items key.head; tail = option_map cow_slice_items key.tail } };
+}
 
-    fn hash<H: Hasher>(&self, state: &mut H) {
-        state.write_u32(cut_mark(self.cut));
-        state.write(self.text.as_slice());
+impl<'r> PartialEq for NodeKey<'r> {
+    ghost use Rattle.std.specs.Cmp.{partial_equiv_from_equiv};
+    ghost use Rattle.spef_nets.specs.Nodes.{same_key};
+    ghost use Rattle.spef_nets.specs.SameKeys.{keys_equiv};
+
+    ghost eq = { same_key };
+
+    ghost laws = { partial_equiv_from_equiv keys_equiv };
+
+    fn eq(&self, other: &NodeKey<'r>) -> bool {
+        are_same(self, other)
     }
 }
 
-fn cut_mark(cut: Option<u32>) -> u32
-    ensures { result ≡ cut_mark cut }
-{
-    cut.unwrap_or(0)
+impl<'r> Eq for NodeKey<'r> {
+    ghost use Rattle.spef_nets.specs.SameKeys.{keys_equiv};
+
+    ghost laws = { keys_equiv };
 }
 
-impl NodeKey {
-    /// The key of a node.
-    pub fn of(alloc: Global, node: &NodeName) -> Result<NodeKey, OutOfMemory>
-        ensures key { IfOk result (λ key. key_in key ≡ key_of node.now) }
-        ensures cut { IfOk result IsCut }
-    {
-        let head = node.head.bytes();
-        match &node.tail {
-            Some(tail) => halves_key(alloc, head, tail.bytes()),
-            None => whole_key(alloc, head),
+// The tail comes last, so that nodes whose tails differ in their last byte stand side by side in the table.
+impl<'r> Hash for NodeKey<'r> {
+    ghost use Rattle.spef_nets.specs.NodeKeys.{key_writes};
+    ghost use Rattle.spef_nets.specs.SameKeys.{hashed_alike};
+
+    ghost hash_input = { key_writes };
+
+    ghost respects_eq = { hashed_alike.fed };
+
+    fn hash<H: Hasher>(&self, state: &mut H) {
+        state.write(self.head.as_slice());
+        match &self.tail {
+            Some(tail) => state.write(tail.as_slice()),
+            None => {}
         }
+    }
+}
+
+// Whether two keys are those of one node. The tails of a net's nodes differ more often than their heads.
+fn are_same(one: &NodeKey<'_>, other: &NodeKey<'_>) -> bool
+    ensures { result ≡ same_key one.now other.now }
+{
+    same_tails(&one.tail, &other.tail) && are_equal(one.head.as_slice(), other.head.as_slice())
+}
+
+fn same_tails(
+    one: &Option<CowSlice<'_, u8, Global>>,
+    other: &Option<CowSlice<'_, u8, Global>>,
+) -> bool
+    ensures { result ≡ same_tail (option_map cow_slice_items one.now) (option_map cow_slice_items other.now) }
+{
+    match (one, other) {
+        (Some(one), Some(other)) => are_equal(one.as_slice(), other.as_slice()),
+        (None, None) => true,
+        _ => false,
+    }
+}
+
+impl<'r> NodeKey<'r> {
+    /// The key of a node.
+    pub fn of(alloc: Global, node: &NodeName) -> Result<NodeKey<'r>, OutOfMemory>
+        ensures { IfOk result (λ key. key ≡ key_of node.now) }
+    {
+        let head = CowSlice::Owned(Vec::from_slice(alloc, node.head.bytes())?);
+        let tail = match &node.tail {
+            Some(tail) => Some(CowSlice::Owned(Vec::from_slice(alloc, tail.bytes())?)),
+            None => None,
+        };
+        Ok(NodeKey { head, tail })
     }
 
     /// The key of a node whose name stands as it is written.
-    pub fn of_written(alloc: Global, name: &WrittenName) -> Result<NodeKey, OutOfMemory>
-        ensures key { IfOk result (λ key. key_in key ≡ record { head = name.now.head.now; tail = option_copied name.now.tail }) }
-        ensures cut { IfOk result IsCut }
+    pub fn of_written(name: &WrittenName<'r>) -> NodeKey<'r>
+        ensures { result ≡ record { head = name.now.head.now; tail = option_copied name.now.tail } }
     {
-        match name.tail {
-            Some(tail) => halves_key(alloc, name.head, tail),
-            None => whole_key(alloc, name.head),
+        NodeKey {
+            head: CowSlice::Borrowed(name.head),
+            tail: match name.tail {
+                Some(tail) => Some(CowSlice::Borrowed(tail)),
+                None => None,
+            },
         }
     }
 
     /// The node's head.
     pub fn head(&self) -> &[u8]
-        requires { IsCut self.now }
-        ensures { result.now ≡ (key_in self.now).head }
+        ensures { result.now ≡ self.now.head }
     {
-        match self.cut {
-            Some(cut) => &self.text[..cut as usize],
-            None => self.text.as_slice(),
-        }
+        self.head.as_slice()
     }
-}
-
-fn whole_key(alloc: Global, head: &[u8]) -> Result<NodeKey, OutOfMemory>
-    ensures key { IfOk result (λ key. key_in key ≡ record { head = head.now; tail = None }) }
-    ensures cut { IfOk result IsCut }
-{
-    let text = Vec::from_slice(alloc, head)?;
-    Ok(NodeKey { text, cut: None })
-}
-
-fn halves_key(alloc: Global, head: &[u8], tail: &[u8]) -> Result<NodeKey, OutOfMemory>
-    ensures key { IfOk result (λ key. key_in key ≡ record { head = head.now; tail = Some tail.now }) }
-    ensures cut { IfOk result IsCut }
-{
-    let cut = kept(head.len())?;
-    let mut text = Vec::with_capacity(alloc, head.len().saturating_add(tail.len()))?;
-    text.extend_from_slice(head)?;
-    text.extend_from_slice(tail)?;
-    Ok(NodeKey {
-        text,
-        cut: Some(cut),
-    })
 }
 
 /// Nodes, each once, in the order in which they came.
 #[derive(Drop)]
-pub struct NodeTable {
-    keys: IndexSet<NodeKey, NameHash>,
+pub struct NodeTable<'r> {
+    keys: IndexSet<NodeKey<'r>, NameHash>,
 }
 
-impl Model for NodeTable {
-    ghost use Rattle.std.specs.Prelude.{List, map};
+impl<'r> Model for NodeTable<'r> {
+    ghost use Rattle.std.specs.Prelude.{List};
     ghost use Rattle.spef_nets.specs.Nodes.{Key};
-    ghost use Rattle.spef_nets.specs.NodeKeys.{key_in, AreCut};
 
     ghost Value = { List Key };
 
-    ghost view = { λ table. map key_in table.keys.keys };
-
-    ghost invariant = { λ table. AreCut table.keys.keys };
+    ghost view = { λ table. table.keys.keys };
 }
 
-impl NodeTable {
+impl<'r> NodeTable<'r> {
     /// No node, with room for so many.
-    pub fn with_room(alloc: Global, many: usize) -> Result<NodeTable, OutOfMemory>
+    pub fn with_room(alloc: Global, many: usize) -> Result<NodeTable<'r>, OutOfMemory>
         ensures { IfOk result (λ table. table ≡ []) }
     {
         let keys = IndexSet::with_capacity_and_hasher(alloc, many, NameHash::default())?;
@@ -132,19 +150,18 @@ impl NodeTable {
     }
 
     /// The place of a node: its own where it is held, and else a new last one. It is one look-up.
-    pub fn intern(&mut self, key: NodeKey) -> Result<usize, OutOfMemory>
-        requires { IsCut key }
-        ensures { IfOk result (IsInterned self.old self.new (key_in key)) }
+    pub fn intern(&mut self, key: NodeKey<'r>) -> Result<usize, OutOfMemory>
+        ensures { IfOk result (IsInterned self.old self.new key.entry) }
     {
         intern(&mut self.keys, key)
     }
 }
 
-fn intern(keys: &mut IndexSet<NodeKey, NameHash>, key: NodeKey) -> Result<usize, OutOfMemory>
-    requires key { IsCut key }
-    requires keys { AreCut keys.old.keys }
-    ensures cut { AreCut keys.new.keys }
-    ensures interned { IfOk result (IsInterned (map key_in keys.old.keys) (map key_in keys.new.keys) (key_in key)) }
+fn intern<'r>(
+    keys: &mut IndexSet<NodeKey<'r>, NameHash>,
+    key: NodeKey<'r>,
+) -> Result<usize, OutOfMemory>
+    ensures { IfOk result (IsInterned keys.old.keys keys.new.keys key.entry) }
 {
     let Ok((place, _)) = keys.insert_full(key) else {
         return Err(OutOfMemory);

@@ -12,7 +12,7 @@ use crate::marks::Mark;
 use crate::node_table::{NodeKey, NodeTable};
 use crate::node_tokens::NodeTokens;
 use crate::pushing::{kept, push};
-use crate::spellings::Spellings;
+use crate::spellings::{Spellings, are_equal};
 use edge_io::{OutOfMemory, Text};
 use spef_text::{Head, SpefFile};
 use std::alloc::Global;
@@ -24,7 +24,7 @@ pub struct Referred<'r, 'f> {
     // of each spelling the place of its node, and the token where it stands first
     places: Vec<u32>,
     tokens: Vec<u32>,
-    table: NodeTable,
+    table: NodeTable<'r>,
     // of each node
     marks: Vec<Mark>,
     // the nodes with a number
@@ -66,7 +66,7 @@ impl<'r, 'f> Referred<'r, 'f> {
         &mut self,
         word: &'r [u8],
         token: u64,
-        key: NodeKey,
+        key: NodeKey<'r>,
         net: &Text,
     ) -> Result<(), OutOfMemory>
         requires absent { ¬ Contains (refs_of self.old).words word.now }
@@ -74,7 +74,7 @@ impl<'r, 'f> Referred<'r, 'f> {
         requires key { IsKeyAt (refs_of self.old).file token (Some key) }
         ensures { (node : NodeName) → node_at (refs_of self.old).file token ≡ Some node → OnOk result (IsPut net.now (refs_of self.old) (refs_of self.new) word.now node) }
     {
-        let belongs = net.bytes() == key.head();
+        let belongs = are_equal(net.bytes(), key.head());
         let place = self.table.intern(key)?;
         mark_new(&mut self.marks, place, belongs)?;
         push(&mut self.places, kept(place)?)?;

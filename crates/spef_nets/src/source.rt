@@ -55,19 +55,19 @@ impl<'r, 'f> Source<'r, 'f> {
         }
     }
 
-    // What makes the node that a token names the one that it is. Of most nodes parts of the file tell it, and no name is made.
-    fn key_at(&self, token: u64) -> Result<Option<NodeKey>, OutOfMemory>
+    // What makes the node that a token names the one that it is. Of most nodes parts of the file tell it, and nothing is copied.
+    fn key_at(&self, token: u64) -> Result<Option<NodeKey<'r>>, OutOfMemory>
         requires { IsHeadOf self.now.file.now self.now.head.now }
         ensures { IfOk result (IsKeyAt self.now.file.now token) }
     {
         match self.head.written(self.file, token) {
-            Some(name) => Ok(Some(NodeKey::of_written(self.alloc, &name)?)),
+            Some(name) => Ok(Some(NodeKey::of_written(&name))),
             None => self.named_key(token),
         }
     }
 
     // The same by the name.
-    fn named_key(&self, token: u64) -> Result<Option<NodeKey>, OutOfMemory>
+    fn named_key(&self, token: u64) -> Result<Option<NodeKey<'r>>, OutOfMemory>
         requires { IsHeadOf self.now.file.now self.now.head.now }
         ensures { IfOk result (IsKeyAt self.now.file.now token) }
     {

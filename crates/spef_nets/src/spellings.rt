@@ -116,7 +116,7 @@ fn stands_at(words: &IndexSet<&[u8], NameHash>, number: usize, word: &[u8]) -> b
 
 // Whether two short words are equal, byte by byte: for those this takes half of the time of the comparison of slices. Most spellings of a net
 // differ in their last byte, which is looked at first.
-fn are_equal(one: &[u8], other: &[u8]) -> bool
+pub fn are_equal(one: &[u8], other: &[u8]) -> bool
     ensures { result ≡ bytes_eq one.now other.now }
 {
     if one.len() != other.len() || !end_alike(one, other) {

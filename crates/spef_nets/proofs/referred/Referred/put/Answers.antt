@@ -4,7 +4,6 @@ use Rattle.std.specs.Prelude.{Option, Some, None}
 use Rattle.std.proofs.lemmas.List.{map_push}
 use Rattle.name_table.specs.declared.spef_names.NodeName.{NodeName}
 use Rattle.spef_nets.specs.Nodes.{Key, key_of, node_at}
-use Rattle.spef_nets.specs.NodeKeys.{key_in}
 use Rattle.spef_nets.specs.Refs.{IsInterned}
 use Rattle.std.specs.Str.{bytes_eq}
 use Rattle.spef_nets.proofs.RefLemmas.{puts}
@@ -13,10 +12,10 @@ use Rattle.spef_nets.proofs.referred.Referred.put.Goals as goal
 pub returns : goal.returns
 returns c node names =
     let file = c.args.self.now.nodes.file in
-    let (its, named, key_is, cut) = c.requires.key in
+    let (its, named, key_is) = c.requires.key in
     let one : its ≡ node = some_is its node (sym named ∙ names) in
-    let key : key_in c.args.key ≡ key_of node = key_is ∙ ap key_of one in
-    let same : c.eq-belongs.result ≡ bytes_eq c.args.net.now (key_in c.args.key).head = search rules in
+    let key : c.args.key ≡ key_of node = key_is ∙ ap key_of one in
+    let same : c.are_equal-belongs.result ≡ bytes_eq c.args.net.now c.args.key.head = search rules in
     puts c.args.net.now (refs_of c.args.self.now) c.args.word.now node c.in_ok-place.place c.intern.new.self c.mark_new.new.marks.items
     (refs_of (record { words = c.add.new.self; places = c.push.new.items; tokens = c.push-2.new.items; table = c.intern.new.self; marks = c.mark_new.new.marks; nodes = c.args.self.now.nodes }))
     c.requires.marked (subst (λ (k : Key). IsInterned c.args.self.now.table c.intern.new.self k c.in_ok-place.place) key c.in_ok-place.ensures)

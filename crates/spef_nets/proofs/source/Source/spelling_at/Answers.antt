@@ -25,7 +25,7 @@ put-requires-clause-key c = subst (λ (file : SpefText). IsKeyAt file c.args.tok
 
 pub returns-in_ok-put-in-Some-2 : goal.returns-in_ok-put-in-Some-2
 returns-in_ok-put-in-Some-2 c =
-    let (node, named, key_is, cut) = subst (IsKeyAt c.args.self.now.file.now c.args.token) c.in-Some-2.is c.in_ok-key-in-None.ensures in
+    let (node, named, key_is) = subst (IsKeyAt c.args.self.now.file.now c.args.token) c.in-Some-2.is c.in_ok-key-in-None.ensures in
     let file_is = ap (λ (r : Refs). r.file) c.find.ensures.same ∙ c.requires.refs.2.of_file in
     put node named (c.len-spelling.ensures ∙ ap (λ (r : Refs). length r.places) c.find.ensures.same ∙ c.requires.refs.2.words_placed)
     (subst (λ (old : Refs). IsPut c.args.net.now old (refs_of c.put.new.self) (text_of c.args.self.now.file.now c.args.token) node) c.find.ensures.same
