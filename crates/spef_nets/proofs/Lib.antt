@@ -21,3 +21,4 @@ pub mod Stepping
 pub mod ValuePoints
 pub mod NodeNameLemmas
 pub mod FewLemmas
+pub mod FewKeys

@@ -1,11 +1,12 @@
 //! The nodes that a section names, each at its place.
-ghost use Rattle.std.specs.Prelude.{◌≡◌, [], IfOk, option_map};
+ghost use Rattle.std.specs.Prelude.{◌≡◌, ◌+◌, false, [], slice_get, Some, IfOk, IfSome, IfNone, option_map};
 ghost use Rattle.std.specs.Option.{option_copied};
 ghost use Rattle.std.specs.Cow.{cow_slice_items};
-ghost use Rattle.spef_nets.specs.Nodes.{key_of, same_key, same_tail};
+ghost use Rattle.spef_nets.specs.Nodes.{key_of, same_key, same_tail, among};
 ghost use Rattle.spef_nets.specs.Refs.{IsInterned};
 
 use crate::name_hash::NameHash;
+use crate::pushing::push;
 use crate::spellings::are_equal;
 use edge_io::OutOfMemory;
 use indexmap::IndexSet;
@@ -14,6 +15,9 @@ use std::alloc::Global;
 use std::borrow::CowSlice;
 use std::hash::{Hash, Hasher};
 use std::marker::Model;
+
+/// So many nodes stand in a list, which is searched through; those behind them stand in a table.
+const FEW: usize = 8;
 
 /// What makes a node the one that it is: its head and its tail, however they are written. Of most nodes both stand in the file, and
 /// nothing is copied. Contracts see the two.
@@ -125,19 +129,21 @@ impl<'r> NodeKey<'r> {
     }
 }
 
-/// Nodes, each once, in the order in which they came.
+/// Nodes, each once, in the order in which they came. Most nets are small, and for a few nodes no hash is taken and no table made.
 #[derive(Drop)]
 pub struct NodeTable<'r> {
+    few: Vec<NodeKey<'r>>,
+    // those behind the few
     keys: IndexSet<NodeKey<'r>, NameHash>,
 }
 
 impl<'r> Model for NodeTable<'r> {
-    ghost use Rattle.std.specs.Prelude.{List};
+    ghost use Rattle.std.specs.Prelude.{List, ◌++◌};
     ghost use Rattle.spef_nets.specs.Nodes.{Key};
 
     ghost Value = { List Key };
 
-    ghost view = { λ table. table.keys.keys };
+    ghost view = { λ table. table.few.items ++ table.keys.keys };
 }
 
 impl<'r> NodeTable<'r> {
@@ -145,18 +151,54 @@ impl<'r> NodeTable<'r> {
     pub fn with_room(alloc: Global, many: usize) -> Result<NodeTable<'r>, OutOfMemory>
         ensures { IfOk result (λ table. table ≡ []) }
     {
-        let keys = IndexSet::with_capacity_and_hasher(alloc, many, NameHash::default())?;
-        Ok(NodeTable { keys })
+        let few = Vec::with_capacity(alloc, many.min(FEW))?;
+        let behind = many.saturating_sub(FEW);
+        let keys = IndexSet::with_capacity_and_hasher(alloc, behind, NameHash::default())?;
+        Ok(NodeTable { few, keys })
     }
 
     /// The place of a node: its own where it is held, and else a new last one. It is one look-up.
     pub fn intern(&mut self, key: NodeKey<'r>) -> Result<usize, OutOfMemory>
         ensures { IfOk result (IsInterned self.old self.new key.entry) }
     {
-        intern(&mut self.keys, key)
+        if let Some(place) = place_among(self.few.as_slice(), &key) {
+            return Ok(place);
+        }
+        let few = self.few.len();
+        if few < FEW && self.keys.is_empty() {
+            push(&mut self.few, key)?;
+            return Ok(few);
+        }
+        let place = intern(&mut self.keys, key)?;
+        let place = behind(few, place)?;
+        Ok(place)
     }
 }
 
+// The place of a node in a list, if it stands there.
+fn place_among(few: &[NodeKey<'_>], key: &NodeKey<'_>) -> Option<usize>
+    ensures found { IfSome result (λ place. slice_get few.now place ≡ Some key.now) }
+    ensures absent { IfNone result (among key.now few.now ≡ false) }
+{
+    for place in 0..few.len() {
+        if are_same(key, &few[place]) {
+            return Some(place);
+        }
+    }
+    None
+}
+
+// A place behind so many others.
+fn behind(many: usize, place: usize) -> Result<usize, OutOfMemory>
+    ensures { IfOk result (λ sum. sum ≡ place + many) }
+{
+    match place.checked_add(many) {
+        Some(sum) => Ok(sum),
+        None => Err(OutOfMemory),
+    }
+}
+
+// The place of a node in the table, which gets it as its last where it is not held.
 fn intern<'r>(
     keys: &mut IndexSet<NodeKey<'r>, NameHash>,
     key: NodeKey<'r>,

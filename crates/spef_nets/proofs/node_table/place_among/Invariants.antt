@@ -1,0 +1,6 @@
+use Rattle.std.proofs.Common.{◌≡◌, false, take}
+use Rattle.spef_nets.specs.Nodes.{among}
+use Rattle.spef_nets.proofs.node_table.place_among.Given as goal
+
+abbrev pub invariant-loop-place : goal.invariant-loop-place
+invariant-loop-place l = among l.key (take l.place l.few) ≡ false
