@@ -11,7 +11,7 @@ use crate::amounts::Grains;
 use crate::elements::Elements;
 use crate::parts::{Ends, Listed};
 use crate::pushing::push;
-use crate::referred::Referred;
+use crate::referred::{RefLists, Referred};
 use crate::source::Source;
 use crate::spelled_section::SpelledSection;
 use corner_set::{CornerSet, Pick};
@@ -19,6 +19,7 @@ use delay_units::{Farads, Ohms};
 use edge_io::{OutOfMemory, Text};
 use spef_text::Conn;
 use std::marker::PhantomData;
+use std::mem;
 
 /// With fewer capacitances a net is small.
 const FEW_CAPS: usize = 32;
@@ -81,9 +82,10 @@ fn room_for(caps: usize, ress: usize) -> usize {
 }
 
 impl<'r, 'f> Draft<'r, 'f> {
-    /// No element, with room for so many connections, capacitances and resistors.
+    /// No element, with room for so many connections, capacitances and resistors. The lists are taken, until the section is made.
     pub fn with_room<C: CornerSet>(
         source: &Source<'r, 'f>,
+        lists: &mut RefLists<'r>,
         net: Text,
         conns: usize,
         caps: usize,
@@ -93,9 +95,11 @@ impl<'r, 'f> Draft<'r, 'f> {
         ensures { IfOk result (λ draft. drafted draft ≡ no_draft source.now.file.now net) }
     {
         let alloc = source.alloc;
+        let lists = mem::replace(lists, RefLists::new(alloc));
+        let nodes = room_for(caps, ress);
         Ok(Draft {
             net,
-            refs: Referred::with_room(alloc, source.file, source.head, room_for(caps, ress))?,
+            refs: Referred::with_room(alloc, lists, source.file, source.head, nodes)?,
             conns: Vec::with_capacity(alloc, conns)?,
             loads: Vec::with_capacity(alloc, conns.saturating_mul(C::COUNT))?,
             caps: Vec::with_capacity(alloc, caps)?,
@@ -169,8 +173,12 @@ impl<'r, 'f> Draft<'r, 'f> {
         Ok(())
     }
 
-    /// The net with these elements, of which so many capacitances are written.
-    pub fn into_section<C: CornerSet>(self, written: usize) -> SpelledSection<'r, 'f, C>
+    /// The net with these elements, of which so many capacitances are written. The lists are handed back.
+    pub fn into_section<C: CornerSet>(
+        self,
+        written: usize,
+        lists: &mut RefLists<'r>,
+    ) -> SpelledSection<'r, 'f, C>
         requires { AreWhole C.COUNT (written_net (drafted self).net written) }
         ensures { result ≡ written_net (drafted self.entry).net written }
     {
@@ -186,7 +194,7 @@ impl<'r, 'f> Draft<'r, 'f> {
         } = self;
         SpelledSection {
             net,
-            nodes: refs.into_nodes(),
+            nodes: refs.into_nodes(lists),
             elements: Elements {
                 conns,
                 loads,

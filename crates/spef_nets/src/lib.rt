@@ -18,6 +18,7 @@ mod pushing;
 mod reading;
 mod referred;
 mod section;
+mod section_lists;
 mod section_reader;
 mod section_reading;
 mod sections;

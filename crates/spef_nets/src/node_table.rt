@@ -6,7 +6,7 @@ ghost use Rattle.spef_nets.specs.Nodes.{key_of, same_key, same_tail, among};
 ghost use Rattle.spef_nets.specs.Refs.{IsInterned};
 
 use crate::name_hash::NameHash;
-use crate::pushing::push;
+use crate::pushing::{emptied, emptied_table, push};
 use crate::spellings::are_equal;
 use edge_io::OutOfMemory;
 use indexmap::IndexSet;
@@ -147,13 +147,23 @@ impl<'r> Model for NodeTable<'r> {
 }
 
 impl<'r> NodeTable<'r> {
-    /// No node, with room for so many.
-    pub fn with_room(alloc: Global, many: usize) -> Result<NodeTable<'r>, OutOfMemory>
+    /// No node. It takes no memory.
+    pub fn new(alloc: Global) -> NodeTable<'r>
+        ensures { result ≡ [] }
+    {
+        NodeTable {
+            few: Vec::new(alloc),
+            keys: IndexSet::with_hasher(alloc, NameHash::default()),
+        }
+    }
+
+    /// No node, with room for so many. The list of the few keeps its memory.
+    pub fn emptied(self, alloc: Global, many: usize) -> Result<NodeTable<'r>, OutOfMemory>
         ensures { IfOk result (λ table. table ≡ []) }
     {
-        let few = Vec::with_capacity(alloc, many.min(FEW))?;
-        let behind = many.saturating_sub(FEW);
-        let keys = IndexSet::with_capacity_and_hasher(alloc, behind, NameHash::default())?;
+        let NodeTable { few, keys } = self;
+        let few = emptied(few, many.min(FEW))?;
+        let keys = emptied_table(alloc, keys, many.saturating_sub(FEW))?;
         Ok(NodeTable { few, keys })
     }
 

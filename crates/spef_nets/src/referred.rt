@@ -11,11 +11,34 @@ ghost use Rattle.spef_nets.specs.Drafts.{BelongsBy};
 use crate::marks::Mark;
 use crate::node_table::{NodeKey, NodeTable};
 use crate::node_tokens::NodeTokens;
-use crate::pushing::{kept, push};
+use crate::pushing::{emptied, kept, push};
 use crate::spellings::{Spellings, are_equal};
 use edge_io::{OutOfMemory, Text};
 use spef_text::{Head, SpefFile};
 use std::alloc::Global;
+
+/// The lists of the references of a section, which are used again for the next one. What they hold then does not count.
+#[derive(Drop)]
+pub struct RefLists<'r> {
+    words: Spellings<'r>,
+    places: Vec<u32>,
+    tokens: Vec<u32>,
+    table: NodeTable<'r>,
+    marks: Vec<Mark>,
+}
+
+impl<'r> RefLists<'r> {
+    /// Lists that take no memory.
+    pub fn new(alloc: Global) -> RefLists<'r> {
+        RefLists {
+            words: Spellings::new(alloc),
+            places: Vec::new(alloc),
+            tokens: Vec::new(alloc),
+            table: NodeTable::new(alloc),
+            marks: Vec::new(alloc),
+        }
+    }
+}
 
 /// The spellings that stand in a section, and the nodes that they name, also those that do not belong to it.
 #[derive(Drop)]
@@ -32,9 +55,10 @@ pub struct Referred<'r, 'f> {
 }
 
 impl<'r, 'f> Referred<'r, 'f> {
-    /// No spelling yet, with room for those of so many nodes.
+    /// No spelling yet, with room for those of so many nodes. The lists are emptied, and used again.
     pub fn with_room(
         alloc: Global,
+        lists: RefLists<'r>,
         file: &'r SpefFile<'f>,
         head: &'r Head,
         nodes: usize,
@@ -42,12 +66,19 @@ impl<'r, 'f> Referred<'r, 'f> {
         requires { IsHeadOf file.now head.now }
         ensures { IfOk result (λ refs. refs_of refs ≡ no_refs file.now) }
     {
+        let RefLists {
+            words,
+            places,
+            tokens,
+            table,
+            marks,
+        } = lists;
         Ok(Referred {
-            words: Spellings::with_room(alloc, nodes)?,
-            places: Vec::with_capacity(alloc, nodes)?,
-            tokens: Vec::with_capacity(alloc, nodes)?,
-            table: NodeTable::with_room(alloc, nodes)?,
-            marks: Vec::with_capacity(alloc, nodes)?,
+            words: words.emptied(alloc, nodes)?,
+            places: emptied(places, nodes)?,
+            tokens: emptied(tokens, nodes)?,
+            table: table.emptied(alloc, nodes)?,
+            marks: emptied(marks, nodes)?,
             nodes: NodeTokens::with_room(alloc, file, head, nodes)?,
         })
     }
@@ -167,11 +198,28 @@ impl<'r, 'f> Referred<'r, 'f> {
         }
     }
 
-    /// The nodes with a number, in its order.
-    pub fn into_nodes(self) -> NodeTokens<'r, 'f>
+    /// The nodes with a number, in its order. The lists are handed back, unless they have grown large: memory is not kept for a net as large again.
+    pub fn into_nodes(self, lists: &mut RefLists<'r>) -> NodeTokens<'r, 'f>
         ensures { result ≡ record { file = (refs_of self.entry).file; nodes = (refs_of self.entry).nodes } }
     {
-        self.nodes
+        let Referred {
+            words,
+            places,
+            tokens,
+            table,
+            marks,
+            nodes,
+        } = self;
+        if words.are_few() {
+            *lists = RefLists {
+                words,
+                places,
+                tokens,
+                table,
+                marks,
+            };
+        }
+        nodes
     }
 }
 

@@ -8,6 +8,7 @@ ghost use Rattle.spef_nets.specs.Drafts.{corners_of};
 ghost use Rattle.spef_nets.specs.Reading.{IsReading, AreFaultlessBefore, next_section, with_net};
 
 use crate::ends::SectionEnd;
+use crate::section_lists::SectionLists;
 use crate::source::Source;
 use crate::spelled_section::SpelledSection;
 use corner_set::{CornerSet, Pick};
@@ -27,6 +28,7 @@ pub struct SectionReader<'r, 'f> {
     source: Source<'r, 'f>,
     // the names of the nets so far, each numbered by its section's place
     nets: Names,
+    lists: SectionLists<'r>,
 }
 
 impl<'r, 'f> Model for SectionReader<'r, 'f> {
@@ -71,6 +73,7 @@ fn put_net(nets: &mut Names, net: &Text) -> Result<(), OutOfMemory>
 fn read_behind<'r, 'f, C: CornerSet>(
     source: &Source<'r, 'f>,
     nets: &mut Names,
+    lists: &mut SectionLists<'r>,
 ) -> Result<SpelledSection<'r, 'f, C>, SectionEnd>
     requires reading { IsReading (record { file = source.now.file.now; head = source.now.head.now; pick = source.now.pick; nets = nets.old }) }
     requires left { length nets.old < length source.now.file.now.reading.sections }
@@ -85,7 +88,7 @@ fn read_behind<'r, 'f, C: CornerSet>(
     let token = source.file.net_token(place);
     let name = source.net_of(token)?;
     let net = new_net(nets, name, token)?;
-    let section = source.read_section::<C>(place, net)?;
+    let section = source.read_section::<C>(place, net, lists)?;
     put_net(nets, section.net())?;
     Ok(section)
 }
@@ -109,6 +112,7 @@ impl<'r, 'f> SectionReader<'r, 'f> {
                 pick,
             },
             nets: Names::new(alloc),
+            lists: SectionLists::new(alloc),
         }
     }
 
@@ -135,7 +139,7 @@ impl<'r, 'f> SectionReader<'r, 'f> {
         ensures stays { OnErr result (self.new ≡ self.old) }
     {
         self.source.file.formed();
-        read_behind::<C>(&self.source, &mut self.nets)
+        read_behind::<C>(&self.source, &mut self.nets, &mut self.lists)
     }
 
     /// The names of the nets whose sections have been read, each numbered by its section's place. None of these sections has a
@@ -144,7 +148,11 @@ impl<'r, 'f> SectionReader<'r, 'f> {
         ensures nets { result ≡ self.entry.nets }
         ensures faultless { AreFaultlessBefore self.entry.file self.entry.head (length self.entry.nets) }
     {
-        let SectionReader { source: _, nets } = self;
+        let SectionReader {
+            source: _,
+            nets,
+            lists: _,
+        } = self;
         nets
     }
 }

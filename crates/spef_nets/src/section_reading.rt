@@ -17,6 +17,7 @@ use crate::ends::SectionEnd;
 use crate::parts::{Joined, spelling_of};
 use crate::pushing::push;
 use crate::referred::Referred;
+use crate::section_lists::SectionLists;
 use crate::source::Source;
 use crate::spelled_section::SpelledSection;
 use corner_set::CornerSet;
@@ -68,23 +69,25 @@ impl<'r, 'f> Source<'r, 'f> {
         s: usize,
         refs: &mut Referred<'r, 'f>,
         net: &Text,
-    ) -> Result<Vec<Joined>, OutOfMemory>
+        joints: &mut Vec<Joined>,
+    ) -> Result<(), OutOfMemory>
         requires section { s < length self.now.file.now.reading.sections }
         requires head { IsHeadOf self.now.file.now self.now.head.now }
         requires refs { AreRefs self.now.file.now net.now [] [] (refs_of refs.old) }
-        ensures joints { IfOk result (λ joints. AllJoined self.now.file.now (refs_of refs.new).words (section_at self.now.file.now.reading.sections s).ress joints.items) }
+        ensures joints { OnOk result (AllJoined self.now.file.now (refs_of refs.new).words (section_at self.now.file.now.reading.sections s).ress joints.new.items) }
         ensures refs { OnOk result (AreRefs self.now.file.now net.now [] (res_keys self.now.file.now (section_at self.now.file.now.reading.sections s).ress) (refs_of refs.new)) }
-        ensures count { IfOk result (λ joints. length joints.items ≡ length (section_at self.now.file.now.reading.sections s).ress) }
+        ensures count { OnOk result (length joints.new.items ≡ length (section_at self.now.file.now.reading.sections s).ress) }
         ensures nodes { OnOk result ((refs_of refs.new).nodes ≡ (refs_of refs.old).nodes) }
     {
-        let mut joints = Vec::with_capacity(self.alloc, self.file.res_count(s))?;
+        joints.clear();
+        joints.reserve(self.file.res_count(s))?;
         for i in 0..self.file.res_count(s) {
             let res = self.file.res(s, i);
             let first = self.joined_at(refs, net, res.first)?;
             let second = self.joined_at(refs, net, res.second)?;
-            push(&mut joints, Joined::of(first, second)?)?;
+            push(joints, Joined::of(first, second)?)?;
         }
-        Ok(joints)
+        Ok(())
     }
 
     // Begins with a section, of which the nodes of the resistors are known then.
@@ -92,18 +95,19 @@ impl<'r, 'f> Source<'r, 'f> {
         &self,
         s: usize,
         draft: &mut Draft<'r, 'f>,
-    ) -> Result<Vec<Joined>, OutOfMemory>
+        joints: &mut Vec<Joined>,
+    ) -> Result<(), OutOfMemory>
         requires section { s < length self.now.file.now.reading.sections }
         requires head { IsHeadOf self.now.file.now self.now.head.now }
         requires net { net_at self.now.file.now (section_at self.now.file.now.reading.sections s).net ≡ Some (drafted draft.old).net.net }
         requires new { IsGood self.now.file.now s (section_at self.now.file.now.reading.sections s) (naming (section_at self.now.file.now.reading.sections s).net) }
         requires fresh { drafted draft.old ≡ no_draft self.now.file.now (drafted draft.old).net.net }
         ensures upto { OnOk result (IsUpto (corners_of C.COUNT C.number_of C.member_of self.now.pick) self.now.file.now self.now.head.now s (length (section_at self.now.file.now.reading.sections s).ress) 0 0 0 (drafted draft.new)) }
-        ensures joints { IfOk result (λ joints. AllJoined self.now.file.now (drafted draft.new).refs.words (section_at self.now.file.now.reading.sections s).ress joints.items) }
-        ensures count { IfOk result (λ joints. length joints.items ≡ length (section_at self.now.file.now.reading.sections s).ress) }
+        ensures joints { OnOk result (AllJoined self.now.file.now (drafted draft.new).refs.words (section_at self.now.file.now.reading.sections s).ress joints.new.items) }
+        ensures count { OnOk result (length joints.new.items ≡ length (section_at self.now.file.now.reading.sections s).ress) }
     {
-        let joints = self.read_joints(s, &mut draft.refs, &draft.net)?;
-        Ok(joints)
+        self.read_joints(s, &mut draft.refs, &draft.net, joints)?;
+        Ok(())
     }
 
     // A connection without a load has the load 0.
@@ -312,11 +316,13 @@ impl<'r, 'f> Source<'r, 'f> {
         Ok(())
     }
 
-    /// Reads the section at a place, of the net with this name. Its faults are looked for in the order of its tokens.
+    /// Reads the section at a place, of the net with this name. Its faults are looked for in the order of its tokens. Nothing of what
+    /// the lists hold counts.
     pub fn read_section<C: CornerSet>(
         &self,
         s: usize,
         net: Text,
+        lists: &mut SectionLists<'r>,
     ) -> Result<SpelledSection<'r, 'f, C>, SectionEnd>
         requires section { s < length self.now.file.now.reading.sections }
         requires head { IsHeadOf self.now.file.now self.now.head.now }
@@ -330,11 +336,11 @@ impl<'r, 'f> Source<'r, 'f> {
         let conns = self.file.conn_count(s);
         let caps = self.file.cap_count(s);
         let ress = self.file.res_count(s);
-        let mut draft = Draft::with_room::<C>(self, net, conns, caps, ress)?;
-        let joints = self.begin::<C>(s, &mut draft)?;
+        let mut draft = Draft::with_room::<C>(self, &mut lists.refs, net, conns, caps, ress)?;
+        self.begin::<C>(s, &mut draft, &mut lists.joints)?;
         self.read_conns::<C>(s, &mut draft)?;
         self.read_caps::<C>(s, &mut draft)?;
-        self.read_ress::<C>(s, &mut draft, &joints)?;
-        Ok(draft.into_section(caps))
+        self.read_ress::<C>(s, &mut draft, lists.joints.as_slice())?;
+        Ok(draft.into_section(caps, &mut lists.refs))
     }
 }

@@ -2,6 +2,7 @@
 ghost use Rattle.std.specs.Prelude.{◌≡◌, ◌≢◌, ℕ, ◌+◌, ◌<◌, false, true, [], ◌∷◌, ◌++◌, List, length, map, slice_get, Some, Contains, bytes_eq, IfOk, OnOk, OnErr, IfSome, IfNone};
 
 use crate::name_hash::NameHash;
+use crate::pushing::{emptied, emptied_table};
 use edge_io::OutOfMemory;
 use indexmap::IndexSet;
 use std::alloc::Global;
@@ -35,18 +36,38 @@ impl<'t> Model for Spellings<'t> {
 }
 
 impl<'t> Spellings<'t> {
-    /// No spelling, with room for so many.
-    pub fn with_room(alloc: Global, many: usize) -> Result<Spellings<'t>, OutOfMemory>
+    /// No spelling. It takes no memory.
+    pub fn new(alloc: Global) -> Spellings<'t>
+        ensures { result ≡ [] }
+    {
+        Spellings {
+            few: Vec::new(alloc),
+            words: IndexSet::with_hasher(alloc, NameHash::default()),
+            last: 0,
+        }
+    }
+
+    /// No spelling, with room for so many. The list of the few keeps its memory.
+    pub fn emptied(self, alloc: Global, many: usize) -> Result<Spellings<'t>, OutOfMemory>
         ensures { IfOk result (λ spellings. spellings ≡ []) }
     {
-        let few = Vec::with_capacity(alloc, many.min(FEW))?;
-        let behind = many.saturating_sub(FEW);
-        let words = IndexSet::with_capacity_and_hasher(alloc, behind, NameHash::default())?;
+        let Spellings {
+            few,
+            words,
+            last: _,
+        } = self;
+        let few = emptied(few, many.min(FEW))?;
+        let words = emptied_table(alloc, words, many.saturating_sub(FEW))?;
         Ok(Spellings {
             few,
             words,
             last: 0,
         })
+    }
+
+    /// Whether all spellings stand in the list.
+    pub fn are_few(&self) -> bool {
+        self.words.is_empty()
     }
 
     /// The number of a spelling, if it is held.

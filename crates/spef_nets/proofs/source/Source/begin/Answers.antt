@@ -16,5 +16,5 @@ read_joints-requires-clause-refs g c =
 pub returns-clause-upto : goal.returns-clause-upto
 returns-clause-upto g c =
     let after = drafted (record { net = c.args.draft.now.net; refs = c.read_joints.new.refs; conns = c.args.draft.now.conns; loads = c.args.draft.now.loads; caps = c.args.draft.now.caps; farads = c.args.draft.now.farads; joints = c.args.draft.now.joints; ohms = c.args.draft.now.ohms }) in
-    begun (corners_of g.C.CornerSet.COUNT g.C.CornerSet.number_of g.C.CornerSet.member_of c.args.self.now.pick) c.args.self.now.file.now c.args.self.now.head.now c.args.s c.args.draft.now.net after c.requires.net c.requires.new c.in_ok-joints.ensures.refs
-    (c.in_ok-joints.ensures.nodes ∙ ap (λ (d : Drafted). d.refs.nodes) c.requires.fresh) (ap (λ (d : Drafted). with_nodes d.net after.refs.nodes) c.requires.fresh)
+    begun (corners_of g.C.CornerSet.COUNT g.C.CornerSet.number_of g.C.CornerSet.member_of c.args.self.now.pick) c.args.self.now.file.now c.args.self.now.head.now c.args.s c.args.draft.now.net after c.requires.net c.requires.new c.in_ok-read_joints.ensures.refs
+    (c.in_ok-read_joints.ensures.nodes ∙ ap (λ (d : Drafted). d.refs.nodes) c.requires.fresh) (ap (λ (d : Drafted). with_nodes d.net after.refs.nodes) c.requires.fresh)

@@ -12,7 +12,7 @@ use Rattle.spef_nets.proofs.source.Source.read_joints.Goals as goal
 
 pub loop-i-init : goal.loop-i-init
 loop-i-init c =
-    none_joined c.args.self.now.file.now c.args.net.now (refs_of c.args.refs.now) (section_at c.args.self.now.file.now.reading.sections c.args.s).ress c.in_ok-joints.joints.items c.requires.refs c.in_ok-joints.ensures.items
+    none_joined c.args.self.now.file.now c.args.net.now (refs_of c.args.refs.now) (section_at c.args.self.now.file.now.reading.sections c.args.s).ress c.reserve.new.self.items c.requires.refs (c.reserve.ensures.items ∙ c.clear.ensures.items)
 
 pub joined_at-requires-in-loop-i-clause-refs : goal.joined_at-requires-in-loop-i-clause-refs
 joined_at-requires-in-loop-i-clause-refs c =

@@ -13,9 +13,9 @@ use Rattle.spef_nets.proofs.source.Source.read_section.Goals as goal
 -- src/section_reading.rt
 pub read_ress-requires-clause-joints : goal.read_ress-requires-clause-joints
 read_ress-requires-clause-joints g c =
-    joined_grown c.args.self.now.file.now (drafted c.begin.new.draft).refs.words (drafted c.read_caps.new.draft).refs.words (section_at c.args.self.now.file.now.reading.sections c.args.s).ress c.in_ok-joints.joints.items c.deref.result.now
+    joined_grown c.args.self.now.file.now (drafted c.begin.new.draft).refs.words (drafted c.read_caps.new.draft).refs.words (section_at c.args.self.now.file.now.reading.sections c.args.s).ress c.begin.new.joints.items c.as_slice.result.now
     (grows_more (drafted c.begin.new.draft).refs.words (drafted c.read_conns.new.draft).refs.words (drafted c.read_caps.new.draft).refs.words c.in_ok-read_conns.ensures.grows c.in_ok-read_caps.ensures.grows)
-    c.deref.ensures.value c.in_ok-joints.ensures.joints
+    c.as_slice.ensures.value c.in_ok-begin.ensures.joints
 
 pub into_section-requires : goal.into_section-requires
 into_section-requires g c = whole_draft (corners_of g.C.CornerSet.COUNT g.C.CornerSet.number_of g.C.CornerSet.member_of c.args.self.now.pick) c.args.self.now.file.now c.args.self.now.head.now c.args.s (drafted c.read_ress.new.draft) c.in_ok-read_ress.ensures.upto c.cap_count-caps.result c.cap_count-caps.ensures
@@ -40,6 +40,6 @@ pub returns-in_err-read_ress-clause-err : goal.returns-in_err-read_ress-clause-e
 returns-in_err-read_ress-clause-err g c =
     handed_on c.from_residual-in_err-read_ress.result c.in_err-read_ress.field-0.0 (IsStop c.args.self.now.file.now c.args.self.now.head.now c.args.s) c.from_residual-in_err-read_ress.ensures.1 c.in_err-read_ress.ensures.err
 
-pub returns-in_err-joints-clause-err : goal.returns-in_err-joints-clause-err
-returns-in_err-joints-clause-err g c =
-    handed_on c.from_residual-in_err-joints.result OutOfMemory (IsStop c.args.self.now.file.now c.args.self.now.head.now c.args.s) c.from_residual-in_err-joints.ensures.1 tt
+pub returns-in_err-begin-clause-err : goal.returns-in_err-begin-clause-err
+returns-in_err-begin-clause-err g c =
+    handed_on c.from_residual-in_err-begin.result OutOfMemory (IsStop c.args.self.now.file.now c.args.self.now.head.now c.args.s) c.from_residual-in_err-begin.ensures.1 tt
