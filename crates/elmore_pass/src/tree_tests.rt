@@ -6,7 +6,7 @@ use crate::elmore_into;
 use crate::triple_tests::Triple;
 use corner_set::Pick;
 use edge_io::Steps;
-use rc_tree::{NodeId, Scratch, build_listed};
+use rc_tree::{NodeId, Scratch, Workspace, build_listed};
 use spef_nets::{Section, Sections, read_sections};
 use spef_text::{parse, read_head};
 use std::alloc::{AllocError, Global};
@@ -224,7 +224,8 @@ fn agrees<L: Ledger>(
     }
     let mut steps = Steps::<L>::new(blank);
     let net = section.as_net();
-    let Ok(arena) = build_listed(alloc, &net, 0, &mut steps) else {
+    let mut workspace = Workspace::new(alloc);
+    let Ok(arena) = build_listed(alloc, &mut workspace, &net, 0, &mut steps) else {
         return false;
     };
     let Ok(mut delays) = Scratch::<Triple>::reserve(alloc, arena.len()) else {

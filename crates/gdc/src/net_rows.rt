@@ -13,7 +13,7 @@ use corner_set::{Grid, Single};
 use delay_units::Femto;
 use edge_io::{OutOfMemory, Steps, Text};
 use elmore_pass::{elmore_into, sink_femto};
-use rc_tree::{ListedPins, RcTree, Scratch, TreeEnd, build_listed};
+use rc_tree::{ListedPins, RcTree, Scratch, TreeEnd, Workspace, build_listed};
 use sdf_writer::Rows;
 use spef_nets::Net;
 use std::alloc::Global;
@@ -110,6 +110,7 @@ fn sole_driver(alloc: Global, net: &Net<Single>) -> Result<usize, PureEnd<Refusa
 #[tactic(auto, using(crate::specs::WireNets::too_large, crate::specs::WireNets::unreached, crate::specs::WireNets::mesh))]
 fn tree_of<L: Ledger>(
     alloc: Global,
+    workspace: &mut Workspace,
     net: &Net<Single>,
     driver: usize,
     steps: &mut Steps<L>,
@@ -120,7 +121,7 @@ fn tree_of<L: Ledger>(
     ensures nodes { IfOk result (λ tree. node_count tree ≤ length net.now.joints + 1) }
     ensures steps { steps.new ≤ steps.old + 2 * length net.now.joints + length net.now.caps }
 {
-    match build_listed(alloc, net, driver, steps) {
+    match build_listed(alloc, workspace, net, driver, steps) {
         Ok(tree) => Ok(tree),
         Err(TreeEnd::StrangePin(_)) => unreachable!(),
         Err(TreeEnd::TooLarge) => {
@@ -161,6 +162,7 @@ fn put_delays<L: Ledger>(
 fn draw_net<L: Ledger>(
     alloc: Global,
     net: &Net<Single>,
+    workspace: &mut Workspace,
     delays: &mut Scratch<Single>,
     delay: &mut Grid<Single, Femto>,
     rows: &mut Rows<Single>,
@@ -173,19 +175,20 @@ fn draw_net<L: Ledger>(
     ensures steps { steps.new ≤ steps.old + most_steps net.now }
 {
     let driver = sole_driver(alloc, net)?;
-    let tree = tree_of(alloc, net, driver, steps)?;
+    let tree = tree_of(alloc, workspace, net, driver, steps)?;
     put_delays(alloc, &tree, delays, steps)?;
     let pins = ListedPins { driver };
     add_rows(alloc, net, &pins, &tree, delays, delay, rows, steps)?;
     Ok(())
 }
 
-/// Draws a net after others, unless one of them was refused: answers the first refusal. One scratch serves all nets.
+/// Draws a net after others, unless one of them was refused: answers the first refusal. One workspace and one scratch serve all nets.
 #[tactic(auto, using(crate::specs::Drawing::refused_before, crate::specs::Drawing::refused_here, crate::specs::Drawing::has_rows))]
 pub fn draw_next<L: Ledger>(
     alloc: Global,
     net: &Net<Single>,
     refused: Option<Refusal>,
+    workspace: &mut Workspace,
     delays: &mut Scratch<Single>,
     delay: &mut Grid<Single, Femto>,
     rows: &mut Rows<Single>,
@@ -199,7 +202,7 @@ pub fn draw_next<L: Ledger>(
 {
     match refused {
         Some(refusal) => Ok(Some(refusal)),
-        None => match draw_net(alloc, net, delays, delay, rows, steps) {
+        None => match draw_net(alloc, net, workspace, delays, delay, rows, steps) {
             Ok(()) => Ok(None),
             Err(PureEnd::Refused(refusal)) => Ok(Some(refusal)),
             Err(PureEnd::OutOfMemory) => Err(OutOfMemory),

@@ -15,7 +15,7 @@ use crate::refusal::{IndexKind, NumberKind, Refusal};
 use corner_set::{Grid, Pick, Single};
 use delay_units::Femto;
 use edge_io::{Steps, Text};
-use rc_tree::Scratch;
+use rc_tree::{Scratch, Workspace};
 use sdf_writer::Rows;
 use spef_nets::{SectionEnd, SectionReader, SpelledSection};
 use spef_text::{Head, HeadEnd, SpefEnd, SpefFile, parse, read_head};
@@ -109,6 +109,7 @@ fn draw_sections<L: Ledger>(
     let design = Text::from_bytes(alloc, head.design().bytes())?;
     let mut rows = Rows::new(alloc, design);
     let mut delay = Grid::with_rows(alloc, 1, Femto(0))?;
+    let mut workspace = Workspace::new(alloc);
     let mut delays = Scratch::reserve(alloc, 0)?;
     let mut reader = SectionReader::new(alloc, file, head, pick);
     let mut refused = None;
@@ -121,6 +122,7 @@ fn draw_sections<L: Ledger>(
             alloc,
             &net.as_net(),
             refused,
+            &mut workspace,
             &mut delays,
             &mut delay,
             &mut rows,

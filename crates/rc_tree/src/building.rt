@@ -8,11 +8,11 @@ ghost use Rattle.rc_tree.specs.Builds.{IsFit, IsTreeEnd, IsTreeOf};
 use crate::branches::branched;
 use crate::ends::TreeEnd;
 use crate::lone::lone;
-use crate::numbered::Numbered;
 use crate::numbering::{first_strange, number_pins, number_section};
 use crate::pin_source::PinSource;
 use crate::pins::PinLoads;
 use crate::tree::RcTree;
+use crate::workspace::Workspace;
 use corner_set::CornerSet;
 use edge_io::Steps;
 use spef_nets::{Net, Section};
@@ -39,12 +39,14 @@ pub fn build<C: CornerSet, L: Ledger>(
     ensures steps { steps.new ≤ steps.old + length section.now.joints + C.COUNT * (length section.now.joints + length section.now.caps) }
 {
     let net = section.as_net();
-    build_net(alloc, &net, pins, steps)
+    let mut workspace = Workspace::new(alloc);
+    build_net(alloc, &mut workspace, &net, pins, steps)
 }
 
 // The tree of a net by reference.
 fn build_net<C: CornerSet, L: Ledger>(
     alloc: Global,
+    workspace: &mut Workspace,
     section: &Net<C>,
     pins: &PinLoads<C>,
     steps: &mut Steps<L>,
@@ -66,19 +68,30 @@ fn build_net<C: CornerSet, L: Ledger>(
         return Err(TreeEnd::TooLarge);
     }
     if section.res_count() == 0 {
-        return match lone(alloc, section, pins, steps) {
+        return match lone(
+            alloc,
+            section,
+            pins,
+            &mut workspace.lists.found,
+            &mut workspace.lists.places,
+            steps,
+        ) {
             Ok(tree) => Ok(tree),
             Err(_) => Err(TreeEnd::OutOfMemory),
         };
     }
-    let Ok(spots) = number_section(alloc, &mut table, section) else {
+    let Ok(()) = number_section(alloc, &mut table, section, &mut workspace.numbered.spots) else {
         return Err(TreeEnd::OutOfMemory);
     };
-    let numbered = Numbered {
-        spots,
-        count: table.len(),
-    };
-    branched(alloc, section, pins, numbered, steps)
+    workspace.numbered.count = table.len();
+    branched(
+        alloc,
+        section,
+        pins,
+        &workspace.numbered,
+        &mut workspace.lists,
+        steps,
+    )
 }
 
 /// Whether there are too many resistors, or too many written capacitances and pins.

@@ -1,7 +1,7 @@
 //! Where the nodes of a section and the sinks stand in the order of a search.
-ghost use Rattle.std.specs.Prelude.{◌≡◌, ℕ, ◌+◌, ◌-◌, ◌<◌, ◌≤◌, length, slice_index, slice_index_or, MatchOption, IfOk};
+ghost use Rattle.std.specs.Prelude.{◌≡◌, ℕ, ◌+◌, ◌-◌, ◌<◌, ◌≤◌, length, slice_index, slice_index_or, MatchOption, IfOk, OnOk};
 
-use crate::lists::push;
+use crate::lists::{empty, push};
 use crate::node_ids::NodeId;
 use edge_io::OutOfMemory;
 use std::alloc::Global;
@@ -19,17 +19,17 @@ pub fn first_zero(values: &[u32]) -> Option<usize>
     None
 }
 
-/// The places of nodes, from one more than each.
-pub fn places_of(alloc: Global, nodes: &[u32], numbers: &[u32]) -> Result<Vec<u32>, OutOfMemory>
+/// Makes a list the places of nodes, from one more than each.
+pub fn put_places(nodes: &[u32], numbers: &[u32], places: &mut Vec<u32>) -> Result<(), OutOfMemory>
     requires { (k : ℕ) → k < length nodes.now → slice_index nodes.now k < length numbers.now }
-    ensures size { IfOk result (λ places. length places.items ≡ length nodes.now) }
-    ensures places { IfOk result (λ places. (k : ℕ) → k < length nodes.now → slice_index places.items k ≡ slice_index numbers.now (slice_index nodes.now k) - 1) }
+    ensures size { OnOk result (length places.new.items ≡ length nodes.now) }
+    ensures places { OnOk result ((k : ℕ) → k < length nodes.now → slice_index places.new.items k ≡ slice_index numbers.now (slice_index nodes.now k) - 1) }
 {
-    let mut places = Vec::with_capacity(alloc, nodes.len())?;
+    empty(places, nodes.len())?;
     for k in 0..nodes.len() {
-        push(&mut places, numbers[nodes[k] as usize].saturating_sub(1))?;
+        push(places, numbers[nodes[k] as usize].saturating_sub(1))?;
     }
-    Ok(places)
+    Ok(())
 }
 
 /// The places of the first nodes after the driver's, from one more than each.

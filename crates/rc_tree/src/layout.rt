@@ -4,15 +4,15 @@ use crate::node_ids::NodeId;
 
 /// The nodes of a tree, and where the nodes of the section and the sinks stand in it.
 #[derive(Drop)]
-pub struct NodeLayout {
+pub struct NodeLayout<'a> {
     /// The parent of each node; 0 for the first.
-    pub parents: Vec<u32>,
+    pub parents: &'a [u32],
 
     /// The resistor of the section that links each node to its parent; 0 for the first.
-    pub vias: Vec<u32>,
+    pub vias: &'a [u32],
 
     /// The place of each node of the section.
-    pub spots: Vec<u32>,
+    pub spots: &'a [u32],
 
     /// The place of each sink.
     pub sinks: Vec<NodeId>,

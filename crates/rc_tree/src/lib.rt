@@ -29,6 +29,7 @@ mod searching;
 mod tests;
 mod threads;
 mod tree;
+mod workspace;
 
 pub use building::build;
 pub use ends::TreeEnd;
@@ -39,3 +40,4 @@ pub use node_ids::NodeId;
 pub use pins::PinLoads;
 pub use scratch::Scratch;
 pub use tree::RcTree;
+pub use workspace::Workspace;

@@ -13,6 +13,7 @@ use crate::listed_pins::ListedPins;
 use crate::lone::lone;
 use crate::marking::number_listed;
 use crate::tree::RcTree;
+use crate::workspace::Workspace;
 use corner_set::CornerSet;
 use edge_io::Steps;
 use spef_nets::Net;
@@ -21,9 +22,10 @@ use std::sync::ledger::Ledger;
 
 /// The tree of a net whose pins are the connections of its section: the one at this place drives it, and all others are its
 /// sinks, in order, with the loads that are listed with them. It is the tree that [`build`](crate::build) makes of these pins,
-/// without a look-up of names: it is never refused for a strange pin.
+/// without a look-up of names: it is never refused for a strange pin. One workspace serves all nets, and what it held is no matter.
 pub fn build_listed<C: CornerSet, L: Ledger>(
     alloc: Global,
+    workspace: &mut Workspace,
     section: &Net<C>,
     driver: usize,
     steps: &mut Steps<L>,
@@ -41,13 +43,27 @@ pub fn build_listed<C: CornerSet, L: Ledger>(
         return Err(TreeEnd::TooLarge);
     }
     if section.res_count() == 0 {
-        return match lone(alloc, section, &pins, steps) {
+        return match lone(
+            alloc,
+            section,
+            &pins,
+            &mut workspace.lists.found,
+            &mut workspace.lists.places,
+            steps,
+        ) {
             Ok(tree) => Ok(tree),
             Err(_) => Err(TreeEnd::OutOfMemory),
         };
     }
-    let Ok(numbered) = number_listed(alloc, section, &pins) else {
+    let Ok(()) = number_listed(section, &pins, &mut workspace.numbered) else {
         return Err(TreeEnd::OutOfMemory);
     };
-    branched(alloc, section, &pins, numbered, steps)
+    branched(
+        alloc,
+        section,
+        &pins,
+        &workspace.numbered,
+        &mut workspace.lists,
+        steps,
+    )
 }

@@ -2,22 +2,25 @@
 ghost use Rattle.std.specs.Prelude.{◌≡◌, ◌++◌, ◌∷◌, [], replicate, IfOk, OnOk};
 
 use edge_io::OutOfMemory;
-use std::alloc::Global;
 
-/// So many zeros.
-pub fn zeros(alloc: Global, many: usize) -> Result<Vec<u32>, OutOfMemory>
-    ensures { IfOk result (λ values. values.items ≡ replicate many 0) }
+/// Empties a list, and makes room for so many numbers.
+#[inline]
+pub fn empty(values: &mut Vec<u32>, many: usize) -> Result<(), OutOfMemory>
+    ensures { OnOk result (values.new.items ≡ []) }
 {
-    filled(alloc, many, 0)
+    values.clear();
+    values.reserve(many)?;
+    Ok(())
 }
 
-/// So many times one number.
-pub fn filled(alloc: Global, many: usize, value: u32) -> Result<Vec<u32>, OutOfMemory>
-    ensures { IfOk result (λ values. values.items ≡ replicate many value) }
+/// Makes a list so many times one number. The list keeps its room.
+#[inline]
+pub fn refill(values: &mut Vec<u32>, many: usize, value: u32) -> Result<(), OutOfMemory>
+    ensures { OnOk result (values.new.items ≡ replicate many value) }
 {
-    let mut values = Vec::with_capacity(alloc, many)?;
+    empty(values, many)?;
     values.resize(many, value)?;
-    Ok(values)
+    Ok(())
 }
 
 /// A number as it is kept. A larger one would be out of memory.

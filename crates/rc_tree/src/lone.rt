@@ -3,9 +3,10 @@ ghost use Rattle.std.specs.Prelude.{◌≡◌, ◌+◌, ◌*◌, ◌≤◌, leng
 ghost use Rattle.rc_tree.specs.Arenas.{node_count};
 ghost use Rattle.rc_tree.specs.Builds.{IsFit, IsTreeOf};
 
+use crate::found::Found;
 use crate::laying::sinks_of;
 use crate::layout::NodeLayout;
-use crate::lists::zeros;
+use crate::lists::refill;
 use crate::pin_source::PinSource;
 use crate::planting::plant;
 use crate::tree::RcTree;
@@ -15,11 +16,13 @@ use spef_nets::Net;
 use std::alloc::Global;
 use std::sync::ledger::Ledger;
 
-/// The tree of a net without resistors.
+/// The tree of a net without resistors. The lists are filled anew.
 pub fn lone<C: CornerSet, P: PinSource<C>, L: Ledger>(
     alloc: Global,
     section: &Net<C>,
     pins: &P,
+    found: &mut Found,
+    places: &mut Vec<u32>,
     steps: &mut Steps<L>,
 ) -> Result<RcTree<C>, OutOfMemory>
     requires fit { IsFit section.now (P.pins pins.now section.now) }
@@ -29,12 +32,15 @@ pub fn lone<C: CornerSet, P: PinSource<C>, L: Ledger>(
     ensures steps { steps.new ≤ steps.old + C.COUNT * length section.now.caps }
 {
     let sinks = pins.sink_count(section);
-    let numbers = zeros(alloc, sinks + 1)?;
+    refill(&mut found.numbers, sinks + 1, 0)?;
+    refill(&mut found.parents, 1, 0)?;
+    refill(&mut found.vias, 1, 0)?;
+    refill(places, section.node_count(), 0)?;
     let layout = NodeLayout {
-        parents: zeros(alloc, 1)?,
-        vias: zeros(alloc, 1)?,
-        spots: zeros(alloc, section.node_count())?,
-        sinks: sinks_of(alloc, sinks, &numbers)?,
+        parents: &found.parents,
+        vias: &found.vias,
+        spots: places,
+        sinks: sinks_of(alloc, sinks, &found.numbers)?,
     };
     // at most two for each that is written
     section.cap_count();

@@ -1,6 +1,6 @@
 //! The numbers of a net's nodes where its pins are the connections of its section. They are found by the section's own numbers:
 //! no name is read.
-ghost use Rattle.std.specs.Prelude.{◌≡◌, ℕ, ◌-◌, ◌^◌, ◌<◌, List, [], length, map, IfOk, OnOk};
+ghost use Rattle.std.specs.Prelude.{◌≡◌, ℕ, ◌-◌, ◌^◌, ◌<◌, List, [], length, map, OnOk};
 ghost use Rattle.spef_nets.specs.Nodes.{AreDistinctNodes};
 ghost use Rattle.rc_tree.specs.Nodes.{Node, node_of, with_nodes};
 ghost use Rattle.rc_tree.specs.ListedPins.{listed_pins};
@@ -8,12 +8,11 @@ ghost use Rattle.rc_tree.specs.Marking.{Marks, Marked};
 ghost use Rattle.rc_tree.specs.Searched.{IsNumbered};
 
 use crate::listed_pins::ListedPins;
-use crate::lists::filled;
+use crate::lists::refill;
 use crate::numbered::Numbered;
 use corner_set::CornerSet;
 use edge_io::OutOfMemory;
 use spef_nets::Net;
-use std::alloc::Global;
 
 /// It stands for the number of a node that has none yet.
 const NONE: u32 = u32::MAX;
@@ -70,20 +69,18 @@ fn mark_rest<C: CornerSet>(section: &Net<C>, numbered: &mut Numbered) -> Result<
 
 /// The numbers of a net's nodes, whose pins are the connections of its section.
 pub fn number_listed<C: CornerSet>(
-    alloc: Global,
     section: &Net<C>,
     pins: &ListedPins,
-) -> Result<Numbered, OutOfMemory>
+    numbered: &mut Numbered,
+) -> Result<(), OutOfMemory>
     requires { pins.now.driver < length section.now.conns }
-    ensures { IfOk result (λ numbered. IsNumbered section.now (listed_pins C.COUNT section.now pins.now.driver) numbered.spots.items numbered.count) }
+    ensures { OnOk result (IsNumbered section.now (listed_pins C.COUNT section.now pins.now.driver) numbered.new.spots.items numbered.new.count) }
 {
-    let mut numbered = Numbered {
-        spots: filled(alloc, section.node_count(), NONE)?,
-        count: 0,
-    };
+    refill(&mut numbered.spots, section.node_count(), NONE)?;
+    numbered.count = 0;
     section.distinct();
-    mark(&mut numbered, section.conn(pins.driver).node)?;
-    mark_sinks(section, pins, &mut numbered)?;
-    mark_rest(section, &mut numbered)?;
-    Ok(numbered)
+    mark(numbered, section.conn(pins.driver).node)?;
+    mark_sinks(section, pins, numbered)?;
+    mark_rest(section, numbered)?;
+    Ok(())
 }

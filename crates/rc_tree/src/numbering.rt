@@ -5,7 +5,7 @@ ghost use Rattle.rc_tree.specs.Pins.{pin_nodes};
 ghost use Rattle.rc_tree.specs.Numbering.{AreSpots, AreEnds};
 ghost use Rattle.rc_tree.specs.SectionNets.{AreListed, IsFirstStrange};
 
-use crate::lists::{kept, push};
+use crate::lists::{empty, kept, push};
 use crate::node_table::NodeTable;
 use crate::pins::PinLoads;
 use corner_set::CornerSet;
@@ -67,37 +67,38 @@ pub fn number_section<C: CornerSet>(
     alloc: Global,
     table: &mut NodeTable,
     section: &Net<C>,
-) -> Result<Vec<u32>, OutOfMemory>
+    spots: &mut Vec<u32>,
+) -> Result<(), OutOfMemory>
     ensures nodes { OnOk result (table.new ≡ with_nodes table.old (map node_of section.now.nodes)) }
-    ensures spots { IfOk result (λ spots. AreSpots section.now.nodes table.new spots.items) }
+    ensures spots { OnOk result (AreSpots section.now.nodes table.new spots.new.items) }
 {
-    let mut spots = Vec::with_capacity(alloc, section.node_count())?;
+    empty(spots, section.node_count())?;
     for node in 0..section.node_count() {
         let name = section.node_name(alloc, node)?;
         let number = table.intern(&name)?;
-        push(&mut spots, kept(number)?)?;
+        push(spots, kept(number)?)?;
     }
-    Ok(spots)
+    Ok(())
 }
 
 /// The ends of the resistors, from the numbers of the section's nodes: one step a resistor.
 pub fn copy_ends<C: CornerSet, L: Ledger>(
-    alloc: Global,
     section: &Net<C>,
     spots: &[u32],
     corner: C::Index,
+    ends: &mut Ends,
     steps: &mut Steps<L>,
-) -> Result<Ends, OutOfMemory>
+) -> Result<(), OutOfMemory>
     requires { length spots.now ≡ length section.now.nodes }
-    ensures ends { IfOk result (λ ends. AreEnds section.now spots.now ends.froms.items ends.tos.items) }
+    ensures ends { OnOk result (AreEnds section.now spots.now ends.new.froms.items ends.new.tos.items) }
     ensures steps { steps.new ≤ steps.old + length section.now.joints }
 {
-    let mut froms = Vec::with_capacity(alloc, section.res_count())?;
-    let mut tos = Vec::with_capacity(alloc, section.res_count())?;
+    empty(&mut ends.froms, section.res_count())?;
+    empty(&mut ends.tos, section.res_count())?;
     for place in 0..section.res_count() {
         let resistor = section.res(place, corner, steps);
-        push(&mut froms, spots[resistor.a])?;
-        push(&mut tos, spots[resistor.b])?;
+        push(&mut ends.froms, spots[resistor.a])?;
+        push(&mut ends.tos, spots[resistor.b])?;
     }
-    Ok(Ends { froms, tos })
+    Ok(())
 }

@@ -22,31 +22,26 @@ pub fn plant<C: CornerSet, P: PinSource<C>, L: Ledger>(
     alloc: Global,
     section: &Net<C>,
     pins: &P,
-    layout: NodeLayout,
+    layout: NodeLayout<'_>,
     steps: &mut Steps<L>,
 ) -> Result<RcTree<C>, OutOfMemory>
     requires { IsLayout section.now (P.pins pins.now section.now) (layout_of layout) }
-    ensures parents { IfOk result (λ tree. tree.parents ≡ layout.parents.items) }
-    ensures sinks { IfOk result (λ tree. tree.sinks ≡ layout.sinks.items) }
+    ensures parents { IfOk result (λ tree. tree.parents ≡ layout.entry.parents.now) }
+    ensures sinks { IfOk result (λ tree. tree.sinks ≡ layout.entry.sinks.items) }
     ensures whole { IfOk result (λ tree. IsArena C.COUNT tree) }
-    ensures filled { IfOk result (λ tree. (number : ℕ) → number < C.COUNT → IsFilled C.COUNT section.now (P.pins pins.now section.now) (layout_of layout) tree.ohms tree.farads number) }
-    ensures steps { steps.new + C.COUNT ≤ steps.old + C.COUNT * (length layout.parents.items + length section.now.caps) }
+    ensures filled { IfOk result (λ tree. (number : ℕ) → number < C.COUNT → IsFilled C.COUNT section.now (P.pins pins.now section.now) (layout_of layout.entry) tree.ohms tree.farads number) }
+    ensures steps { steps.new + C.COUNT ≤ steps.old + C.COUNT * (length layout.entry.parents.now + length section.now.caps) }
 {
     let nodes = layout.parents.len();
+    let parents = Vec::from_slice(alloc, layout.parents)?;
     let mut ohms = Grid::with_rows(alloc, nodes, Ohms(0))?;
     let mut farads = Grid::with_rows(alloc, nodes, Farads(0))?;
     fill_all(section, pins, &layout, &mut ohms, &mut farads, steps);
-    let NodeLayout {
-        parents,
-        vias: _,
-        spots: _,
-        sinks,
-    } = layout;
     Ok(RcTree {
         parents,
         ohms,
         farads,
-        sinks,
+        sinks: layout.sinks,
     })
 }
 
@@ -60,14 +55,14 @@ fn fill_all<C: CornerSet, P: PinSource<C>, L: Ledger>(
     steps: &mut Steps<L>,
 )
     requires layout { IsLayout section.now (P.pins pins.now section.now) (layout_of layout.now) }
-    requires ohms_rows { length ohms.old ≡ length layout.now.parents.items * C.COUNT }
-    requires farads_rows { length farads.old ≡ length layout.now.parents.items * C.COUNT }
+    requires ohms_rows { length ohms.old ≡ length layout.now.parents.now * C.COUNT }
+    requires farads_rows { length farads.old ≡ length layout.now.parents.now * C.COUNT }
     requires no_ohms { (row number : ℕ) → ohms_at C.COUNT ohms.old row number ≡ 0 }
     requires no_farads { (row number : ℕ) → farads_at C.COUNT farads.old row number ≡ 0 }
     ensures filled { (number : ℕ) → number < C.COUNT → IsFilled C.COUNT section.now (P.pins pins.now section.now) (layout_of layout.now) ohms.new farads.new number }
     ensures ohms_size { length ohms.new ≡ length ohms.old }
     ensures farads_size { length farads.new ≡ length farads.old }
-    ensures steps { steps.new + C.COUNT ≤ steps.old + C.COUNT * (length layout.now.parents.items + length section.now.caps) }
+    ensures steps { steps.new + C.COUNT ≤ steps.old + C.COUNT * (length layout.now.parents.now + length section.now.caps) }
 {
     for number in 0..C::COUNT {
         if let Some(corner) = C::nth(number) {
@@ -87,16 +82,16 @@ fn fill_corner<C: CornerSet, P: PinSource<C>, L: Ledger>(
     steps: &mut Steps<L>,
 )
     requires layout { IsLayout section.now (P.pins pins.now section.now) (layout_of layout.now) }
-    requires ohms_rows { length ohms.old ≡ length layout.now.parents.items * C.COUNT }
-    requires farads_rows { length farads.old ≡ length layout.now.parents.items * C.COUNT }
+    requires ohms_rows { length ohms.old ≡ length layout.now.parents.now * C.COUNT }
+    requires farads_rows { length farads.old ≡ length layout.now.parents.now * C.COUNT }
     requires no_ohms { (row : ℕ) → ohms_at C.COUNT ohms.old row (C.number_of corner) ≡ 0 }
     requires no_farads { (row : ℕ) → farads_at C.COUNT farads.old row (C.number_of corner) ≡ 0 }
     ensures filled { IsFilled C.COUNT section.now (P.pins pins.now section.now) (layout_of layout.now) ohms.new farads.new (C.number_of corner) }
     ensures ohms { KeepsOhms C.COUNT ohms.old ohms.new (C.number_of corner) }
     ensures farads { KeepsFarads C.COUNT farads.old farads.new (C.number_of corner) }
-    ensures steps { steps.new + 1 ≤ steps.old + (length layout.now.parents.items + length section.now.caps) }
+    ensures steps { steps.new + 1 ≤ steps.old + (length layout.now.parents.now + length section.now.caps) }
 {
-    fill_ohms(section, &layout.vias, corner, ohms, steps);
-    fill_farads(section, &layout.spots, corner, farads, steps);
+    fill_ohms(section, layout.vias, corner, ohms, steps);
+    fill_farads(section, layout.spots, corner, farads, steps);
     fill_loads(section, pins, &layout.sinks, corner, farads);
 }

@@ -1,32 +1,38 @@
 //! The breadth first search from the driver's node.
-ghost use Rattle.std.specs.Prelude.{◌≡◌, ◌<◌, ◌≤◌, [], ◌∷◌, length, slice_index, slice_set, replicate, All, IfOk, OnOk};
+ghost use Rattle.std.specs.Prelude.{◌≡◌, ◌<◌, ◌≤◌, [], ◌∷◌, length, slice_index, slice_set, replicate, All, OnOk};
 ghost use Rattle.rc_tree.specs.Threads.{IsThreaded};
 ghost use Rattle.rc_tree.specs.Searches.{Search, IsSearch, IsClosed, Grown, IsVisited, reached};
 ghost use Rattle.rc_tree.specs.FoundSearch.{search_of};
 
 use crate::found::Found;
-use crate::lists::{kept, push, zeros};
+use crate::lists::{empty, kept, push, refill};
 use crate::threads::{Threads, thread};
 use edge_io::OutOfMemory;
-use std::alloc::Global;
 
 /// Finds all nodes that walks over the resistors reach from node 0, in breadth first order. The resistor at a place has its
 /// ends at the nodes of that place in both lists.
-pub fn search(alloc: Global, froms: &[u32], tos: &[u32], nodes: usize) -> Result<Found, OutOfMemory>
+pub fn search(
+    froms: &[u32],
+    tos: &[u32],
+    nodes: usize,
+    at_froms: &mut Threads,
+    at_tos: &mut Threads,
+    found: &mut Found,
+) -> Result<(), OutOfMemory>
     requires some { 0 < nodes }
     requires same { length tos.now ≡ length froms.now }
     requires froms { All (λ node. node < nodes) froms.now }
     requires tos { All (λ node. node < nodes) tos.now }
-    ensures search { IfOk result (λ found. IsSearch nodes froms.now tos.now (search_of found)) }
-    ensures closed { IfOk result (λ found. IsClosed froms.now tos.now (search_of found)) }
+    ensures search { OnOk result (IsSearch nodes froms.now tos.now (search_of found.new)) }
+    ensures closed { OnOk result (IsClosed froms.now tos.now (search_of found.new)) }
 {
-    let at_froms = thread(alloc, froms, nodes)?;
-    let at_tos = thread(alloc, tos, nodes)?;
-    let mut found = start(alloc, froms.len(), nodes)?;
+    thread(froms, nodes, at_froms)?;
+    thread(tos, nodes, at_tos)?;
+    start(froms.len(), nodes, found)?;
     for place in 0..nodes {
-        visit_both(&at_froms, &at_tos, froms, tos, place, &mut found)?;
+        visit_both(at_froms, at_tos, froms, tos, place, found)?;
     }
-    Ok(found)
+    Ok(())
 }
 
 // Finds what is joined to the node at a place of the order, if there is one.
@@ -59,26 +65,24 @@ fn visit_both(
 }
 
 // The first node alone is found.
-fn start(alloc: Global, resistors: usize, nodes: usize) -> Result<Found, OutOfMemory>
+fn start(resistors: usize, nodes: usize, found: &mut Found) -> Result<(), OutOfMemory>
     requires { 0 < nodes }
-    ensures order { IfOk result (λ found. found.order.items ≡ 0 ∷ []) }
-    ensures parents { IfOk result (λ found. found.parents.items ≡ 0 ∷ []) }
-    ensures vias { IfOk result (λ found. found.vias.items ≡ 0 ∷ []) }
-    ensures numbers { IfOk result (λ found. found.numbers.items ≡ slice_set (replicate nodes 0) 0 1) }
-    ensures links { IfOk result (λ found. found.links.items ≡ replicate resistors 0) }
+    ensures order { OnOk result (found.new.order.items ≡ 0 ∷ []) }
+    ensures parents { OnOk result (found.new.parents.items ≡ 0 ∷ []) }
+    ensures vias { OnOk result (found.new.vias.items ≡ 0 ∷ []) }
+    ensures numbers { OnOk result (found.new.numbers.items ≡ slice_set (replicate nodes 0) 0 1) }
+    ensures links { OnOk result (found.new.links.items ≡ replicate resistors 0) }
 {
-    let mut found = Found {
-        order: Vec::with_capacity(alloc, nodes)?,
-        parents: Vec::with_capacity(alloc, nodes)?,
-        vias: Vec::with_capacity(alloc, nodes)?,
-        numbers: zeros(alloc, nodes)?,
-        links: zeros(alloc, resistors)?,
-    };
+    empty(&mut found.order, nodes)?;
+    empty(&mut found.parents, nodes)?;
+    empty(&mut found.vias, nodes)?;
     push(&mut found.order, 0)?;
     push(&mut found.parents, 0)?;
     push(&mut found.vias, 0)?;
+    refill(&mut found.numbers, nodes, 0)?;
+    refill(&mut found.links, resistors, 0)?;
     found.numbers[0] = 1;
-    Ok(found)
+    Ok(())
 }
 
 // Finds what is joined to the node at a place of the order by the resistors of one threading.

@@ -1,7 +1,7 @@
 //! Nets of small files. The expected answers were worked by hand.
 ghost use Rattle.std.specs.Prelude.{◌≡◌, ◌<◌, ◌^◌, length, None, IfSome};
 
-use crate::{PinLoads, RcTree, TreeEnd, build, build_listed};
+use crate::{PinLoads, RcTree, TreeEnd, Workspace, build, build_listed};
 use corner_set::{Grid, Pick, Single};
 use delay_units::Farads;
 use edge_io::{Steps, Text};
@@ -102,7 +102,8 @@ fn listed_ending<L: Ledger>(
     }
     let net = section.as_net();
     let mut steps = Steps::<L>::new(blank);
-    told(build_listed(alloc, &net, driver, &mut steps))
+    let mut workspace = Workspace::new(alloc);
+    told(build_listed(alloc, &mut workspace, &net, driver, &mut steps))
 }
 
 /// How the building of the first net of a file ends; 6 where there is none.

@@ -5,13 +5,13 @@ use Rattle.rc_tree.proofs.branches.explore.Goals as goal
 -- src/branches.rt
 pub search-requires-clause-froms : goal.search-requires-clause-froms
 search-requires-clause-froms g c =
-    froms_within c.args.section.now c.args.numbered.now.spots.items c.deref.result.now c.in_ok-ends.ends.froms.items c.deref-2.result.now c.in_ok-ends.ends.tos.items c.args.numbered.now.count c.deref.ensures.value c.deref-2.ensures.value c.requires.size c.requires.spots c.in_ok-ends.ensures.ends
+    froms_within c.args.section.now c.args.numbered.now.spots.items c.deref.result.now c.copy_ends.new.ends.froms.items c.deref-2.result.now c.copy_ends.new.ends.tos.items c.args.numbered.now.count c.deref.ensures.value c.deref-2.ensures.value c.requires.size c.requires.spots c.in_ok-copy_ends.ensures.ends
 
 pub search-requires-clause-tos : goal.search-requires-clause-tos
 search-requires-clause-tos g c =
-    tos_within c.args.section.now c.args.numbered.now.spots.items c.deref.result.now c.in_ok-ends.ends.froms.items c.in_ok-ends.ends.tos.items c.deref-3.result.now c.args.numbered.now.count c.deref.ensures.value c.deref-3.ensures.value c.requires.size c.requires.spots c.in_ok-ends.ensures.ends
+    tos_within c.args.section.now c.args.numbered.now.spots.items c.deref.result.now c.copy_ends.new.ends.froms.items c.copy_ends.new.ends.tos.items c.deref-3.result.now c.args.numbered.now.count c.deref.ensures.value c.deref-3.ensures.value c.requires.size c.requires.spots c.in_ok-copy_ends.ensures.ends
 
 pub returns-clause-explored : goal.returns-clause-explored
 returns-clause-explored g c =
-    explored_so c.args.section.now c.args.numbered.now.spots.items c.deref.result.now c.in_ok-ends.ends.froms.items c.deref-2.result.now c.in_ok-ends.ends.tos.items c.deref-3.result.now (search_of c.in_ok-found.found) c.args.numbered.now.count
-    c.deref.ensures.value c.deref-2.ensures.value c.deref-3.ensures.value c.in_ok-ends.ensures.ends c.in_ok-found.ensures.search c.in_ok-found.ensures.closed
+    explored_so c.args.section.now c.args.numbered.now.spots.items c.deref.result.now c.copy_ends.new.ends.froms.items c.deref-2.result.now c.copy_ends.new.ends.tos.items c.deref-3.result.now (search_of c.search.new.found) c.args.numbered.now.count
+    c.deref.ensures.value c.deref-2.ensures.value c.deref-3.ensures.value c.in_ok-copy_ends.ensures.ends c.in_ok-search.ensures.search c.in_ok-search.ensures.closed

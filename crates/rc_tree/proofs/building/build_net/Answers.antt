@@ -19,4 +19,4 @@ branched-requires-clause-fit g c =
 
 pub branched-requires-clause-numbered : goal.branched-requires-clause-numbered
 branched-requires-clause-numbered g c =
-    numbered_all c.args.section.now c.args.pins.now c.in-Ok.table c.number_section.new.table c.in-Ok-number_section.spots.items c.len.result c.in-Ok.ensures c.in-Ok-number_section.ensures.nodes c.len.ensures.apart c.len.ensures.len c.in-Ok-number_section.ensures.spots
+    numbered_all c.args.section.now c.args.pins.now c.in-Ok.table c.number_section.new.table c.number_section.new.spots.items c.len-workspace.result c.in-Ok.ensures c.in-Ok-number_section.ensures.nodes c.len-workspace.ensures.apart c.len-workspace.ensures.len c.in-Ok-number_section.ensures.spots

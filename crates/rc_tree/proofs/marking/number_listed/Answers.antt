@@ -1,5 +1,5 @@
 use Rattle.std.proofs.lemmas.Option.{slice_get-get_or, get_or_from_slice_get}
-use Rattle.std.proofs.Common.{replicate, sym, ap, subst, ◌∙◌, [], map}
+use Rattle.std.proofs.Common.{◌≡◌, replicate, sym, ap, subst, [], map}
 use Rattle.rc_tree.specs.Nodes.{node_of, with_node, with_nodes}
 use Rattle.rc_tree.specs.ListedPins.{no_name, no_conn, conn_name, listed_pins}
 use Rattle.rc_tree.specs.Marking.{Marked}
@@ -10,8 +10,8 @@ use Rattle.rc_tree.proofs.marking.number_listed.Goals as goal
 pub returns : goal.returns
 returns g c =
     let pins = listed_pins g.C.CornerSet.COUNT c.args.section.now c.args.pins.now.driver in
-    let start = none_marked 4294967295 c.args.section.now.nodes c.in_ok-filled.field-0.items (c.in_ok-filled.ensures ∙ ap (λ n. replicate n 4294967295) c.node_count.ensures) in
-    let first = mark_step 4294967295 c.args.section.now.nodes [] c.conn.result.node (conn_name c.args.section.now c.conn.result) c.in_ok-filled.field-0.items c.mark.new.numbered.spots.items 0 c.mark.new.numbered.count
+    let start = none_marked 4294967295 c.args.section.now.nodes c.refill.new.values.items (subst (λ n. c.refill.new.values.items ≡ replicate n 4294967295) c.node_count.ensures c.in_ok-refill.ensures) in
+    let first = mark_step 4294967295 c.args.section.now.nodes [] c.conn.result.node (conn_name c.args.section.now c.conn.result) c.refill.new.values.items c.mark.new.numbered.spots.items 0 c.mark.new.numbered.count
     c.distinct.ensures (slice_get-get_or c.args.section.now.nodes c.conn.result.node no_name c.conn.ensures.node) c.in_ok-mark.ensures start in
     let driver = subst (λ name. Marked 4294967295 c.args.section.now.nodes (with_node [] (node_of name)) c.mark.new.numbered.spots.items c.mark.new.numbered.count)
     (sym (ap (conn_name c.args.section.now) (get_or_from_slice_get c.args.section.now.conns c.args.pins.now.driver c.conn.result no_conn c.conn.ensures.conn))) first in

@@ -4,6 +4,6 @@ use Rattle.rc_tree.proofs.numbering.copy_ends.Given as goal
 
 abbrev pub invariant-loop-place : goal.invariant-loop-place
 invariant-loop-place g l = record {
-  ends : Copying l.section l.spots l.froms.items l.tos.items l.place;
+  ends : Copying l.section l.spots l.ends.froms.items l.ends.tos.items l.place;
   steps : l.steps ≤ l.fn.steps + l.place;
 }

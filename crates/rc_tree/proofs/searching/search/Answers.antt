@@ -7,9 +7,9 @@ use Rattle.rc_tree.proofs.searching.search.Goals as goal
 -- src/searching.rt
 pub loop-place-init : goal.loop-place-init
 loop-place-init c =
-    let ensures = c.in_ok-found.ensures in
-    searching_start c.args.nodes c.args.froms.now c.args.tos.now (search_of c.in_ok-found.found)
-    (search_start c.args.nodes c.args.froms.now c.args.tos.now (search_of c.in_ok-found.found) c.requires.some ensures.order ensures.parents ensures.vias ensures.numbers ensures.links)
+    let ensures = c.in_ok-start.ensures in
+    searching_start c.args.nodes c.args.froms.now c.args.tos.now (search_of c.start.new.found)
+    (search_start c.args.nodes c.args.froms.now c.args.tos.now (search_of c.start.new.found) c.requires.some ensures.order ensures.parents ensures.vias ensures.numbers ensures.links)
 
 pub loop-place-preserved : goal.loop-place-preserved
 loop-place-preserved c =

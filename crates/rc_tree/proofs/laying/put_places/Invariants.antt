@@ -1,5 +1,5 @@
 use Rattle.std.proofs.Common.{◌≡◌, ℕ, ◌-◌, ◌<◌, length, slice_index}
-use Rattle.rc_tree.proofs.laying.places_of.Given as goal
+use Rattle.rc_tree.proofs.laying.put_places.Given as goal
 
 -- the places so far
 abbrev pub invariant-loop-k : goal.invariant-loop-k
