@@ -7,10 +7,10 @@ ghost use Rattle.spef_nets.specs.Refs.{IsInterned};
 
 use crate::name_hash::NameHash;
 use crate::pushing::{emptied, emptied_table, push};
-use crate::spellings::are_equal;
 use edge_io::OutOfMemory;
 use indexmap::IndexSet;
 use name_table::{NodeName, WrittenName};
+use spef_text::are_equal;
 use std::alloc::Global;
 use std::borrow::CowSlice;
 use std::hash::{Hash, Hasher};

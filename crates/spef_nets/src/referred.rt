@@ -12,9 +12,9 @@ use crate::marks::Mark;
 use crate::node_table::{NodeKey, NodeTable};
 use crate::node_tokens::NodeTokens;
 use crate::pushing::{emptied, kept, push};
-use crate::spellings::{Spellings, are_equal};
+use crate::spellings::Spellings;
 use edge_io::{OutOfMemory, Text};
-use spef_text::{Head, SpefFile};
+use spef_text::{Head, SpefFile, are_equal};
 use std::alloc::Global;
 
 /// The lists of the references of a section, which are used again for the next one. What they hold then does not count.

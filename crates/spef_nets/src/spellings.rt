@@ -1,10 +1,11 @@
 //! The spellings of references, each numbered by its first place.
-ghost use Rattle.std.specs.Prelude.{◌≡◌, ◌≢◌, ℕ, ◌+◌, ◌<◌, false, true, [], ◌∷◌, ◌++◌, List, length, map, slice_get, Some, Contains, bytes_eq, IfOk, OnOk, OnErr, IfSome, IfNone};
+ghost use Rattle.std.specs.Prelude.{◌≡◌, ℕ, ◌+◌, ◌<◌, false, true, [], ◌∷◌, ◌++◌, List, length, map, slice_get, Some, Contains, IfOk, OnOk, OnErr, IfSome, IfNone};
 
 use crate::name_hash::NameHash;
 use crate::pushing::{emptied, emptied_table};
 use edge_io::OutOfMemory;
 use indexmap::IndexSet;
+use spef_text::are_equal;
 use std::alloc::Global;
 use std::marker::Model;
 
@@ -132,32 +133,6 @@ fn stands_at(words: &IndexSet<&[u8], NameHash>, number: usize, word: &[u8]) -> b
     match words.get_index(number) {
         Some(held) => are_equal(held, word),
         None => false,
-    }
-}
-
-// Whether two short words are equal, byte by byte: for those this takes half of the time of the comparison of slices. Most spellings of a net
-// differ in their last byte, which is looked at first.
-pub fn are_equal(one: &[u8], other: &[u8]) -> bool
-    ensures { result ≡ bytes_eq one.now other.now }
-{
-    if one.len() != other.len() || !end_alike(one, other) {
-        return false;
-    }
-    for (byte, twin) in one.iter().zip(other) {
-        if *byte != *twin {
-            return false;
-        }
-    }
-    true
-}
-
-// Whether the last bytes are equal.
-fn end_alike(one: &[u8], other: &[u8]) -> bool
-    ensures { result ≡ false → one.now ≢ other.now }
-{
-    match (one.last(), other.last()) {
-        (Some(one), Some(other)) => *one == *other,
-        _ => true,
     }
 }
 
