@@ -9,7 +9,7 @@ use Rattle.std.proofs.lemmas.Option.{slice_get_within, slice_get_read}
 use Rattle.name_table.specs.declared.spef_names.NodeName.{NodeName}
 use Rattle.spef_text.specs.SpefFiles.{SpefText}
 use Rattle.spef_nets.specs.Nodes.{Key, key_of, same_key, among, named}
-use Rattle.spef_nets.specs.Refs.{IsInterned, Refs, no_refs, ArePlaced, new_mark, with_word, IsPut, held, added, IsMarked, with_mark, listed_mark, joined_mark, numbered_mark, with_number, IsSpelled, IsMark, AreRefs}
+use Rattle.spef_nets.specs.Refs.{IsInterned, Refs, no_refs, ArePlaced, new_mark, with_word, IsPut, held, added, IsFound, stands, IsMarked, with_mark, listed_mark, joined_mark, numbered_mark, with_number, IsSpelled, IsMark, AreRefs}
 use Rattle.spef_nets.specs.declared.marks.Mark.{Mark}
 pub use Rattle.spef_nets.specs.SameKeys.{same_key_is, key_is_same}
 use Rattle.spef_nets.proofs.Lists.{get_left, get_last, get_push, get_set, length_set, all_at, map_at}
@@ -415,6 +415,14 @@ place_within_marks refs word place within placed at =
     all_at (λ p. p < length refs.marks) refs.places word place placed first
 
 -- how a new word changes the references
+abbrev pub with_keys : Refs → List Key → Refs
+with_keys refs keys = record { file = refs.file; words = refs.words; places = refs.places; names = refs.names; keys = keys; marks = refs.marks; nodes = refs.nodes }
+
+pub stays : (net : List ℕ) (refs : Refs) (word : List ℕ) (node : NodeName) (place : ℕ) (keys : List Key) (after : Refs) (number : ℕ) → length refs.marks ≡ length refs.keys
+    → IsInterned refs.keys keys (key_of node) place → place < length refs.marks → slice_get refs.words number ≡ Some word → after ≡ with_keys refs keys → IsFound net refs after word node number
+stays net refs word node place keys after number same (held stay at) within stood is = stands stood (is ∙ ap (with_keys refs) stay)
+stays net refs word node place keys after number same (added grows at absent) within stood is = absurd (omega (arith, at, within, same))
+
 pub puts : (net : List ℕ) (refs : Refs) (word : List ℕ) (node : NodeName) (place : ℕ) (keys : List Key) (marks : List Mark) (after : Refs) → length refs.marks ≡ length refs.keys
     → IsInterned refs.keys keys (key_of node) place
     → (place ≡ length refs.marks → marks ≡ refs.marks ++ new_mark net node ∷ []) → (place < length refs.marks → marks ≡ refs.marks)

@@ -9,7 +9,7 @@ use Rattle.name_table.specs.declared.spef_names.NodeName.{NodeName}
 use Rattle.spef_text.specs.SpefFiles.{SpefText}
 use Rattle.spef_text.specs.Heads.{text_of}
 use Rattle.spef_nets.specs.Nodes.{Key, key_of, among, named, node_at, nodes_at}
-use Rattle.spef_nets.specs.Refs.{Refs, IsNamed, IsPut, held, added, Lists, AreRefs, IsRef, Grows, keys_at, res_keys}
+use Rattle.spef_nets.specs.Refs.{Refs, IsNamed, IsPut, held, added, IsFound, stands, newest, Lists, AreRefs, IsRef, Grows, keys_at, res_keys}
 use Rattle.spef_nets.specs.Drafts.{Refers, stood, put, unknown, JoinsBy, JoinsAt, AllJoined, AreJoined}
 use Rattle.spef_nets.specs.declared.parts.Joined.{Joined}
 use Rattle.spef_text.specs.declared.entries.Res.{Res}
@@ -31,6 +31,12 @@ grows_more one two three (a, e) (b, f) = (a ++ b, f ∙ ap (λ l. l ++ b) e ∙ 
 pub still_ref : (file : SpefText) (old new : List (List ℕ)) (token : ℕ) (word : Option ℕ) → Grows old new → IsRef file old token word → IsRef file new token word
 still_ref file old new token None grows is = is
 still_ref file old new token (Some number) (more, e) is = ap (λ l. slice_get l number) e ∙ get_left old more number (text_of file token) is
+
+-- a word that was found or put refers to its node
+pub refers_found : (file : SpefText) (net : List ℕ) (token : ℕ) (old new : Refs) (node : NodeName) (number : ℕ) → named file true (text_of file token) ≡ Some node → IsFound net old new (text_of file token) node number
+    → Refers file net token old new (Some number)
+refers_found file net token old new node number names_it (stands at same) = stood at same
+refers_found file net token old new node number names_it (newest count is) = put node names_it count is
 
 put_words : (net : List ℕ) (old new : Refs) (word : List ℕ) (node : NodeName) → IsPut net old new word node → new.words ≡ old.words ++ word ∷ []
 put_words net old new word node (held place at is) = ap (λ (r : Refs). r.words) is

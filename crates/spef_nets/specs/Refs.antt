@@ -54,6 +54,11 @@ pub data IsPut (net : List ℕ) (old new : Refs) (word : List ℕ) (node : NodeN
       → new ≡ with_word old word (length old.keys) node (old.keys ++ key_of node ∷ []) (old.marks ++ new_mark net node ∷ [])
       → IsPut net old new word node
 
+-- A word that names the node was looked up: it has this number, or was put at the end.
+pub data IsFound (net : List ℕ) (old new : Refs) (word : List ℕ) (node : NodeName) (number : ℕ) : Type 0 where
+  stands : slice_get old.words number ≡ Some word → new ≡ old → IsFound net old new word node number
+  newest : number ≡ length old.words → IsPut net old new word node → IsFound net old new word node number
+
 -- the node of a word has this place and this mark
 pub record IsMarked (refs : Refs) (word place : ℕ) (mark : Mark) : Type 0 where
   pub placed : slice_get refs.places word ≡ Some place

@@ -19,6 +19,9 @@ use std::marker::Model;
 /// So many nodes stand in a list, which is searched through; those behind them stand in a table.
 const FEW: usize = 8;
 
+/// Where so many nodes are to come, all of them stand in the table.
+const MANY: usize = 48;
+
 /// What makes a node the one that it is: its head and its tail, however they are written. Of most nodes both stand in the file, and
 /// nothing is copied. Contracts see the two.
 #[derive(Drop)]
@@ -135,6 +138,8 @@ pub struct NodeTable<'r> {
     few: Vec<NodeKey<'r>>,
     // those behind the few
     keys: IndexSet<NodeKey<'r>, NameHash>,
+    // how many may stand in the list: none where many are to come
+    most: usize,
 }
 
 impl<'r> Model for NodeTable<'r> {
@@ -154,6 +159,7 @@ impl<'r> NodeTable<'r> {
         NodeTable {
             few: Vec::new(alloc),
             keys: IndexSet::with_hasher(alloc, NameHash::default()),
+            most: FEW,
         }
     }
 
@@ -161,10 +167,16 @@ impl<'r> NodeTable<'r> {
     pub fn emptied(self, alloc: Global, many: usize) -> Result<NodeTable<'r>, OutOfMemory>
         ensures { IfOk result (λ table. table ≡ []) }
     {
-        let NodeTable { few, keys } = self;
-        let few = emptied(few, many.min(FEW))?;
-        let keys = emptied_table(alloc, keys, many.saturating_sub(FEW))?;
-        Ok(NodeTable { few, keys })
+        let NodeTable { few, keys, most: _ } = self;
+        let (most, room) = if many < MANY { (FEW, 0) } else { (0, many) };
+        let few = emptied(few, most)?;
+        let keys = emptied_table(alloc, keys, room)?;
+        Ok(NodeTable { few, keys, most })
+    }
+
+    /// Whether all nodes stand in the list.
+    pub fn are_few(&self) -> bool {
+        self.keys.is_empty()
     }
 
     /// The place of a node: its own where it is held, and else a new last one. It is one look-up.
@@ -175,7 +187,7 @@ impl<'r> NodeTable<'r> {
             return Ok(place);
         }
         let few = self.few.len();
-        if few < FEW && self.keys.is_empty() {
+        if few < self.most && self.keys.is_empty() {
             push(&mut self.few, key)?;
             return Ok(few);
         }

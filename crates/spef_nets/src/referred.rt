@@ -1,10 +1,10 @@
 //! The nodes that a section refers to, and which of them belong to it.
-ghost use Rattle.std.specs.Prelude.{◌≡◌, ◌<◌, false, [], ◌∷◌, ◌++◌, length, slice_get, Some, None, Contains, IfOk, OnOk, IfSome, IfNone, option_to_list};
+ghost use Rattle.std.specs.Prelude.{◌≡◌, ◌<◌, false, [], ◌∷◌, ◌++◌, length, slice_get, Some, None, IfOk, OnOk, IfSome};
 ghost use Rattle.name_table.specs.declared.spef_names.NodeName.{NodeName};
 ghost use Rattle.spef_text.specs.Heads.{IsHeadOf};
 ghost use Rattle.spef_nets.specs.Nodes.{node_at};
 ghost use Rattle.spef_nets.specs.NodeKeys.{IsKeyAt};
-ghost use Rattle.spef_nets.specs.Refs.{no_refs, ArePlaced, IsNamed, IsPut, Belongs, Joins, Lists, Numbers};
+ghost use Rattle.spef_nets.specs.Refs.{no_refs, ArePlaced, IsNamed, IsFound, Belongs, Joins, Lists, Numbers};
 ghost use Rattle.spef_nets.specs.RefsOf.{refs_of};
 ghost use Rattle.spef_nets.specs.Drafts.{BelongsBy};
 
@@ -25,6 +25,7 @@ pub struct RefLists<'r> {
     tokens: Vec<u32>,
     table: NodeTable<'r>,
     marks: Vec<Mark>,
+    latest: Vec<u32>,
 }
 
 impl<'r> RefLists<'r> {
@@ -36,6 +37,7 @@ impl<'r> RefLists<'r> {
             tokens: Vec::new(alloc),
             table: NodeTable::new(alloc),
             marks: Vec::new(alloc),
+            latest: Vec::new(alloc),
         }
     }
 }
@@ -50,6 +52,8 @@ pub struct Referred<'r, 'f> {
     table: NodeTable<'r>,
     // of each node
     marks: Vec<Mark>,
+    // of each node the number of its latest spelling
+    latest: Vec<u32>,
     // the nodes with a number
     nodes: NodeTokens<'r, 'f>,
 }
@@ -72,46 +76,69 @@ impl<'r, 'f> Referred<'r, 'f> {
             tokens,
             table,
             marks,
+            latest,
         } = lists;
         Ok(Referred {
-            words: words.emptied(alloc, nodes)?,
+            words: words.emptied(nodes)?,
             places: emptied(places, nodes)?,
             tokens: emptied(tokens, nodes)?,
             table: table.emptied(alloc, nodes)?,
             marks: emptied(marks, nodes)?,
+            latest: emptied(latest, nodes)?,
             nodes: NodeTokens::with_room(alloc, file, head, nodes)?,
         })
     }
 
-    /// The number of a spelling that stood before.
+    /// The number of a spelling that stood before, where it is found at once.
     pub fn find(&mut self, word: &[u8]) -> Option<usize>
         ensures found { IfSome result (λ number. slice_get (refs_of self.old).words number ≡ Some word.now) }
-        ensures absent { IfNone result (¬ Contains (refs_of self.old).words word.now) }
         ensures same { refs_of self.new ≡ refs_of self.old }
     {
         self.words.find(word)
     }
 
-    /// Puts a spelling at the end that did not stand before, which is that of a token, and the key of the node that it names.
+    /// The number of a spelling, which is that of a token: its own where the node that it names was spelled so last, and else that of a
+    /// new last one. This is the key of the node.
     pub fn put(
         &mut self,
         word: &'r [u8],
         token: u64,
         key: NodeKey<'r>,
         net: &Text,
-    ) -> Result<(), OutOfMemory>
-        requires absent { ¬ Contains (refs_of self.old).words word.now }
+    ) -> Result<usize, OutOfMemory>
         requires marked { length (refs_of self.old).marks ≡ length (refs_of self.old).keys }
         requires key { IsKeyAt (refs_of self.old).file token (Some key) }
-        ensures { (node : NodeName) → node_at (refs_of self.old).file token ≡ Some node → OnOk result (IsPut net.now (refs_of self.old) (refs_of self.new) word.now node) }
+        ensures { (node : NodeName) → node_at (refs_of self.old).file token ≡ Some node → IfOk result (IsFound net.now (refs_of self.old) (refs_of self.new) word.now node) }
     {
         let belongs = are_equal(net.bytes(), key.head());
         let place = self.table.intern(key)?;
+        if let Some(spelling) = self.spelled(place, word) {
+            return Ok(spelling);
+        }
+        let spelling = self.words.len();
         mark_new(&mut self.marks, place, belongs)?;
+        mark_latest(&mut self.latest, place, kept(spelling)?)?;
         push(&mut self.places, kept(place)?)?;
         push(&mut self.tokens, kept(token as usize)?)?;
         self.words.add(word)?;
-        Ok(())
+        Ok(spelling)
+    }
+
+    // The number of a spelling, where the node at this place was spelled so last.
+    fn spelled(&mut self, place: usize, word: &[u8]) -> Option<usize>
+        ensures within { IfSome result (λ _. place < length (refs_of self.old).marks) }
+        ensures found { IfSome result (λ number. slice_get (refs_of self.old).words number ≡ Some word.now) }
+        ensures same { refs_of self.new ≡ refs_of self.old }
+    {
+        if place >= self.marks.len() {
+            return None;
+        }
+        let spelling = *self.latest.get(place)? as usize;
+        if self.words.find_at(spelling, word) {
+            Some(spelling)
+        } else {
+            None
+        }
     }
 
     /// How many spellings there are.
@@ -208,15 +235,17 @@ impl<'r, 'f> Referred<'r, 'f> {
             tokens,
             table,
             marks,
+            latest,
             nodes,
         } = self;
-        if words.are_few() {
+        if table.are_few() {
             *lists = RefLists {
                 words,
                 places,
                 tokens,
                 table,
                 marks,
+                latest,
             };
         }
         nodes
@@ -237,4 +266,14 @@ fn mark_new(marks: &mut Vec<Mark>, place: usize, belongs: bool) -> Result<(), Ou
         push(marks, mark)?;
     }
     Ok(())
+}
+
+// Keeps the latest spelling of a node.
+fn mark_latest(latest: &mut Vec<u32>, place: usize, spelling: u32) -> Result<(), OutOfMemory> {
+    if place < latest.len() {
+        latest[place] = spelling;
+        Ok(())
+    } else {
+        push(latest, spelling)
+    }
 }

@@ -93,11 +93,7 @@ impl<'r, 'f> Source<'r, 'f> {
         match refs.find(word) {
             Some(spelling) => Ok(Some(spelling)),
             None => match self.key_at(token)? {
-                Some(key) => {
-                    let spelling = refs.len();
-                    refs.put(word, token, key, net)?;
-                    Ok(Some(spelling))
-                }
+                Some(key) => Ok(Some(refs.put(word, token, key, net)?)),
                 None => Ok(None),
             },
         }

@@ -1,8 +1,7 @@
-use Rattle.std.proofs.Common.{sym, ◌∙◌}
-use Rattle.std.proofs.lemmas.Slice.Eq.{bytes_eq-Decides}
-use Rattle.spef_nets.proofs.KeyLemmas.{stands_is}
+use Rattle.std.proofs.Common.{sym, ◌∙◌, arith}
+use Rattle.spef_nets.proofs.FewLemmas.{found_among}
 use Rattle.spef_nets.proofs.spellings.stands_at.Goals as goal
 
 -- src/spellings.rt
-pub returns-in-Some : goal.returns-in-Some
-returns-in-Some c = λ same. stands_is c.args.words.now.keys c.args.number c.in-Some.held.now c.args.word.now c.in-Some.ensures.key ((bytes_eq-Decides c.in-Some.held.now.now c.args.word.now).0 (sym c.are_equal.ensures ∙ same))
+pub returns-then-number-words : goal.returns-then-number-words
+returns-then-number-words c = λ same. found_among c.args.words.now c.args.number _ c.args.word.now (omega arith) (sym c.are_equal.ensures ∙ same)

@@ -1,35 +1,56 @@
 use Rattle.spef_nets.specs.RefsOf.{refs_of}
-use Rattle.std.proofs.Common.{◌≡◌, ap, sym, subst, ◌∙◌, rules, [], ◌∷◌, ◌++◌, map, false}
+use Rattle.std.proofs.Common.{◌≡◌, ◌<◌, ap, sym, subst, ◌∙◌, rules, List, ℕ, [], ◌∷◌, ◌++◌, length, map, false}
 use Rattle.std.specs.Prelude.{Option, Some, None}
 use Rattle.std.proofs.lemmas.List.{map_push}
 use Rattle.name_table.specs.declared.spef_names.NodeName.{NodeName}
+use Rattle.spef_text.specs.SpefFiles.{SpefText}
 use Rattle.spef_nets.specs.Nodes.{Key, key_of, node_at}
-use Rattle.spef_nets.specs.Refs.{IsInterned}
+use Rattle.spef_nets.specs.NodeKeys.{IsKeyAt}
+use Rattle.spef_nets.specs.Refs.{Refs, IsInterned, newest}
+use Rattle.spef_nets.specs.declared.marks.Mark.{Mark}
 use Rattle.std.specs.Str.{bytes_eq}
-use Rattle.spef_nets.proofs.RefLemmas.{puts}
+use Rattle.spef_nets.proofs.RefLemmas.{puts, stays}
 use Rattle.spef_nets.proofs.referred.Referred.put.Goals as goal
 
-pub returns : goal.returns
-returns c node names =
-    let file = c.args.self.now.nodes.file in
-    let (its, named, key_is) = c.requires.key in
-    let one : its ≡ node = some_is its node (sym named ∙ names) in
-    let key : c.args.key ≡ key_of node = key_is ∙ ap key_of one in
-    let same : c.are_equal-belongs.result ≡ bytes_eq c.args.net.now c.args.key.head = search rules in
-    puts c.args.net.now (refs_of c.args.self.now) c.args.word.now node c.in_ok-place.place c.intern.new.self c.mark_new.new.marks.items
-    (refs_of (record { words = c.add.new.self; places = c.push.new.items; tokens = c.push-2.new.items; table = c.intern.new.self; marks = c.mark_new.new.marks; nodes = c.args.self.now.nodes }))
-    c.requires.marked (subst (λ (k : Key). IsInterned c.args.self.now.table c.intern.new.self k c.in_ok-place.place) key c.in_ok-place.ensures)
-    (λ e. c.in_ok-mark_new.ensures.added e ∙ ap (λ b. c.args.self.now.marks.items ++ record { listed = false; belongs = b; number = None } ∷ []) (same ∙ ap (λ (k : Key). bytes_eq c.args.net.now k.head) key))
-    (λ e. c.in_ok-mark_new.ensures.held e)
-    (λ i. record {
-      file = file;
-      words = c.in_ok-add.ensures.added i;
-      places = (c.in_ok-push.ensures ∙ ap (λ n. c.args.self.now.places.items ++ n ∷ []) c.in_ok-kept.ensures) i;
-      names = (ap (map (node_at file)) c.in_ok-push-2.ensures ∙ map_push (node_at file) c.args.self.now.tokens.items c.in_ok-kept-2.field-0 ∙ ap (λ (n : Option NodeName). map (node_at file) c.args.self.now.tokens.items ++ n ∷ []) (ap (node_at file) c.in_ok-kept-2.ensures ∙ names)) i;
-      keys = c.intern.new.self;
-      marks = c.mark_new.new.marks.items;
-      nodes = c.args.self.now.nodes.nodes;
-    })
+-- the key is that of the node that the token names
+key_is : (file : SpefText) (token : ℕ) (key : Key) (node : NodeName) → IsKeyAt file token (Some key) → node_at file token ≡ Some node → key ≡ key_of node
+key_is file token key node (its, named, is) names = is ∙ ap key_of (some_is its node (sym named ∙ names))
   where
     some_is : (a b : NodeName) → Some a ≡ Some b → a ≡ b
     some_is a b e = cc
+
+-- src/referred.rt
+pub returns-in-Some : goal.returns-in-Some
+returns-in-Some c node names =
+    let key : c.args.key ≡ key_of node = key_is c.args.self.now.nodes.file c.args.token c.args.key node c.requires.key names in
+    stays c.args.net.now (refs_of c.args.self.now) c.args.word.now node c.in_ok-place.place c.intern.new.self (refs_of c.spelled.new.self) c.in-Some.spelling c.requires.marked
+    (subst (λ (k : Key). IsInterned c.args.self.now.table c.intern.new.self k c.in_ok-place.place) key c.in_ok-place.ensures)
+    c.in-Some.ensures.within c.in-Some.ensures.found c.in-Some.ensures.same
+
+pub returns : goal.returns
+returns c node names =
+    let seen = c.spelled.ensures.same in
+    let file = c.spelled.new.self.nodes.file in
+    let tokens = c.spelled.new.self.tokens.items in
+    let file_is : file ≡ c.args.self.now.nodes.file = ap (λ (r : Refs). r.file) seen in
+    let marks_are : c.spelled.new.self.marks.items ≡ c.args.self.now.marks.items = ap (λ (r : Refs). r.marks) seen in
+    let key : c.args.key ≡ key_of node = key_is c.args.self.now.nodes.file c.args.token c.args.key node c.requires.key names in
+    let same : c.are_equal-belongs.result ≡ bytes_eq c.args.net.now c.args.key.head = search rules in
+    let count : c.len-spelling.result ≡ length c.args.self.now.words = c.len-spelling.ensures ∙ ap (λ (r : Refs). length r.words) seen in
+    newest count
+    (puts c.args.net.now (refs_of c.args.self.now) c.args.word.now node c.in_ok-place.place c.intern.new.self c.mark_new.new.marks.items
+    (refs_of (record { words = c.add.new.self; places = c.push.new.items; tokens = c.push-2.new.items; table = c.spelled.new.self.table; marks = c.mark_new.new.marks; latest = c.mark_latest.new.latest; nodes = c.spelled.new.self.nodes }))
+    c.requires.marked (subst (λ (k : Key). IsInterned c.args.self.now.table c.intern.new.self k c.in_ok-place.place) key c.in_ok-place.ensures)
+    (λ e. c.in_ok-mark_new.ensures.added (e ∙ sym (ap length marks_are)) ∙ ap (λ (l : List Mark). l ++ record { listed = false; belongs = c.are_equal-belongs.result; number = None } ∷ []) marks_are ∙ ap (λ b. c.args.self.now.marks.items ++ record { listed = false; belongs = b; number = None } ∷ []) (same ∙ ap (λ (k : Key). bytes_eq c.args.net.now k.head) key))
+    (λ e. c.in_ok-mark_new.ensures.held (subst (λ (l : List Mark). c.in_ok-place.place < length l) (sym marks_are) e) ∙ marks_are)
+    (λ i. record {
+      file = file_is i;
+      words = (c.in_ok-add.ensures.added ∙ ap (λ (r : Refs). r.words ++ c.args.word.now ∷ []) seen) i;
+      places = (c.in_ok-push.ensures ∙ ap (λ n. c.spelled.new.self.places.items ++ n ∷ []) c.in_ok-kept-2.ensures ∙ ap (λ (r : Refs). r.places ++ c.in_ok-place.place ∷ []) seen) i;
+      names = (ap (map (node_at file)) c.in_ok-push-2.ensures ∙ map_push (node_at file) tokens c.in_ok-kept-3.field-0
+          ∙ ap (λ (n : Option NodeName). map (node_at file) tokens ++ n ∷ []) (ap (node_at file) c.in_ok-kept-3.ensures ∙ ap (λ (f : SpefText). node_at f c.args.token) file_is ∙ names)
+          ∙ ap (λ (r : Refs). r.names ++ Some node ∷ []) seen) i;
+      keys = (ap (λ (r : Refs). r.keys) seen) i;
+      marks = c.mark_new.new.marks.items;
+      nodes = (ap (λ (r : Refs). r.nodes) seen) i;
+    }))

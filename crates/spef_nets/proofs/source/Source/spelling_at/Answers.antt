@@ -1,12 +1,13 @@
-use Rattle.std.proofs.Common.{◌≡◌, sym, ap, ◌∙◌, subst, List, ℕ, length}
+use Rattle.std.proofs.Common.{◌≡◌, sym, ap, ◌∙◌, subst, List, ℕ}
 use Rattle.std.specs.Prelude.{Some}
 use Rattle.spef_text.specs.SpefFiles.{SpefText}
 use Rattle.spef_text.specs.Heads.{text_of}
 use Rattle.spef_nets.specs.Nodes.{node_at}
 use Rattle.spef_nets.specs.NodeKeys.{IsKeyAt}
-use Rattle.spef_nets.specs.Refs.{Refs, IsPut}
+use Rattle.spef_nets.specs.Refs.{Refs, IsFound}
 use Rattle.spef_nets.specs.RefsOf.{refs_of}
-use Rattle.spef_nets.specs.Drafts.{stood, put, unknown}
+use Rattle.spef_nets.specs.Drafts.{stood, unknown}
+use Rattle.spef_nets.proofs.Referring.{refers_found}
 use Rattle.spef_nets.proofs.source.Source.spelling_at.Goals as goal
 
 -- src/source.rt
@@ -27,9 +28,9 @@ pub returns-in_ok-put-in-Some-2 : goal.returns-in_ok-put-in-Some-2
 returns-in_ok-put-in-Some-2 c =
     let (node, named, key_is) = subst (IsKeyAt c.args.self.now.file.now c.args.token) c.in-Some-2.is c.in_ok-key-in-None.ensures in
     let file_is = ap (λ (r : Refs). r.file) c.find.ensures.same ∙ c.requires.refs.2.of_file in
-    put node named (c.len-spelling.ensures ∙ ap (λ (r : Refs). length r.places) c.find.ensures.same ∙ c.requires.refs.2.words_placed)
-    (subst (λ (old : Refs). IsPut c.args.net.now old (refs_of c.put.new.self) (text_of c.args.self.now.file.now c.args.token) node) c.find.ensures.same
-    (subst (λ (word : List ℕ). IsPut c.args.net.now (refs_of c.find.new.self) (refs_of c.put.new.self) word node) c.text_of-word.ensures
+    refers_found c.args.self.now.file.now c.args.net.now c.args.token (refs_of c.args.refs.now) (refs_of c.put.new.self) node c.in_ok-put-in-Some-2.field-0 named
+    (subst (λ (old : Refs). IsFound c.args.net.now old (refs_of c.put.new.self) (text_of c.args.self.now.file.now c.args.token) node c.in_ok-put-in-Some-2.field-0) c.find.ensures.same
+    (subst (λ (word : List ℕ). IsFound c.args.net.now (refs_of c.find.new.self) (refs_of c.put.new.self) word node c.in_ok-put-in-Some-2.field-0) c.text_of-word.ensures
     (c.in_ok-put-in-Some-2.ensures node (ap (λ (file : SpefText). node_at file c.args.token) file_is ∙ named))))
 
 pub returns-in-None-2 : goal.returns-in-None-2
