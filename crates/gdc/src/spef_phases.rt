@@ -128,6 +128,7 @@ fn draw_sections<L: Ledger>(
             &mut rows,
             steps,
         )?;
+        reader.reuse(net);
     }
     match refused {
         Some(refusal) => Err(PureEnd::Refused(refusal)),

@@ -1,5 +1,5 @@
 -- What the fields of `Elements` are.
-use Rattle.std.specs.Prelude.{ℕ, List}
+use Rattle.std.specs.Prelude.{ℕ, List, []}
 use Rattle.name_table.specs.declared.spef_names.NodeName.{NodeName}
 use Rattle.spef_nets.specs.NetElements.{NetElements}
 use Rattle.spef_nets.specs.declared.elements.Elements.{Elements}
@@ -17,3 +17,7 @@ net_of net nodes elements = record {
   ohms = elements.ohms.items;
   written = elements.written;
 }
+
+-- the net of a name with no element
+abbrev pub no_elements : List ℕ → NetElements
+no_elements net = record { net = net; nodes = []; conns = []; loads = []; caps = []; farads = []; joints = []; ohms = []; written = 0 }

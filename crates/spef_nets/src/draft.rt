@@ -10,8 +10,9 @@ ghost use Rattle.spef_nets.specs.DraftOf.{drafted};
 use crate::amounts::Grains;
 use crate::elements::Elements;
 use crate::parts::{Ends, Listed};
-use crate::pushing::push;
+use crate::pushing::{emptied, push};
 use crate::referred::{RefLists, Referred};
+use crate::section_lists::SectionLists;
 use crate::source::Source;
 use crate::spelled_section::SpelledSection;
 use corner_set::{CornerSet, Pick};
@@ -85,27 +86,37 @@ impl<'r, 'f> Draft<'r, 'f> {
     /// No element, with room for so many connections, capacitances and resistors. The lists are taken, until the section is made.
     pub fn with_room<C: CornerSet>(
         source: &Source<'r, 'f>,
-        lists: &mut RefLists<'r>,
+        lists: &mut SectionLists<'r>,
         net: Text,
-        conns: usize,
-        caps: usize,
-        ress: usize,
+        conn_count: usize,
+        cap_count: usize,
+        res_count: usize,
     ) -> Result<Draft<'r, 'f>, OutOfMemory>
         requires { IsHeadOf source.now.file.now source.now.head.now }
         ensures { IfOk result (λ draft. drafted draft ≡ no_draft source.now.file.now net) }
     {
         let alloc = source.alloc;
-        let lists = mem::replace(lists, RefLists::new(alloc));
-        let nodes = room_for(caps, ress);
+        let refs = mem::replace(&mut lists.refs, RefLists::new(alloc));
+        let numbered = mem::replace(&mut lists.nodes, Vec::new(alloc));
+        let Elements {
+            conns,
+            loads,
+            caps,
+            farads,
+            joints,
+            ohms,
+            written: _,
+        } = mem::replace(&mut lists.elements, Elements::new(alloc));
+        let nodes = room_for(cap_count, res_count);
         Ok(Draft {
             net,
-            refs: Referred::with_room(alloc, lists, source.file, source.head, nodes)?,
-            conns: Vec::with_capacity(alloc, conns)?,
-            loads: Vec::with_capacity(alloc, conns.saturating_mul(C::COUNT))?,
-            caps: Vec::with_capacity(alloc, caps)?,
-            farads: Vec::with_capacity(alloc, caps.saturating_mul(C::COUNT))?,
-            joints: Vec::with_capacity(alloc, ress)?,
-            ohms: Vec::with_capacity(alloc, ress.saturating_mul(C::COUNT))?,
+            refs: Referred::with_room(alloc, refs, numbered, source.file, source.head, nodes)?,
+            conns: emptied(conns, conn_count)?,
+            loads: emptied(loads, conn_count.saturating_mul(C::COUNT))?,
+            caps: emptied(caps, cap_count)?,
+            farads: emptied(farads, cap_count.saturating_mul(C::COUNT))?,
+            joints: emptied(joints, res_count)?,
+            ohms: emptied(ohms, res_count.saturating_mul(C::COUNT))?,
         })
     }
 

@@ -6,7 +6,7 @@ ghost use Rattle.spef_nets.specs.Nodes.{node_at};
 ghost use Rattle.spef_nets.specs.NodeNames.{nodes_in, AreNames};
 
 use crate::node_names::{NodeNames, Spelled};
-use crate::pushing::push;
+use crate::pushing::{emptied, push};
 use edge_io::OutOfMemory;
 use name_table::NodeName;
 use spef_text::{Head, SpefFile};
@@ -33,9 +33,9 @@ impl<'r, 'f> Model for NodeTokens<'r, 'f> {
 }
 
 impl<'r, 'f> NodeTokens<'r, 'f> {
-    /// No node, with room for so many.
+    /// No node, with room for so many. The list is emptied, and used again.
     pub fn with_room(
-        alloc: Global,
+        tokens: Vec<u32>,
         file: &'r SpefFile<'f>,
         head: &'r Head,
         many: usize,
@@ -43,7 +43,7 @@ impl<'r, 'f> NodeTokens<'r, 'f> {
         requires { IsHeadOf file.now head.now }
         ensures { IfOk result (λ nodes. nodes ≡ record { file = file.now; nodes = [] }) }
     {
-        let tokens = Vec::with_capacity(alloc, many)?;
+        let tokens = emptied(tokens, many)?;
         Ok(NodeTokens { file, head, tokens })
     }
 
@@ -60,6 +60,16 @@ impl<'r, 'f> NodeTokens<'r, 'f> {
         ensures { result ≡ length self.now.nodes }
     {
         self.tokens.len()
+    }
+
+    /// The list of the tokens, to be used again.
+    pub fn into_tokens(self) -> Vec<u32> {
+        let NodeTokens {
+            file: _,
+            head: _,
+            tokens,
+        } = self;
+        tokens
     }
 
     /// The names of the nodes, to be made when they are asked for.

@@ -63,6 +63,7 @@ impl<'r, 'f> Referred<'r, 'f> {
     pub fn with_room(
         alloc: Global,
         lists: RefLists<'r>,
+        numbered: Vec<u32>,
         file: &'r SpefFile<'f>,
         head: &'r Head,
         nodes: usize,
@@ -85,7 +86,7 @@ impl<'r, 'f> Referred<'r, 'f> {
             table: table.emptied(alloc, nodes)?,
             marks: emptied(marks, nodes)?,
             latest: emptied(latest, nodes)?,
-            nodes: NodeTokens::with_room(alloc, file, head, nodes)?,
+            nodes: NodeTokens::with_room(numbered, file, head, nodes)?,
         })
     }
 

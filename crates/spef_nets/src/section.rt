@@ -56,15 +56,7 @@ impl<C: CornerSet> Section<C> {
         Section {
             net,
             nodes: Vec::new(alloc),
-            elements: Elements {
-                conns: Vec::new(alloc),
-                loads: Vec::new(alloc),
-                caps: Vec::new(alloc),
-                farads: Vec::new(alloc),
-                joints: Vec::new(alloc),
-                ohms: Vec::new(alloc),
-                written: 0,
-            },
+            elements: Elements::new(alloc),
             corners: PhantomData,
         }
     }

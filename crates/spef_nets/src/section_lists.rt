@@ -1,4 +1,5 @@
 //! The lists that are used again for each section.
+use crate::elements::Elements;
 use crate::parts::Joined;
 use crate::referred::RefLists;
 use std::alloc::Global;
@@ -7,6 +8,9 @@ use std::alloc::Global;
 #[derive(Drop)]
 pub struct SectionLists<'r> {
     pub refs: RefLists<'r>,
+    // those of a section that was given back
+    pub elements: Elements,
+    pub nodes: Vec<u32>,
     // the spellings of the resistors' nodes
     pub joints: Vec<Joined>,
 }
@@ -16,6 +20,8 @@ impl<'r> SectionLists<'r> {
     pub fn new(alloc: Global) -> SectionLists<'r> {
         SectionLists {
             refs: RefLists::new(alloc),
+            elements: Elements::new(alloc),
+            nodes: Vec::new(alloc),
             joints: Vec::new(alloc),
         }
     }

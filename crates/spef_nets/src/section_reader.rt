@@ -142,6 +142,15 @@ impl<'r, 'f> SectionReader<'r, 'f> {
         read_behind::<C>(&self.source, &mut self.nets, &mut self.lists)
     }
 
+    /// Takes the memory of a section that nobody needs any more, for the next one. Nothing else of it counts.
+    pub fn reuse<C: CornerSet>(&mut self, section: SpelledSection<'r, 'f, C>)
+        ensures { self.new ≡ self.old }
+    {
+        let (elements, nodes) = section.into_lists();
+        self.lists.elements = elements;
+        self.lists.nodes = nodes;
+    }
+
     /// The names of the nets whose sections have been read, each numbered by its section's place. None of these sections has a
     /// fault.
     pub fn into_nets(self) -> Names

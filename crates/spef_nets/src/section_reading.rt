@@ -336,7 +336,7 @@ impl<'r, 'f> Source<'r, 'f> {
         let conns = self.file.conn_count(s);
         let caps = self.file.cap_count(s);
         let ress = self.file.res_count(s);
-        let mut draft = Draft::with_room::<C>(self, &mut lists.refs, net, conns, caps, ress)?;
+        let mut draft = Draft::with_room::<C>(self, lists, net, conns, caps, ress)?;
         self.begin::<C>(s, &mut draft, &mut lists.joints)?;
         self.read_conns::<C>(s, &mut draft)?;
         self.read_caps::<C>(s, &mut draft)?;

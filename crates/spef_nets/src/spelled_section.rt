@@ -62,6 +62,17 @@ impl<'r, 'f, C: CornerSet> SpelledSection<'r, 'f, C> {
         }
     }
 
+    /// The lists of its elements and of its nodes, to be used again.
+    pub(crate) fn into_lists(self) -> (Elements, Vec<u32>) {
+        let SpelledSection {
+            net: _,
+            nodes,
+            elements,
+            corners: _,
+        } = self;
+        (elements, nodes.into_tokens())
+    }
+
     /// The same with the names of all nodes.
     pub fn into_section(self, alloc: Global) -> Result<Section<C>, OutOfMemory>
         ensures { IfOk result (λ section. section ≡ self.entry) }

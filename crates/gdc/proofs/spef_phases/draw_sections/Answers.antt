@@ -1,7 +1,8 @@
-use Rattle.std.proofs.Common.{◌≡◌, ℕ, List, Ok, Err, length, [], ◌∷◌, ◌++◌, ◌+◌, ◌≤◌, refl, ◌∙◌, ap, subst, arith}
+use Rattle.std.proofs.Common.{◌≡◌, ℕ, List, Ok, Err, length, [], ◌∷◌, ◌++◌, ◌+◌, ◌≤◌, refl, sym, ◌∙◌, ap, subst, arith}
 use Rattle.std.specs.Prelude.{Option}
 use Rattle.spef_nets.specs.NetElements.{NetElements}
-use Rattle.spef_nets.proofs.ReadingLemmas.{no_nets, one_more}
+use Rattle.spef_nets.specs.Reading.{Reading}
+use Rattle.spef_nets.proofs.ReadingLemmas.{AreRead, no_nets, one_more}
 use Rattle.gdc.specs.SpefPhases.{sole_corner}
 use Rattle.gdc.specs.WireNets.{RowsOf}
 use Rattle.gdc.specs.Drawing.{drawn, DrawsNext}
@@ -32,7 +33,8 @@ returns-in-Err g c =
 pub loop-preserved : goal.loop-preserved
 loop-preserved g c = (
   c.loop.invariant.0 ++ c.in-Ok.net ∷ [],
-  one_more sole_corner c.args.file.now c.args.head.now c.args.pick c.loop.reader c.loop.invariant.0 c.loop.counter c.loop.invariant.1 c.next_net.new.reader c.in-Ok.net c.in-Ok.ensures.ok c.in-Ok.ensures.read (c.loop.invariant.0 ++ c.in-Ok.net ∷ []) refl,
+  subst (λ (reader : Reading). AreRead sole_corner c.args.file.now c.args.head.now c.args.pick reader (c.loop.invariant.0 ++ c.in-Ok.net ∷ []) (c.loop.counter + 1)) (sym c.reuse.ensures)
+      (one_more sole_corner c.args.file.now c.args.head.now c.args.pick c.loop.reader c.loop.invariant.0 c.loop.counter c.loop.invariant.1 c.next_net.new.reader c.in-Ok.net c.in-Ok.ensures.ok c.in-Ok.ensures.read (c.loop.invariant.0 ++ c.in-Ok.net ∷ []) refl),
   drawn_more c.args.head.now.design c.loop.invariant.0 c.in-Ok.net (drawn c.loop.rows c.loop.refused) (drawn c.draw_next.new.rows c.in_ok-refused.refused) c.loop.invariant.2 (subst (λ (n : NetElements). DrawsNext n (drawn c.loop.rows c.loop.refused) (drawn c.draw_next.new.rows c.in_ok-refused.refused)) c.as_net.ensures c.in_ok-refused.ensures.next),
   c.in_ok-refused.ensures.one_row,
   faultless_more c.args.pick c.args.file.now c.args.head.now c.loop.reader c.loop.invariant.0 c.loop.counter c.loop.invariant.1 (omega arith) c.loop.invariant.4 c.in-Ok.ensures.faultless,
