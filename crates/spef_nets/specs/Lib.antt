@@ -15,3 +15,4 @@ pub mod Reading
 pub mod NodeNames
 pub mod ElementsOf
 pub mod SameKeys
+pub mod KeyOf

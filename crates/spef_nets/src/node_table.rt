@@ -1,7 +1,6 @@
 //! The nodes that a section names, each at its place.
-ghost use Rattle.std.specs.Prelude.{◌≡◌, ◌+◌, false, [], slice_get, Some, IfOk, IfSome, IfNone, option_map};
+ghost use Rattle.std.specs.Prelude.{◌≡◌, ◌+◌, false, [], slice_get, Some, IfOk, IfSome, IfNone};
 ghost use Rattle.std.specs.Option.{option_copied};
-ghost use Rattle.std.specs.Cow.{cow_slice_items};
 ghost use Rattle.spef_nets.specs.Nodes.{key_of, same_key, same_tail, among};
 ghost use Rattle.spef_nets.specs.Refs.{IsInterned};
 
@@ -12,7 +11,6 @@ use indexmap::IndexSet;
 use name_table::{NodeName, WrittenName};
 use spef_text::are_equal;
 use std::alloc::Global;
-use std::borrow::CowSlice;
 use std::hash::{Hash, Hasher};
 use std::marker::Model;
 
@@ -22,22 +20,26 @@ const FEW: usize = 8;
 /// Where so many nodes are to come, all of them stand in the table.
 const MANY: usize = 48;
 
-/// What makes a node the one that it is: its head and its tail, however they are written. Of most nodes both stand in the file, and
-/// nothing is copied. Contracts see the two.
+/// What makes a node the one that it is: its head and its tail, however they are written. Contracts see the two.
 #[derive(Drop)]
 pub struct NodeKey<'r> {
-    head: CowSlice<'r, u8, Global>,
-    tail: Option<CowSlice<'r, u8, Global>>,
+    name: KeyName<'r>,
+}
+
+// A node's name. Of most nodes head and tail stand in the file, and nothing is copied.
+#[derive(Drop)]
+enum KeyName<'r> {
+    Written(WrittenName<'r>),
+    Named(Box<NodeName>),
 }
 
 impl<'r> Model for NodeKey<'r> {
-    ghost use Rattle.std.specs.Prelude.{option_map};
-    ghost use Rattle.std.specs.Cow.{cow_slice_items};
     ghost use Rattle.spef_nets.specs.Nodes.{Key};
+    ghost use Rattle.spef_nets.specs.KeyOf.{key_in};
 
     ghost Value = { Key };
 
-    ghost view = { λ key. record { head = cow_slice_items key.head; tail = option_map cow_slice_items key.tail } };
+    ghost view = { λ key. key_in key.name };
 }
 
 impl<'r> PartialEq for NodeKey<'r> {
@@ -70,9 +72,9 @@ impl<'r> Hash for NodeKey<'r> {
     ghost respects_eq = { hashed_alike.fed };
 
     fn hash<H: Hasher>(&self, state: &mut H) {
-        state.write(self.head.as_slice());
-        match &self.tail {
-            Some(tail) => state.write(tail.as_slice()),
+        state.write(self.head());
+        match self.tail() {
+            Some(tail) => state.write(tail),
             None => {}
         }
     }
@@ -82,17 +84,14 @@ impl<'r> Hash for NodeKey<'r> {
 fn are_same(one: &NodeKey<'_>, other: &NodeKey<'_>) -> bool
     ensures { result ≡ same_key one.now other.now }
 {
-    same_tails(&one.tail, &other.tail) && are_equal(one.head.as_slice(), other.head.as_slice())
+    same_tails(one.tail(), other.tail()) && are_equal(one.head(), other.head())
 }
 
-fn same_tails(
-    one: &Option<CowSlice<'_, u8, Global>>,
-    other: &Option<CowSlice<'_, u8, Global>>,
-) -> bool
-    ensures { result ≡ same_tail (option_map cow_slice_items one.now) (option_map cow_slice_items other.now) }
+fn same_tails(one: Option<&[u8]>, other: Option<&[u8]>) -> bool
+    ensures { result ≡ same_tail (option_copied one.entry) (option_copied other.entry) }
 {
     match (one, other) {
-        (Some(one), Some(other)) => are_equal(one.as_slice(), other.as_slice()),
+        (Some(one), Some(other)) => are_equal(one, other),
         (None, None) => true,
         _ => false,
     }
@@ -100,27 +99,23 @@ fn same_tails(
 
 impl<'r> NodeKey<'r> {
     /// The key of a node.
-    pub fn of(alloc: Global, node: &NodeName) -> Result<NodeKey<'r>, OutOfMemory>
-        ensures { IfOk result (λ key. key ≡ key_of node.now) }
+    pub fn of(alloc: Global, node: NodeName) -> Result<NodeKey<'r>, OutOfMemory>
+        ensures { IfOk result (λ key. key ≡ key_of node) }
     {
-        let head = CowSlice::Owned(Vec::from_slice(alloc, node.head.bytes())?);
-        let tail = match &node.tail {
-            Some(tail) => Some(CowSlice::Owned(Vec::from_slice(alloc, tail.bytes())?)),
-            None => None,
+        let Ok(node) = Box::new(alloc, node) else {
+            return Err(OutOfMemory);
         };
-        Ok(NodeKey { head, tail })
+        Ok(NodeKey {
+            name: KeyName::Named(node),
+        })
     }
 
     /// The key of a node whose name stands as it is written.
-    pub fn of_written(name: &WrittenName<'r>) -> NodeKey<'r>
-        ensures { result ≡ record { head = name.now.head.now; tail = option_copied name.now.tail } }
+    pub fn of_written(name: WrittenName<'r>) -> NodeKey<'r>
+        ensures { result ≡ record { head = name.entry.head.now; tail = option_copied name.entry.tail } }
     {
         NodeKey {
-            head: CowSlice::Borrowed(name.head),
-            tail: match name.tail {
-                Some(tail) => Some(CowSlice::Borrowed(tail)),
-                None => None,
-            },
+            name: KeyName::Written(name),
         }
     }
 
@@ -128,7 +123,23 @@ impl<'r> NodeKey<'r> {
     pub fn head(&self) -> &[u8]
         ensures { result.now ≡ self.now.head }
     {
-        self.head.as_slice()
+        match &self.name {
+            KeyName::Written(name) => name.head,
+            KeyName::Named(node) => node.head.bytes(),
+        }
+    }
+
+    /// The node's tail, if it has one.
+    fn tail(&self) -> Option<&[u8]>
+        ensures { option_copied result ≡ self.now.tail }
+    {
+        match &self.name {
+            KeyName::Written(name) => name.tail,
+            KeyName::Named(node) => match &node.tail {
+                Some(tail) => Some(tail.bytes()),
+                None => None,
+            },
+        }
     }
 }
 

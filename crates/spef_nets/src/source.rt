@@ -61,7 +61,7 @@ impl<'r, 'f> Source<'r, 'f> {
         ensures { IfOk result (IsKeyAt self.now.file.now token) }
     {
         match self.head.written(self.file, token) {
-            Some(name) => Ok(Some(NodeKey::of_written(&name))),
+            Some(name) => Ok(Some(NodeKey::of_written(name))),
             None => self.named_key(token),
         }
     }
@@ -72,7 +72,7 @@ impl<'r, 'f> Source<'r, 'f> {
         ensures { IfOk result (IsKeyAt self.now.file.now token) }
     {
         match self.name_at(token, true)? {
-            Some(node) => Ok(Some(NodeKey::of(self.alloc, &node)?)),
+            Some(node) => Ok(Some(NodeKey::of(self.alloc, node)?)),
             None => Ok(None),
         }
     }
