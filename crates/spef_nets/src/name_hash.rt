@@ -4,11 +4,11 @@ ghost use Rattle.spef_nets.specs.NameHash.{fresh, write, mixed};
 
 use std::hash::{BuildHasherDefault, Hasher};
 
-/// Makes the hasher of a table of spellings.
+/// Makes the hasher of a table of nodes.
 pub type NameHash = BuildHasherDefault<NameHasher>;
 
 /// The hash of Fowler, Noll and Vo over 64 bits (FNV-1): the state is multiplied by their prime, and then a byte is joined by
-/// exclusive or. Spellings are short, for which this takes half of the time of the standard hasher.
+/// exclusive or. Names are short, for which this takes half of the time of the standard hasher.
 ///
 /// The byte that is joined last stands in the last eight bits alone. From them comes the tag by which a table tells its entries
 /// apart, and from the others, but for two bits, the place. So names that differ in their last byte, as those of a net's nodes do

@@ -17,8 +17,8 @@ use std::marker::Model;
 /// So many nodes stand in a list, which is searched through; those behind them stand in a table.
 const FEW: usize = 8;
 
-/// Where so many nodes are to come, all of them stand in the table.
-const MANY: usize = 48;
+/// Where so many nodes are to come, a net is large, and all of them stand in the table.
+pub const MANY: usize = 48;
 
 /// What makes a node the one that it is: its head and its tail, however they are written. Contracts see the two.
 #[derive(Drop)]

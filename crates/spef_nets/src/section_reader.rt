@@ -119,7 +119,7 @@ impl<'r, 'f> SectionReader<'r, 'f> {
     /// Reads the next section (IEEE 1481): its nodes by first place, the connections (of several with one node the first alone), the
     /// capacitances, a coupling to ground at each of its two places whose node belongs to the section, and the resistors; each
     /// value is the rounded reading of the member that counts at the corner. One number stands for all three. It takes one look-up
-    /// for each reference.
+    /// for each reference at most.
     ///
     /// The first fault in the order of the file is told, which is the one with the least token; at one token they come in the
     /// order of [`SectionEnd`]. All three members of a value are examined. The total behind a net, the lines `*N`, and the loads

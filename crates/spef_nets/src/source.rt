@@ -77,8 +77,8 @@ impl<'r, 'f> Source<'r, 'f> {
         }
     }
 
-    /// The number of the spelling at a token, if its index is in the map. It is one look-up; a spelling that is new to the
-    /// section is resolved besides.
+    /// The number of the spelling at a token, if its index is in the map. Where it is not found at once, the node that it names tells:
+    /// that is one look-up at most.
     pub fn spelling_at(
         &self,
         refs: &mut Referred<'r, 'f>,

@@ -1,20 +1,25 @@
 //! The spellings of references, each numbered by its place.
 ghost use Rattle.std.specs.Prelude.{◌≡◌, ℕ, ◌+◌, ◌<◌, true, [], ◌∷◌, ◌++◌, List, length, map, slice_get, Some, IfOk, OnOk, IfSome};
 
+use crate::node_table::MANY;
 use crate::pushing::emptied;
 use edge_io::OutOfMemory;
 use spef_text::are_equal;
 use std::alloc::Global;
 use std::marker::Model;
 
-/// So many spellings at the front are looked through: those of a small net, and of a large one its driver's.
+/// So many spellings at the front are looked through: those of a small net, or of a large one its first, which is the driver's as a rule.
 const FEW: usize = 8;
+
+const FIRST: usize = 2;
 
 /// Spellings, numbered in the order in which they came. Contracts see the list of them. Where a spelling is not found, that does not say
 /// that it is not held: the node that it names tells.
 #[derive(Drop)]
 pub struct Spellings<'t> {
     words: Vec<&'t [u8]>,
+    // how many at the front are looked through
+    front: usize,
     // the place that was answered last
     last: usize,
 }
@@ -34,6 +39,7 @@ impl<'t> Spellings<'t> {
     {
         Spellings {
             words: Vec::new(alloc),
+            front: FEW,
             last: 0,
         }
     }
@@ -42,9 +48,18 @@ impl<'t> Spellings<'t> {
     pub fn emptied(self, many: usize) -> Result<Spellings<'t>, OutOfMemory>
         ensures { IfOk result (λ spellings. spellings ≡ []) }
     {
-        let Spellings { words, last: _ } = self;
+        let Spellings {
+            words,
+            front: _,
+            last: _,
+        } = self;
         let words = emptied(words, many)?;
-        Ok(Spellings { words, last: 0 })
+        let front = if many < MANY { FEW } else { FIRST };
+        Ok(Spellings {
+            words,
+            front,
+            last: 0,
+        })
     }
 
     /// How many spellings there are.
@@ -67,7 +82,7 @@ impl<'t> Spellings<'t> {
             self.last = next;
             Some(next)
         } else {
-            place_among(&self.words, word)
+            place_among(&self.words, self.front, word)
         }
     }
 
@@ -93,11 +108,11 @@ impl<'t> Spellings<'t> {
     }
 }
 
-// The place of a spelling among the first few of a list, if it stands there.
-fn place_among(words: &[&[u8]], word: &[u8]) -> Option<usize>
+// The place of a spelling at the front of a list, if it stands there.
+fn place_among(words: &[&[u8]], front: usize, word: &[u8]) -> Option<usize>
     ensures { IfSome result (λ place. slice_get (map (λ held. held.now) words.now) place ≡ Some word.now) }
 {
-    for place in 0..words.len().min(FEW) {
+    for place in 0..words.len().min(front) {
         if are_equal(words[place], word) {
             return Some(place);
         }

@@ -1,5 +1,5 @@
-use Rattle.std.proofs.Common.{rules, ◌≡◌, [], sym, ap, ◌∙◌, subst}
-use Rattle.spef_nets.specs.NetElements.{NetElements, AreWhole}
+use Rattle.std.proofs.Common.{rules, ◌≡◌, sym, ap, ◌∙◌, subst}
+use Rattle.spef_nets.specs.NetElements.{AreWhole}
 use Rattle.spef_nets.specs.ElementsOf.{net_of, no_elements}
 use Rattle.spef_nets.proofs.section.Section.empty.Goals as goal
 
