@@ -10,8 +10,6 @@ mod quantities;
 mod readings;
 mod rounding;
 mod tally;
-#[cfg(test)]
-mod tests;
 
 pub use literal::read_decimal;
 pub use numbers::{Decimal, NumberFault, Unit};

@@ -1,0 +1,4 @@
+//! One module a subject.
+mod literals;
+mod printing;
+mod readings;
