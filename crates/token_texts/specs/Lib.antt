@@ -1,0 +1,10 @@
+pub mod Bytes
+pub mod Blanks
+pub mod Comments
+pub mod Quoted
+pub mod Runs
+pub mod ByteLemmas
+pub mod Searching
+pub mod CommentLemmas
+pub mod QuotedLemmas
+pub mod RunLemmas

@@ -1,0 +1,23 @@
+//! Single bytes.
+ghost use Rattle.std.specs.Prelude.{◌≡◌};
+ghost use Rattle.token_texts.specs.Bytes.{begins_with};
+ghost use Rattle.token_texts.specs.Blanks.{is_blank};
+
+/// Whether a byte is a blank: one of the bytes 9 to 13 and 32.
+#[inline]
+pub fn is_blank(byte: u8) -> bool
+    ensures { result ≡ is_blank byte }
+{
+    matches!(byte, 9..=13 | b' ')
+}
+
+/// Whether the bytes begin with this one.
+#[inline]
+pub fn begins_with(byte: u8, bytes: &[u8]) -> bool
+    ensures { result ≡ begins_with byte bytes.now }
+{
+    match bytes {
+        [] => false,
+        [first, ..] => *first == byte,
+    }
+}
