@@ -1,9 +1,8 @@
 -- What loops over pieces of a text keep.
-use Rattle.std.proofs.Common.{◌≡◌, ℕ, ◌-◌, ◌≤◌, List, ◌++◌, length, take, drop, Option, Some, None, Err, ap, sym, ◌∙◌, arith}
+use Rattle.std.proofs.Common.{◌≡◌, ℕ, ◌-◌, ◌≤◌, List, ◌++◌, length, take, drop, Option, Err, ap, sym, ◌∙◌, arith}
 use Rattle.std.proofs.lemmas.List.{append_assoc, take-append-drop, length-drop, take_all}
 use Rattle.edge_io.specs.Counts.{Rose}
 use Rattle.edge_io.specs.Told.{appended, appended-appended, front_of_first, front_of_all}
-use Rattle.edge_io.specs.Holding.{Held}
 use Rattle.edge_io.specs.Writing.{Writes}
 use Rattle.edge_io.specs.declared.failures.Failed.{Failed}
 
@@ -37,9 +36,3 @@ wrote_cut {whole} {rest} {before} {after = after} w same later rose = record {
   later = omega (arith, w.later, later);
   cause = omega (arith, w.later, rose);
 }
-
--- of the file of that name the text is taken and the rest is left, if the shelf tells
-abbrev pub IsTaken : Option Held → List ℕ → List ℕ → Option (List ℕ) → Type 0
-IsTaken None name text left = Unit {0}
-IsTaken (Some held) name text None = ⊥
-IsTaken (Some held) name text (Some left) = held name ≡ Some (text ++ left)

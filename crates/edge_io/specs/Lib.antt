@@ -2,7 +2,10 @@ pub mod Counts
 pub mod Told
 pub mod Holding
 pub mod Writing
+pub mod Gathering
+pub mod Pushing
 pub mod Calls
 pub mod HeldFiles
 pub mod MemShelf
 pub mod MemSink
+pub mod Taking

@@ -3,6 +3,7 @@ ghost use Rattle.edge_io.specs.Calls.{Calls, no_calls, fails_next};
 ghost use Rattle.edge_io.specs.Counts.{raised};
 
 use crate::failures::OutOfMemory;
+use crate::lists::push;
 use std::alloc::Global;
 use std::marker::Model;
 
@@ -39,10 +40,7 @@ impl CallPlan {
         ensures ok { OnOk result (self.new ≡ record self.old { failing = self.old.failing ++ call ∷ [] }) }
         ensures err { OnErr result (self.new ≡ self.old) }
     {
-        match self.failing.push(call) {
-            Ok(()) => Ok(()),
-            Err(_) => Err(OutOfMemory),
-        }
+        push(&mut self.failing, call)
     }
 
     /// Counts a call, and tells whether it is one that is to fail.

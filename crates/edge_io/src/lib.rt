@@ -5,7 +5,9 @@
 
 mod calls;
 mod counting;
+mod equality;
 mod failures;
+pub mod lists;
 mod memory_shelf;
 mod memory_sink;
 mod reading;
@@ -15,9 +17,11 @@ mod shelves;
 mod sinks;
 mod text_lists;
 mod texts;
+mod waiting;
 mod writing;
 
 pub use counting::Steps;
+pub use equality::are_equal;
 pub use failures::{Failed, OutOfMemory};
 pub use memory_shelf::MemShelf;
 pub use memory_sink::MemSink;
@@ -28,6 +32,7 @@ pub use shelves::Shelf;
 pub use sinks::Sink;
 pub use text_lists::TextList;
 pub use texts::Text;
+pub use waiting::WaitingBytes;
 pub use writing::{write_2, write_3, write_4, write_5, write_all};
 
 #[cfg(test)]

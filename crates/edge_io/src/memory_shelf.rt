@@ -7,6 +7,7 @@ ghost use Rattle.edge_io.specs.MemShelf.{ShelfState, empty_shelf, ChangesHeld};
 
 use crate::calls::{CallPlan, next};
 use crate::failures::{Failed, OutOfMemory};
+use crate::lists::push;
 use crate::shelves::Shelf;
 use crate::texts::Text;
 use std::alloc::Global;
@@ -70,10 +71,7 @@ impl MemShelf {
         ensures ok { OnOk result (ChangesHeld self.old self.new name held) }
         ensures err { OnErr result (self.new ≡ self.old) }
     {
-        match self.files.push(HeldFile { name, bytes: held }) {
-            Ok(()) => Ok(()),
-            Err(_) => Err(OutOfMemory),
-        }
+        push(&mut self.files, HeldFile { name, bytes: held })
     }
 
     /// The call of this number is to fail too.

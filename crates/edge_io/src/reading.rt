@@ -1,6 +1,7 @@
-ghost use Rattle.std.specs.Prelude.{◌≡◌, ℕ, ◌+◌, ◌<◌, ◌≤◌, ◌^◌, ◌⊎◌, length, Err, IfOk};
+ghost use Rattle.std.specs.Prelude.{◌≡◌, ℕ, ◌+◌, ◌<◌, ◌≤◌, ◌^◌, ◌⊎◌, [], length, Err, IfOk};
 ghost use Rattle.edge_io.specs.Counts.{Rose, RoseBy};
 ghost use Rattle.edge_io.specs.Holding.{Held, TellsMissing, HoldsFile, HoldsMore, Took};
+ghost use Rattle.edge_io.specs.Taking.{IsAllLeft, LeftMore, Moves};
 ghost use Rattle.edge_io.specs.declared.reading.ReadEnd.TheVariants.{ReadFault, TooLong, OutOfMemory};
 
 use crate::failures::{Failed, OutOfMemory};
@@ -68,17 +69,52 @@ pub fn read_file<H: Shelf>(
     ensures held { H.held shelf.new ≡ H.held shelf.old }
 {
     shelf.open(name)?;
+    let text = read_open(alloc, shelf, limit)?;
+    Ok(text)
+}
+
+/// Reads what is left of the open file, if that is at most `limit` bytes.
+fn read_open<H: Shelf>(alloc: Global, shelf: &mut H, limit: usize) -> Result<Text, ReadEnd>
+    requires { limit < 2 ^ 40 }
+    ensures whole { IfOk result (λ text. IsAllLeft (H.left shelf.old) text) }
+    ensures short { IfOk result (λ text. length text ≤ limit) }
+    ensures long { result ≡ Err ReadEnd.TooLong → LeftMore (H.left shelf.old) limit (H.left shelf.new) }
+    ensures fault { result ≡ Err ReadEnd.ReadFault → Rose (H.faults shelf.old) (H.faults shelf.new) }
+    ensures later { H.faults shelf.old ≤ H.faults shelf.new }
+    ensures opens { H.opens shelf.new ≡ H.opens shelf.old }
+    ensures reads { H.reads shelf.new ≤ H.reads shelf.old + (limit + 1) }
+    ensures held { H.held shelf.new ≡ H.held shelf.old }
+{
     let mut room = Vec::new(alloc);
     room.resize(PIECE_BYTES, 0u8)?;
     let piece = room.as_mut_slice();
     let mut text = Text::new(alloc);
     'taking: while text.len() <= limit {
         let wanted = PIECE_BYTES.min(limit + 1 - text.len());
-        let count = shelf.read(&mut piece[..wanted])?;
+        let count = take_piece(shelf, &mut piece[..wanted], &mut text)?;
         if count == 0 {
             return Ok(text);
         }
-        text.push_all(&piece[..count])?;
     }
     Err(ReadEnd::TooLong)
+}
+
+/// Reads the open file once, with room for a piece, and puts what comes behind the text. It answers how many bytes came, of which
+/// there are none only at the end.
+fn take_piece<H: Shelf>(shelf: &mut H, piece: &mut [u8], text: &mut Text) -> Result<usize, ReadEnd>
+    requires { 0 < length piece.old }
+    ensures count { IfOk result (λ count. length text.new ≡ length text.old + count) }
+    ensures bound { IfOk result (λ count. count ≤ length piece.old) }
+    ensures moved { IfOk result (λ count. Moves (H.left shelf.old) text.old (H.left shelf.new) text.new) }
+    ensures ends { IfOk result (λ count. count ≡ 0 → IsAllLeft (H.left shelf.old) []) }
+    ensures long { result ≡ Err ReadEnd.TooLong → ⊥ }
+    ensures fault { result ≡ Err ReadEnd.ReadFault → Rose (H.faults shelf.old) (H.faults shelf.new) }
+    ensures later { H.faults shelf.old ≤ H.faults shelf.new }
+    ensures opens { H.opens shelf.new ≡ H.opens shelf.old }
+    ensures reads { H.reads shelf.new ≤ H.reads shelf.old + 1 }
+    ensures held { H.held shelf.new ≡ H.held shelf.old }
+{
+    let count = shelf.read(piece)?;
+    text.push_all(&piece[..count])?;
+    Ok(count)
 }

@@ -1,6 +1,7 @@
 ghost use Rattle.std.specs.Prelude.{◌≡◌, ℕ, List, [], ◌∷◌, ◌++◌, length, IsTrue, ◌↔◌, OnOk, OnErr, slice_get, option_copied};
 
 use crate::failures::OutOfMemory;
+use crate::lists::push;
 use crate::texts::Text;
 use std::alloc::Global;
 use std::marker::Model;
@@ -32,10 +33,7 @@ impl TextList {
         ensures ok { OnOk result (self.new ≡ self.old ++ text ∷ []) }
         ensures err { OnErr result (self.new ≡ self.old) }
     {
-        match self.texts.push(text) {
-            Ok(()) => Ok(()),
-            Err(_) => Err(OutOfMemory),
-        }
+        push(&mut self.texts, text)
     }
 
     /// How many texts there are.
