@@ -1,4 +1,3 @@
-mod Pushing
 mod Lines
 mod CellTexts
 mod Remaining

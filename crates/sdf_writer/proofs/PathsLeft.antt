@@ -3,13 +3,13 @@ use Rattle.std.proofs.Common.{◌≡◌, ℕ, zero, suc, ◌+◌, ◌-◌, ◌<�
 use Rattle.std.proofs.lemmas.List.{append_assoc, take_all, drop_all}
 use Rattle.delay_units.specs.declared.Femto.{Femto}
 use Rattle.edge_io.specs.declared.Failed.{Failed}
-use Rattle.sdf_writer.specs.Gathering.{Pushes}
+use Rattle.edge_io.specs.Gathering.{Pushes}
 use Rattle.sdf_writer.specs.SdfText.{PathRow}
 use Rattle.sdf_writer.specs.PathRows.{cell_at, edge_at, path_row, path_rows, cell_of, path_text, line_text, opening_text, closing_text, between_text, next_text, rest_text, cells_text}
 use Rattle.sdf_writer.specs.declared.paths.Cell.{Cell}
 use Rattle.sdf_writer.specs.declared.paths.Path.{Path}
 use Rattle.sdf_writer.proofs.CellTexts.{path_parts, cells_text_of}
-use Rattle.sdf_writer.proofs.Pushing.{pushes_nothing, pushes_then, pushes_stop}
+use Rattle.edge_io.specs.Pushing.{pushes_nothing, pushes_then, pushes_stop}
 
 -- of the whole text that before some rows is pushed; they stand behind a path of some cell
 pub record WroteUpTo (whole : List ℕ) (before : Cell) (rows : List PathRow) (start waiting : List ℕ) (told now : Option (List ℕ)) (faults faults' : ℕ) : Type 0 where

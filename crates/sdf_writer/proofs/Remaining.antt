@@ -5,11 +5,11 @@ use Rattle.std.proofs.Math.Nat.{suc-mul}
 use Rattle.delay_units.specs.declared.Femto.{Femto}
 use Rattle.edge_io.specs.declared.Failed.{Failed}
 use Rattle.sdf_writer.specs.Bounds.{AreWithin}
-use Rattle.sdf_writer.specs.Gathering.{Pushes}
+use Rattle.edge_io.specs.Gathering.{Pushes}
 use Rattle.sdf_writer.specs.SdfText.{WireRow}
 use Rattle.sdf_writer.specs.WireRows.{wire_row, wire_rows, wire_text, wires_text}
 use Rattle.sdf_writer.specs.declared.rows.Wire.{Wire}
-use Rattle.sdf_writer.proofs.Pushing.{pushes_nothing, pushes_then, pushes_stop}
+use Rattle.edge_io.specs.Pushing.{pushes_nothing, pushes_then, pushes_stop}
 use Rattle.sdf_writer.proofs.Within.{within_drop}
 
 -- of the lines of the whole list those before some wire are pushed; that wire takes the next delays

@@ -2,4 +2,3 @@ pub mod SdfText
 pub mod Bounds
 pub mod WireRows
 pub mod PathRows
-pub mod Gathering

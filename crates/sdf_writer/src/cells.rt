@@ -2,21 +2,20 @@
 ghost use Rattle.std.specs.Prelude.{◌<◌, ◌++◌, length};
 ghost use Rattle.std.specs.List.{All};
 ghost use Rattle.sdf_writer.specs.Bounds.{AreWithin};
-ghost use Rattle.sdf_writer.specs.Gathering.{Pushes};
+ghost use Rattle.edge_io.specs.Gathering.{Pushes};
 ghost use Rattle.sdf_writer.specs.SdfText.{edge_text};
 ghost use Rattle.sdf_writer.specs.PathRows.{cell_at, edge_at, path_row, path_rows, IsEdgeKept, IsKept, names_text, line_text, opening_text, between_text, next_text, rest_text, cells_text};
 
-use crate::buffer::Buffer;
 use crate::paths::{Cell, Path, Paths, is_same};
 use crate::text::write_quoted;
 use crate::values::write_value;
 use corner_set::CornerSet;
 use delay_units::Femto;
-use edge_io::{Failed, Sink};
+use edge_io::{Failed, Sink, WaitingBytes};
 
 // A cell for the paths of each that stand together, with a line for each path.
 pub(crate) fn write_cells<C: CornerSet, O: Sink>(
-    buffer: &mut Buffer,
+    buffer: &mut WaitingBytes,
     sink: &mut O,
     paths: &Paths<C>,
 ) -> Result<(), Failed>
@@ -33,7 +32,7 @@ pub(crate) fn write_cells<C: CornerSet, O: Sink>(
 }
 
 fn write_all_cells<C: CornerSet, O: Sink>(
-    buffer: &mut Buffer,
+    buffer: &mut WaitingBytes,
     sink: &mut O,
     cells: &[Cell],
     times: &[Femto],
@@ -54,7 +53,7 @@ fn write_all_cells<C: CornerSet, O: Sink>(
 
 // The paths behind one of some cell, up to the end of the last cell.
 fn write_others<C: CornerSet, O: Sink>(
-    buffer: &mut Buffer,
+    buffer: &mut WaitingBytes,
     sink: &mut O,
     cells: &[Cell],
     times: &[Femto],
@@ -78,7 +77,7 @@ fn write_others<C: CornerSet, O: Sink>(
 
 // A path behind one of some cell.
 fn write_next<C: CornerSet, O: Sink>(
-    buffer: &mut Buffer,
+    buffer: &mut WaitingBytes,
     sink: &mut O,
     cells: &[Cell],
     times: &[Femto],
@@ -98,7 +97,7 @@ fn write_next<C: CornerSet, O: Sink>(
 
 // What stands between paths of two cells: nothing where they are one.
 fn write_between<O: Sink>(
-    buffer: &mut Buffer,
+    buffer: &mut WaitingBytes,
     sink: &mut O,
     one: &Cell,
     other: &Cell,
@@ -115,7 +114,11 @@ fn write_between<O: Sink>(
 }
 
 // The lines before the paths of a cell.
-fn write_opening<O: Sink>(buffer: &mut Buffer, sink: &mut O, cell: &Cell) -> Result<(), Failed>
+fn write_opening<O: Sink>(
+    buffer: &mut WaitingBytes,
+    sink: &mut O,
+    cell: &Cell,
+) -> Result<(), Failed>
     ensures pushes { Pushes (buffer.old ++ opening_text cell.now) buffer.new
         (O.written sink.old) (O.written sink.new) (O.faults sink.old) (O.faults sink.new) result }
 {
@@ -131,7 +134,7 @@ fn write_opening<O: Sink>(buffer: &mut Buffer, sink: &mut O, cell: &Cell) -> Res
 
 // The line of a path.
 fn write_path<C: CornerSet, O: Sink>(
-    buffer: &mut Buffer,
+    buffer: &mut WaitingBytes,
     sink: &mut O,
     times: &[Femto],
     path: &Path,
@@ -152,7 +155,7 @@ fn write_path<C: CornerSet, O: Sink>(
 
 // The names of a path's pins.
 fn write_names<O: Sink>(
-    buffer: &mut Buffer,
+    buffer: &mut WaitingBytes,
     sink: &mut O,
     from: &[u8],
     to: &[u8],
@@ -170,7 +173,7 @@ fn write_names<O: Sink>(
 
 // The value of an edge whose times begin at a place.
 fn write_edge<C: CornerSet, O: Sink>(
-    buffer: &mut Buffer,
+    buffer: &mut WaitingBytes,
     sink: &mut O,
     times: &[Femto],
     edge: Option<usize>,

@@ -1,20 +1,19 @@
 //! The rows of wires, and the lines round them.
 ghost use Rattle.std.specs.Prelude.{◌≡◌, ◌*◌, ◌++◌, length};
 ghost use Rattle.sdf_writer.specs.Bounds.{AreWithin};
-ghost use Rattle.sdf_writer.specs.Gathering.{Pushes};
+ghost use Rattle.edge_io.specs.Gathering.{Pushes};
 ghost use Rattle.sdf_writer.specs.SdfText.{lines_text, delay_lines, wire_line};
 ghost use Rattle.sdf_writer.specs.WireRows.{wire_rows, wire_text, wires_text};
 
-use crate::buffer::Buffer;
 use crate::rows::Wire;
 use crate::values::write_value;
 use corner_set::CornerSet;
 use delay_units::Femto;
-use edge_io::{Failed, Sink};
+use edge_io::{Failed, Sink, WaitingBytes};
 
 // The lines of the delays, none where there is no wire.
 pub(crate) fn write_delays<C: CornerSet, O: Sink>(
-    buffer: &mut Buffer,
+    buffer: &mut WaitingBytes,
     sink: &mut O,
     wires: &[Wire],
     delays: &[Femto],
@@ -35,7 +34,7 @@ pub(crate) fn write_delays<C: CornerSet, O: Sink>(
 
 // A line for each wire, with its next delays.
 fn write_wires<C: CornerSet, O: Sink>(
-    buffer: &mut Buffer,
+    buffer: &mut WaitingBytes,
     sink: &mut O,
     wires: &[Wire],
     delays: &[Femto],
@@ -56,7 +55,7 @@ fn write_wires<C: CornerSet, O: Sink>(
 
 // The line of a wire.
 fn write_wire<O: Sink>(
-    buffer: &mut Buffer,
+    buffer: &mut WaitingBytes,
     sink: &mut O,
     from: &[u8],
     to: &[u8],

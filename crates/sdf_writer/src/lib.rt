@@ -3,7 +3,6 @@
 //! Names come in the spelling of SDF, delays in femtoseconds.
 #![tactic(auto)]
 
-mod buffer;
 mod cells;
 mod entries;
 mod paths;

@@ -2,11 +2,10 @@ ghost use Rattle.std.specs.Prelude.{◌≡◌, ◌≤◌, ◌^◌, unsigned_abs,
 ghost use Rattle.sdf_writer.specs.Bounds.{AreWithin};
 
 use super::*;
-use crate::buffer::Buffer;
 use crate::values::write_value;
 use corner_set::{Grid, Single};
 use delay_units::Femto;
-use edge_io::{Failed, MemSink, OutOfMemory, Text};
+use edge_io::{Failed, MemSink, OutOfMemory, Text, WaitingBytes};
 use std::alloc::Global;
 use std::test::Fail;
 
@@ -99,7 +98,7 @@ fn without_wires_the_cell_has_no_delays(rt: HostRuntime) -> Result<(), Fail> {
 #[test]
 fn a_value_has_a_number_for_each_corner(rt: HostRuntime) -> Result<(), Fail> {
     let mut sink = MemSink::new(rt.alloc(), 1000, 1000)?;
-    let mut buffer = Buffer::new();
+    let mut buffer = WaitingBytes::new();
     let delay = [Femto(200), Femto(-12_345), Femto(400)];
     assert_eq!(rt; write_value(&mut buffer, &mut sink, &delay), Ok(()));
     assert_eq!(rt; buffer.flush(&mut sink), Ok(()));

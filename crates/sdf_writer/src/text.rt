@@ -3,24 +3,23 @@ ghost use Rattle.std.specs.Prelude.{◌≡◌, ◌*◌, [], ◌∷◌, ◌++◌,
 ghost use Rattle.edge_io.specs.Writing.{Writes};
 ghost use Rattle.sdf_writer.specs.SdfText.{escaped, quoted, lines_text, opening_lines, sdf_text};
 ghost use Rattle.sdf_writer.specs.Bounds.{AreWithin};
-ghost use Rattle.sdf_writer.specs.Gathering.{Pushes};
+ghost use Rattle.edge_io.specs.Gathering.{Pushes};
 ghost use Rattle.sdf_writer.specs.WireRows.{wire_rows};
 
-use crate::buffer::Buffer;
 use crate::cells::write_cells;
 use crate::entries::write_delays;
 use crate::paths::Paths;
 use crate::rows::{Rows, Wire};
 use corner_set::CornerSet;
 use delay_units::Femto;
-use edge_io::{Failed, Sink};
+use edge_io::{Failed, Sink, WaitingBytes};
 
 /// Writes the SDF text of the rows. It takes no memory. `Failed` comes only where the sink's count of
 /// faults rose, and then a front of the text was written.
 pub fn write<C: CornerSet, O: Sink>(rows: &Rows<C>, sink: &mut O) -> Result<(), Failed>
     ensures writes { Writes (sdf_text rows.now) (O.written sink.old) (O.written sink.new) (O.faults sink.old) (O.faults sink.new) result }
 {
-    let mut buffer = Buffer::new();
+    let mut buffer = WaitingBytes::new();
     write_rows::<C, O>(
         &mut buffer,
         sink,
@@ -35,7 +34,7 @@ pub fn write<C: CornerSet, O: Sink>(rows: &Rows<C>, sink: &mut O) -> Result<(), 
 
 // The text, into the buffer.
 fn write_rows<C: CornerSet, O: Sink>(
-    buffer: &mut Buffer,
+    buffer: &mut WaitingBytes,
     sink: &mut O,
     design: &[u8],
     wires: &[Wire],
@@ -56,7 +55,7 @@ fn write_rows<C: CornerSet, O: Sink>(
 }
 
 // The line that ends the cell of the design, and the file.
-fn write_end<O: Sink>(buffer: &mut Buffer, sink: &mut O) -> Result<(), Failed>
+fn write_end<O: Sink>(buffer: &mut WaitingBytes, sink: &mut O) -> Result<(), Failed>
     ensures pushes { Pushes (buffer.old ++ lines_text (codes ")" ∷ [])) buffer.new
         (O.written sink.old) (O.written sink.new) (O.faults sink.old) (O.faults sink.new) result }
 {
@@ -64,7 +63,11 @@ fn write_end<O: Sink>(buffer: &mut Buffer, sink: &mut O) -> Result<(), Failed>
 }
 
 // The lines before the delays.
-fn write_opening<O: Sink>(buffer: &mut Buffer, sink: &mut O, design: &[u8]) -> Result<(), Failed>
+fn write_opening<O: Sink>(
+    buffer: &mut WaitingBytes,
+    sink: &mut O,
+    design: &[u8],
+) -> Result<(), Failed>
     ensures pushes { Pushes (buffer.old ++ lines_text (opening_lines design.now)) buffer.new
         (O.written sink.old) (O.written sink.new) (O.faults sink.old) (O.faults sink.new) result }
 {
@@ -81,7 +84,7 @@ fn write_opening<O: Sink>(buffer: &mut Buffer, sink: &mut O, design: &[u8]) -> R
 
 // A text in quotation marks.
 pub(crate) fn write_quoted<O: Sink>(
-    buffer: &mut Buffer,
+    buffer: &mut WaitingBytes,
     sink: &mut O,
     text: &[u8],
 ) -> Result<(), Failed>
@@ -95,7 +98,11 @@ pub(crate) fn write_quoted<O: Sink>(
 }
 
 // The bytes of a text within quotation marks.
-fn write_escaped<O: Sink>(buffer: &mut Buffer, sink: &mut O, text: &[u8]) -> Result<(), Failed>
+fn write_escaped<O: Sink>(
+    buffer: &mut WaitingBytes,
+    sink: &mut O,
+    text: &[u8],
+) -> Result<(), Failed>
     ensures pushes { Pushes (buffer.old ++ flat_map escaped text.now) buffer.new
         (O.written sink.old) (O.written sink.new) (O.faults sink.old) (O.faults sink.new) result }
 {
@@ -105,7 +112,11 @@ fn write_escaped<O: Sink>(buffer: &mut Buffer, sink: &mut O, text: &[u8]) -> Res
     Ok(())
 }
 
-fn write_escaped_byte<O: Sink>(buffer: &mut Buffer, sink: &mut O, byte: u8) -> Result<(), Failed>
+fn write_escaped_byte<O: Sink>(
+    buffer: &mut WaitingBytes,
+    sink: &mut O,
+    byte: u8,
+) -> Result<(), Failed>
     ensures pushes { Pushes (buffer.old ++ escaped byte) buffer.new
         (O.written sink.old) (O.written sink.new) (O.faults sink.old) (O.faults sink.new) result }
 {

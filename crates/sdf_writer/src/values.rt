@@ -3,16 +3,15 @@ ghost use Rattle.std.specs.Prelude.{◌≡◌, ◌≤◌, ◌^◌, ◌∷◌, �
 ghost use Rattle.std.specs.List.{join_with_byte};
 ghost use Rattle.delay_units.specs.Printing.{femto_text};
 ghost use Rattle.sdf_writer.specs.Bounds.{AreWithin};
-ghost use Rattle.sdf_writer.specs.Gathering.{Pushes};
+ghost use Rattle.edge_io.specs.Gathering.{Pushes};
 ghost use Rattle.sdf_writer.specs.SdfText.{value_text};
 
-use crate::buffer::Buffer;
 use delay_units::{Femto, Text32, write_femto};
-use edge_io::{Failed, Sink};
+use edge_io::{Failed, Sink, WaitingBytes};
 
 // The numbers in parentheses, parted by colons.
 pub(crate) fn write_value<O: Sink>(
-    buffer: &mut Buffer,
+    buffer: &mut WaitingBytes,
     sink: &mut O,
     delay: &[Femto],
 ) -> Result<(), Failed>
@@ -26,7 +25,11 @@ pub(crate) fn write_value<O: Sink>(
     Ok(())
 }
 
-fn write_numbers<O: Sink>(buffer: &mut Buffer, sink: &mut O, delay: &[Femto]) -> Result<(), Failed>
+fn write_numbers<O: Sink>(
+    buffer: &mut WaitingBytes,
+    sink: &mut O,
+    delay: &[Femto],
+) -> Result<(), Failed>
     requires within { AreWithin delay.now }
     ensures pushes { Pushes (buffer.old ++ join_with_byte 58 (map femto_text delay.now)) buffer.new
         (O.written sink.old) (O.written sink.new) (O.faults sink.old) (O.faults sink.new) result }
@@ -39,7 +42,11 @@ fn write_numbers<O: Sink>(buffer: &mut Buffer, sink: &mut O, delay: &[Femto]) ->
 }
 
 // The numbers after the first, each with a colon before it.
-fn write_others<O: Sink>(buffer: &mut Buffer, sink: &mut O, others: &[Femto]) -> Result<(), Failed>
+fn write_others<O: Sink>(
+    buffer: &mut WaitingBytes,
+    sink: &mut O,
+    others: &[Femto],
+) -> Result<(), Failed>
     requires within { AreWithin others.now }
     ensures pushes { Pushes (buffer.old ++ flat_map (λ time. 58 ∷ femto_text time) others.now) buffer.new
         (O.written sink.old) (O.written sink.new) (O.faults sink.old) (O.faults sink.new) result }
@@ -50,7 +57,7 @@ fn write_others<O: Sink>(buffer: &mut Buffer, sink: &mut O, others: &[Femto]) ->
     Ok(())
 }
 
-fn write_next<O: Sink>(buffer: &mut Buffer, sink: &mut O, time: Femto) -> Result<(), Failed>
+fn write_next<O: Sink>(buffer: &mut WaitingBytes, sink: &mut O, time: Femto) -> Result<(), Failed>
     requires within { unsigned_abs time.0 ≤ 10 ^ 27 }
     ensures pushes { Pushes (buffer.old ++ 58 ∷ femto_text time) buffer.new
         (O.written sink.old) (O.written sink.new) (O.faults sink.old) (O.faults sink.new) result }
@@ -61,7 +68,7 @@ fn write_next<O: Sink>(buffer: &mut Buffer, sink: &mut O, time: Femto) -> Result
 }
 
 // A time in picoseconds, with three decimals.
-fn write_number<O: Sink>(buffer: &mut Buffer, sink: &mut O, time: Femto) -> Result<(), Failed>
+fn write_number<O: Sink>(buffer: &mut WaitingBytes, sink: &mut O, time: Femto) -> Result<(), Failed>
     requires within { unsigned_abs time.0 ≤ 10 ^ 27 }
     ensures pushes { Pushes (buffer.old ++ femto_text time) buffer.new
         (O.written sink.old) (O.written sink.new) (O.faults sink.old) (O.faults sink.new) result }

@@ -3,7 +3,7 @@ use Rattle.std.proofs.Common.{Ok, Err, ◌++◌, ◌-◌, length, take, drop, su
 use Rattle.std.proofs.lemmas.Result.{err_from_is_err_and}
 use Rattle.std.proofs.lemmas.List.Elements.{All-take, All-drop}
 use Rattle.sdf_writer.specs.PathRows.{cell_at, edge_at, path_rows, IsKept, opening_text, line_text, rest_text}
-use Rattle.sdf_writer.proofs.Pushing.{pushes_stop, pushes_then}
+use Rattle.edge_io.specs.Pushing.{pushes_stop, pushes_then}
 use Rattle.sdf_writer.proofs.PathsLeft.{cell_read, first_parts}
 use Rattle.sdf_writer.proofs.cells.write_all_cells.Goals as goal
 

@@ -2,7 +2,7 @@
 use Rattle.std.proofs.Common.{Ok, Err, sym, ◌∙◌}
 use Rattle.std.proofs.lemmas.Result.{err_from_is_err_and}
 use Rattle.sdf_writer.specs.PathRows.{opening_text, closing_text}
-use Rattle.sdf_writer.proofs.Pushing.{pushes_stop, pushes_then}
+use Rattle.edge_io.specs.Pushing.{pushes_stop, pushes_then}
 use Rattle.sdf_writer.proofs.CellTexts.{between_two}
 use Rattle.sdf_writer.proofs.cells.write_between.Goals as goal
 

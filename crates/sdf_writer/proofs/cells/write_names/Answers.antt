@@ -1,7 +1,7 @@
 -- One piece after another.
 use Rattle.std.proofs.Common.{Ok, Err, [], ◌∷◌, ◌++◌, codes}
 use Rattle.std.proofs.lemmas.Result.{err_from_is_err_and}
-use Rattle.sdf_writer.proofs.Pushing.{pushes_stop, pushes_then}
+use Rattle.edge_io.specs.Pushing.{pushes_stop, pushes_then}
 use Rattle.sdf_writer.proofs.cells.write_names.Goals as goal
 
 pub returns-in_err-push : goal.returns-in_err-push

@@ -1,6 +1,6 @@
 use Rattle.std.proofs.lemmas.Result.{err_from_is_err_and}
 use Rattle.std.proofs.Common.{Ok, Err, ◌++◌}
-use Rattle.sdf_writer.proofs.Pushing.{pushes_stop, pushes_then}
+use Rattle.edge_io.specs.Pushing.{pushes_stop, pushes_then}
 use Rattle.sdf_writer.specs.WireRows.{wire_rows, wires_text}
 use Rattle.sdf_writer.proofs.Lines.{delays_open, delays_close, kept_delays_parts}
 use Rattle.sdf_writer.proofs.entries.write_delays.Goals as goal

@@ -2,7 +2,7 @@ use Rattle.std.proofs.lemmas.Result.{err_from_is_err_and}
 use Rattle.std.proofs.Common.{Ok, Err, [], ◌∷◌, ◌++◌, codes}
 use Rattle.sdf_writer.specs.SdfText.{value_text}
 use Rattle.sdf_writer.proofs.Lines.{wire_text_parts}
-use Rattle.sdf_writer.proofs.Pushing.{pushes_stop, pushes_then}
+use Rattle.edge_io.specs.Pushing.{pushes_stop, pushes_then}
 use Rattle.sdf_writer.proofs.entries.write_wire.Goals as goal
 
 pub returns-in_err-push : goal.returns-in_err-push

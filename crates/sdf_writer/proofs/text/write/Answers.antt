@@ -1,6 +1,6 @@
 use Rattle.std.proofs.lemmas.Result.{err_from_is_err_and}
 use Rattle.sdf_writer.proofs.Lines.{whole_text}
-use Rattle.sdf_writer.proofs.Pushing.{pushes_failed, pushes_flushed}
+use Rattle.edge_io.specs.Pushing.{pushes_failed, pushes_flushed}
 use Rattle.sdf_writer.proofs.text.write.Goals as goal
 
 pub returns-in_err-write_rows : goal.returns-in_err-write_rows

@@ -1,7 +1,7 @@
 use Rattle.std.proofs.Common.{◌<◌, length, arith}
 use Rattle.std.proofs.lemmas.Result.{err_from_is_err_and}
 use Rattle.sdf_writer.specs.SdfText.{escaped}
-use Rattle.sdf_writer.proofs.Pushing.{items_then, items_cut}
+use Rattle.edge_io.specs.Pushing.{items_then, items_cut}
 use Rattle.sdf_writer.proofs.text.write_escaped.Goals as goal
 
 pub returns-in_err-write_escaped_byte : goal.returns-in_err-write_escaped_byte

@@ -1,5 +1,5 @@
 use Rattle.std.proofs.Common.{◌++◌, flat_map, take, Ok}
-use Rattle.sdf_writer.specs.Gathering.{Pushes}
+use Rattle.edge_io.specs.Gathering.{Pushes}
 use Rattle.sdf_writer.specs.SdfText.{escaped}
 use Rattle.sdf_writer.proofs.text.write_escaped.Given as goal
 

@@ -1,6 +1,6 @@
 use Rattle.std.proofs.lemmas.Result.{err_from_is_err_and}
 use Rattle.std.proofs.Common.{Ok, Err, [], ◌∷◌, ◌++◌, flat_map}
-use Rattle.sdf_writer.proofs.Pushing.{pushes_stop, pushes_then}
+use Rattle.edge_io.specs.Pushing.{pushes_stop, pushes_then}
 use Rattle.sdf_writer.specs.SdfText.{escaped}
 use Rattle.sdf_writer.proofs.text.write_quoted.Goals as goal
 

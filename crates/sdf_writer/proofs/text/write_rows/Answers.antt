@@ -1,7 +1,7 @@
 -- One part after another.
 use Rattle.std.proofs.lemmas.Result.{err_from_is_err_and}
 use Rattle.std.proofs.Common.{Ok, Err, ◌++◌}
-use Rattle.sdf_writer.proofs.Pushing.{pushes_stop, pushes_then}
+use Rattle.edge_io.specs.Pushing.{pushes_stop, pushes_then}
 use Rattle.sdf_writer.specs.SdfText.{lines_text, opening_lines, delay_lines}
 use Rattle.sdf_writer.specs.WireRows.{wire_rows}
 use Rattle.sdf_writer.specs.PathRows.{cells_text}

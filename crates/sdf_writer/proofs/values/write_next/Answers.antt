@@ -1,7 +1,7 @@
 use Rattle.std.proofs.lemmas.Result.{err_from_is_err_and}
 use Rattle.std.proofs.Common.{Ok, Err, [], ◌∷◌}
 use Rattle.delay_units.specs.Printing.{femto_text}
-use Rattle.sdf_writer.proofs.Pushing.{pushes_stop, pushes_then}
+use Rattle.edge_io.specs.Pushing.{pushes_stop, pushes_then}
 use Rattle.sdf_writer.proofs.values.write_next.Goals as goal
 
 pub returns-in_err-push : goal.returns-in_err-push

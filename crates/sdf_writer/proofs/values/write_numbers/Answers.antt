@@ -1,7 +1,7 @@
 use Rattle.std.proofs.Common.{Ok, Err}
 use Rattle.std.proofs.lemmas.Result.{err_from_is_err_and}
 use Rattle.sdf_writer.proofs.Lines.{first_text, others_text, numbers_of_slice}
-use Rattle.sdf_writer.proofs.Pushing.{pushes_stop, pushes_then}
+use Rattle.edge_io.specs.Pushing.{pushes_stop, pushes_then}
 use Rattle.sdf_writer.proofs.values.write_numbers.Goals as goal
 
 pub returns-in_err-write_number : goal.returns-in_err-write_number

@@ -1,7 +1,7 @@
 use Rattle.std.proofs.Common.{◌<◌, ◌∷◌, length, pos, arith}
 use Rattle.std.proofs.lemmas.Result.{err_from_is_err_and}
 use Rattle.delay_units.specs.Printing.{femto_text}
-use Rattle.sdf_writer.proofs.Pushing.{items_then, items_cut}
+use Rattle.edge_io.specs.Pushing.{items_then, items_cut}
 use Rattle.sdf_writer.proofs.Within.{within_at}
 use Rattle.sdf_writer.proofs.values.write_others.Goals as goal
 

@@ -1,6 +1,6 @@
 use Rattle.std.proofs.Common.{◌∷◌, ◌++◌, flat_map, take, Ok}
 use Rattle.delay_units.specs.Printing.{femto_text}
-use Rattle.sdf_writer.specs.Gathering.{Pushes}
+use Rattle.edge_io.specs.Gathering.{Pushes}
 use Rattle.sdf_writer.proofs.values.write_others.Given as goal
 
 -- the numbers before this one are pushed
