@@ -26,4 +26,3 @@ pub mod Causing
 pub mod Within
 pub mod SoFar
 pub mod OneFault
-pub mod Gatherings

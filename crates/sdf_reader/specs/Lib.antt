@@ -5,7 +5,6 @@ pub mod Timescales
 pub mod Rows
 pub mod Sizes
 pub mod Numbers
-pub mod Gathering
 pub mod Grammar
 pub mod Causes
 pub mod Answers

@@ -17,7 +17,6 @@ mod tests;
 mod texts;
 mod times;
 mod timescales;
-mod waiting;
 mod words;
 
 pub use ends::{SdfCause, SdfEnd};

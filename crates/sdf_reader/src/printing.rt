@@ -1,14 +1,13 @@
 //! Tells the rows.
+ghost use Rattle.edge_io.specs.Gathering.{Pushes};
 ghost use Rattle.edge_io.specs.Writing.{Writes};
-ghost use Rattle.std.specs.Prelude.{◌≡◌, ◌∷◌, ◌++◌, codes};
+ghost use Rattle.std.specs.Prelude.{◌≡◌, ◌∷◌, ◌++◌, true, false, codes};
 ghost use Rattle.sdf_reader.specs.Lines.{member_text, is_single, members_text, value_text, instance_text, both_text, same_member, same_value, wire_values_text, names_text, wire_line, path_line, row_line, rows_text};
-ghost use Rattle.sdf_reader.specs.Gathering.{Keeps, Puts};
 
 use crate::rows::{SdfRow, SdfRows, Value};
 use crate::times::print_time;
-use crate::waiting::Waiting;
 use delay_units::Femto;
-use edge_io::{Failed, Sink, write_2, write_4, write_all};
+use edge_io::{Failed, Sink, WaitingBytes, write_2, write_4, write_all};
 
 /// A member of a value, or `-` where it is left out.
 fn print_member<O: Sink>(member: Option<Femto>, sink: &mut O) -> Result<(), Failed>
@@ -177,9 +176,10 @@ fn print_row<O: Sink>(row: &SdfRow, sink: &mut O) -> Result<(), Failed>
     }
 }
 
-/// Puts the line of a row behind those that wait, where there is room for it.
-fn keep_row(row: &SdfRow, waiting: &mut Waiting) -> bool
-    ensures keeps { Keeps (row_line row.now) waiting.old.bytes waiting.new.bytes result }
+/// Puts the line of a row behind those that wait, where there is room for all of it.
+fn keep_row(row: &SdfRow, waiting: &mut WaitingBytes) -> bool
+    ensures kept { result ≡ true → waiting.new ≡ waiting.old ++ row_line row.now }
+    ensures left { result ≡ false → waiting.new ≡ waiting.old }
 {
     let before = waiting.len();
     match print_row(row, waiting) {
@@ -192,8 +192,9 @@ fn keep_row(row: &SdfRow, waiting: &mut Waiting) -> bool
 }
 
 /// Puts the line of a row behind those that wait. Where there is no room, these are written, and then the line.
-fn put_row<O: Sink>(row: &SdfRow, waiting: &mut Waiting, sink: &mut O) -> Result<(), Failed>
-    ensures puts { Puts (waiting.old.bytes ++ row_line row.now) waiting.new.bytes (O.written sink.old) (O.written sink.new) (O.faults sink.old) (O.faults sink.new) result }
+fn put_row<O: Sink>(row: &SdfRow, waiting: &mut WaitingBytes, sink: &mut O) -> Result<(), Failed>
+    ensures pushes { Pushes (waiting.old ++ row_line row.now) waiting.new
+        (O.written sink.old) (O.written sink.new) (O.faults sink.old) (O.faults sink.new) result }
 {
     if keep_row(row, waiting) {
         return Ok(());
@@ -210,7 +211,7 @@ fn put_row<O: Sink>(row: &SdfRow, waiting: &mut Waiting, sink: &mut O) -> Result
 pub fn print_rows<O: Sink>(rows: &SdfRows, sink: &mut O) -> Result<(), Failed>
     ensures writes { Writes (rows_text rows.now) (O.written sink.old) (O.written sink.new) (O.faults sink.old) (O.faults sink.new) result }
 {
-    let mut waiting = Waiting::new();
+    let mut waiting = WaitingBytes::new();
     for row in &rows.rows {
         put_row(row, &mut waiting, sink)?;
     }
