@@ -6,10 +6,12 @@
 mod corner;
 mod grid;
 mod pick;
+mod triple;
 
 pub use corner::{CornerSet, Single};
 pub use grid::Grid;
 pub use pick::Pick;
+pub use triple::Triple;
 
 #[cfg(test)]
 mod tests {
