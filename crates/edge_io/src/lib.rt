@@ -34,6 +34,3 @@ pub use text_lists::TextList;
 pub use texts::Text;
 pub use waiting::WaitingBytes;
 pub use writing::{write_2, write_3, write_4, write_5, write_all};
-
-#[cfg(test)]
-mod tests;

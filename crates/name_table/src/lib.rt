@@ -14,6 +14,3 @@ pub use names::{NameId, Names};
 pub use sdf_names::{canonical_sdf, escape_sdf};
 pub use spef_names::{NodeName, SpefMarks, cut_node, read_spef_node};
 pub use written_names::{WrittenName, written_halves, written_name, written_whole};
-
-#[cfg(test)]
-mod tests;

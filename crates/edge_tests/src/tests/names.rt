@@ -1,6 +1,6 @@
-//! Outside values: names in SPEF and SDF with what they stand for, and a table of names.
-use crate::{Names, SpefMarks, canonical_sdf, escape_sdf, read_spef_node, written_name};
+//! Names in SPEF and SDF with what they stand for, and a table of names.
 use edge_io::Text;
+use name_table::{Names, SpefMarks, canonical_sdf, escape_sdf, read_spef_node, written_name};
 use std::test::Fail;
 
 /// The marks of a file that names none.

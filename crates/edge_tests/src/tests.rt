@@ -1,0 +1,5 @@
+//! One module a subject.
+mod files;
+mod grids;
+mod names;
+mod streams;
