@@ -75,7 +75,7 @@ signed_is unsigned n = refl
 signed_is plus n = refl
 signed_is minus n = refl
 
-neg-product : (n t : ℕ) → neg_ℤ (pos n) *ℤ pos t ≡ neg_ℤ (pos (n * t))
+pub neg-product : (n t : ℕ) → neg_ℤ (pos n) *ℤ pos t ≡ neg_ℤ (pos (n * t))
 neg-product zero t = let e : 0 ≡ 0 * t = omega arith in zero-*ℤ (pos t) ∙ ap (λ x. neg_ℤ (pos x)) e
 neg-product (suc n) t = negsuc-*ℤ-pos n t
 
@@ -92,13 +92,13 @@ exponent_is : (x : Option Exponent) → signed_by (has_minus x) (exponent_size x
 exponent_is None = refl
 exponent_is (Some e) = sym (signed_is e.sign (number_of e.digits))
 
-by_one : (z : ℤ) → z *ℤ pos (10 ^ 0) ≡ z
+pub by_one : (z : ℤ) → z *ℤ pos (10 ^ 0) ≡ z
 by_one z = omega (arith, ints)
 
 same_number : (m e n f : ℤ) (z : ℕ) → e ≡ f +ℤ pos z → n ≡ m *ℤ pos (10 ^ z) → SameNumber m e n f
 same_number m e n f z ee en = (z, 0, omega (arith, ints, ee), sym en ∙ sym (by_one n))
 
-zero_same : (f : ℤ) (m n : ℤ) → m ≡ pos 0 → n ≡ pos 0 → SameNumber m (pos 0) n f
+pub zero_same : (f : ℤ) (m n : ℤ) → m ≡ pos 0 → n ≡ pos 0 → SameNumber m (pos 0) n f
 zero_same (pos k) m n em en = (0, k, omega (arith, ints), ap (λ x. x *ℤ pos (10 ^ 0)) em ∙ zero-*ℤ (pos (10 ^ 0)) ∙ sym (ap (λ x. x *ℤ pos (10 ^ k)) en ∙ zero-*ℤ (pos (10 ^ k))))
 zero_same (negsuc k) m n em en = (suc k, 0, omega (arith, ints), ap (λ x. x *ℤ pos (10 ^ suc k)) em ∙ zero-*ℤ (pos (10 ^ suc k)) ∙ sym (ap (λ x. x *ℤ pos (10 ^ 0)) en ∙ zero-*ℤ (pos (10 ^ 0))))
 
@@ -143,7 +143,7 @@ no_length (x ∷ xs) e = absurd (omega (arith, e))
 nothing_times : (n : ℕ) → 0 * n ≡ 0
 nothing_times n = omega arith
 
-signed_zero : (s : Sign) → signed s 0 ≡ pos 0
+pub signed_zero : (s : Sign) → signed s 0 ≡ pos 0
 signed_zero unsigned = refl
 signed_zero plus = refl
 signed_zero minus = refl

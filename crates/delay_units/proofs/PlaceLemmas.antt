@@ -6,13 +6,14 @@ use Rattle.std.proofs.Math.Seq.{take-append_seam, take-append-add}
 use Rattle.std.proofs.lemmas.Bool.{cases_lt}
 use Rattle.std.proofs.lemmas.Bool.Decides.{nat_tests}
 use Rattle.delay_units.specs.Literal.{AreDigits, Sign, unsigned, plus, minus, sign_text, Exponent, Literal, fraction_text, fraction_digits, exponent_text, IsExponent, Spells, IsLiteral, BeginsLiteral, IsFaultOf}
-use Rattle.delay_units.specs.Parts.{Place, at_start, past_sign, in_whole, past_point, in_fraction, past_mark, past_exponent_sign, in_exponent, place_after, may_end, IsStuck, place_behind}
+use Rattle.delay_units.specs.Parts.{IsStuck}
+use Rattle.delay_units.specs.Places.{Place, at_start, past_sign, in_whole, past_point, in_fraction, past_mark, past_exponent_sign, in_exponent, place_after, may_end, place_behind}
 use Rattle.delay_units.specs.declared.numbers.NumberFault.TheVariants.{NotANumber}
 
 pub digit_is : (c : ℕ) → 48 ≤ c → c ≤ 57 → is_ascii_digit c ≡ true
 digit_is c low high = grind (arith, nat_tests)
 
-none_stays : (ys : List ℕ) → place_behind None ys ≡ None
+pub none_stays : (ys : List ℕ) → place_behind None ys ≡ None
 none_stays [] = refl
 none_stays (c ∷ cs) = refl
 
@@ -153,7 +154,7 @@ front_leads s whole fraction hw hf some =
 regrouped : (a b c d : List ℕ) → a ++ (b ++ (c ++ d)) ≡ (a ++ (b ++ c)) ++ d
 regrouped a b c d = sym (append_assoc a (b ++ c) d ∙ ap (λ x. a ++ x) (append_assoc b c d))
 
-literal_leads : (text : List ℕ) (l : Literal) → Spells text l → (q : Place) × Leads at_start text q × (may_end q ≡ true)
+pub literal_leads : (text : List ℕ) (l : Literal) → Spells text l → (q : Place) × Leads at_start text q × (may_end q ≡ true)
 literal_leads text l s =
     let t = tail_leads l.fraction l.exponent s.exponent in
     let front = sign_text l.sign ++ (l.whole ++ fraction_text l.fraction) in

@@ -3,7 +3,8 @@ use Rattle.std.proofs.Common.{◌≡◌, ℕ, ◌-◌, ◌<◌, List, [], ◌∷
 use Rattle.std.specs.Char.{is_ascii_digit}
 use Rattle.std.proofs.lemmas.List.{append-nil}
 use Rattle.delay_units.specs.Literal.{AreDigits, Sign, unsigned, plus, minus, sign_text, Exponent, fraction_text, fraction_digits, exponent_text, IsExponent, IsLiteral, BeginsLiteral, IsFaultOf}
-use Rattle.delay_units.specs.Parts.{at_start, past_point, past_mark, in_exponent, is_sign, is_mark, IsStuck, NoDigitFirst, NotFirst, SplitsSign, SplitsMantissa, StopsIn, no_mark, no_end}
+use Rattle.delay_units.specs.Parts.{IsStuck, NoDigitFirst, NotFirst, SplitsSign, SplitsMantissa, StopsIn, no_mark, no_end}
+use Rattle.delay_units.specs.Places.{at_start, past_point, past_mark, in_exponent, is_sign, is_mark}
 use Rattle.delay_units.specs.declared.numbers.NumberFault.TheVariants.{NotANumber}
 use Rattle.delay_units.specs.declared.tally.Tally.{Tally}
 use Rattle.delay_units.proofs.PlaceLemmas.{Leads, leads_then, leads_first, not_chosen, place_past_sign, place_past_mantissa, place_past_exponent_sign, sign_leads, sign_then_point, front_leads, exponent_sign_leads, exponent_sign_enters, in_exponent_enters, digits_lead, mark_leads, stops_at}

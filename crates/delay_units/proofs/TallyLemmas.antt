@@ -45,7 +45,7 @@ one_more_zero ds t h = record {
   last_digit = h.last_digit;
 }
 
-no_length : (xs : List ℕ) → length xs ≡ 0 → xs ≡ []
+pub no_length : (xs : List ℕ) → length xs ≡ 0 → xs ≡ []
 no_length [] e = refl
 no_length (x ∷ xs) e = absurd (omega (arith, e))
 

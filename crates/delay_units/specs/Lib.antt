@@ -1,6 +1,10 @@
+pub mod Amounts
 pub mod Literal
 pub mod Parts
+pub mod PlaceSteps
+pub mod Places
 pub mod Printing
 pub mod Reading
 pub mod Rounding
+pub mod ShortLiterals
 pub mod Tallies

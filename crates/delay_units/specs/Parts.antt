@@ -1,7 +1,8 @@
--- The parts of a text that may be a literal, and the places in one: what the steps of reading say.
-use Rattle.std.specs.Prelude.{◌≡◌, ℕ, ◌<◌, ◌≤◌, ◌⊎◌, Bool, true, false, ℤ, pos, ◌+ℤ◌, ◌-ℤ◌, neg_ℤ, Result, Ok, Err, List, [], ◌∷◌, ◌++◌, length, Option, Some, None, if◌then◌else◌, ◌==◌, ⊤, ◌||◌}
+-- The parts of a text that may be a literal: what the steps of reading say.
+use Rattle.std.specs.Prelude.{◌≡◌, ℕ, ◌<◌, ◌≤◌, ◌⊎◌, Bool, true, false, ℤ, pos, ◌+ℤ◌, ◌-ℤ◌, neg_ℤ, Result, Ok, Err, List, [], ◌∷◌, ◌++◌, length, Option, Some, None, ◌==◌, ⊤}
 use Rattle.std.specs.Char.{is_ascii_digit}
 use Rattle.delay_units.specs.Literal.{AreDigits, Sign, unsigned, plus, minus, sign_text, Exponent, fraction_text, fraction_digits, exponent_text, IsExponent, exponent_size, number_of}
+use Rattle.delay_units.specs.Places.{Place, is_mark, place_after, may_end}
 use Rattle.delay_units.specs.Tallies.{IsTallyOf}
 use Rattle.delay_units.specs.declared.literal.Power.{Power}
 use Rattle.delay_units.specs.declared.numbers.Decimal.{Decimal}
@@ -19,24 +20,6 @@ abbrev pub NotFirst : ℕ → List ℕ → Type 0
 NotFirst b [] = ⊤
 NotFirst b (c ∷ cs) = (c == b) ≡ false
 
--- the places in a literal: before its sign, behind it, in the digits before the point, behind a point with no digit
--- before it, in the digits behind the point, behind the mark of the exponent, behind its sign, in its digits
-pub data Place : Type 0 where
-  at_start : Place
-  past_sign : Place
-  in_whole : Place
-  past_point : Place
-  in_fraction : Place
-  past_mark : Place
-  past_exponent_sign : Place
-  in_exponent : Place
-
-abbrev pub is_sign : ℕ → Bool
-is_sign c = (c == 43) || (c == 45)
-
-abbrev pub is_mark : ℕ → Bool
-is_mark c = (c == 101) || (c == 69)
-
 -- it does not begin with the mark of an exponent
 abbrev pub NoMarkFirst : List ℕ → Type 0
 NoMarkFirst [] = ⊤
@@ -48,34 +31,10 @@ pub record BeginsWithMark (text rest : List ℕ) : Type 0 where
   pub split : text ≡ mark ∷ rest
   pub is_e : (mark ≡ 101) ⊎ (mark ≡ 69)
 
--- the place behind one more byte, where a literal may go on with it
-abbrev pub place_after : Place → ℕ → Option Place
-place_after at_start c = if is_ascii_digit c then Some in_whole else (if c == 46 then Some past_point else (if is_sign c then Some past_sign else None))
-place_after past_sign c = if is_ascii_digit c then Some in_whole else (if c == 46 then Some past_point else None)
-place_after in_whole c = if is_ascii_digit c then Some in_whole else (if c == 46 then Some in_fraction else (if is_mark c then Some past_mark else None))
-place_after past_point c = if is_ascii_digit c then Some in_fraction else None
-place_after in_fraction c = if is_ascii_digit c then Some in_fraction else (if is_mark c then Some past_mark else None)
-place_after past_mark c = if is_ascii_digit c then Some in_exponent else (if is_sign c then Some past_exponent_sign else None)
-place_after past_exponent_sign c = if is_ascii_digit c then Some in_exponent else None
-place_after in_exponent c = if is_ascii_digit c then Some in_exponent else None
-
--- a literal may end there
-abbrev pub may_end : Place → Bool
-may_end in_whole = true
-may_end in_fraction = true
-may_end in_exponent = true
-may_end _ = false
-
 -- neither the end nor the first byte of the rest can follow there
 abbrev pub IsStuck : Place → List ℕ → Type 0
 IsStuck p [] = may_end p ≡ false
 IsStuck p (c ∷ cs) = place_after p c ≡ None
-
--- the place behind these bytes
-abbrev pub place_behind : Option Place → List ℕ → Option Place
-place_behind p [] = p
-place_behind None (c ∷ cs) = None
-place_behind (Some p) (c ∷ cs) = place_behind (place_after p c) cs
 
 abbrev pub is_minus : Sign → Bool
 is_minus unsigned = false

@@ -1,5 +1,6 @@
 -- The rounded reading of a decimal in a unit.
-use Rattle.std.specs.Prelude.{suc, ◌^◌, ℤ, pos, negsuc, ◌+ℤ◌, ◌*ℤ◌}
+use Rattle.std.specs.Prelude.{ℕ, suc, ◌^◌, List, ℤ, pos, negsuc, ◌+ℤ◌, ◌*ℤ◌}
+use Rattle.delay_units.specs.Literal.{IsNumber}
 use Rattle.delay_units.specs.Rounding.{IsRounding}
 use Rattle.delay_units.specs.declared.numbers.Decimal.{Decimal}
 use Rattle.delay_units.specs.declared.numbers.Unit.{Unit}
@@ -13,3 +14,9 @@ IsRoundedPower n (negsuc k) v = IsRounding n (pos (10 ^ suc k)) v
 abbrev pub IsReading : Decimal → Unit → ℤ → Type 0
 IsReading number unit v =
     IsRoundedPower (number.digits *ℤ pos unit.mantissa) (number.exponent +ℤ unit.exponent) v
+
+-- the text is a number that is read, and v its rounded reading in the unit
+pub record ReadsAs (unit : Unit) (text : List ℕ) (v : ℤ) : Type 0 where
+  pub number : Decimal
+  pub reads : IsNumber text number
+  pub rounded : IsReading number unit v

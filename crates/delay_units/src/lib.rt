@@ -3,16 +3,21 @@
 //! It takes no memory, and nothing is a floating-point number.
 #![tactic(auto)]
 
+mod amounts;
 mod literal;
 mod numbers;
+mod places;
 mod printing;
 mod quantities;
 mod readings;
 mod rounding;
+mod short_literals;
 mod tally;
 
+pub use amounts::{Amount, read_amount};
 pub use literal::read_decimal;
 pub use numbers::{Decimal, NumberFault, Unit};
+pub use places::{begins_as_literal, is_literal};
 pub use printing::{Text32, write_atto, write_femto};
 pub use quantities::{Atto, Farads, Femto, Ohms};
 pub use readings::{scale, unit};

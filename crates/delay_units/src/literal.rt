@@ -54,7 +54,7 @@ fn read_mantissa(text: &[u8]) -> (Tally, usize, &[u8])
 
 /// The text behind its first byte, where that is `byte`.
 #[inline]
-fn strip(text: &[u8], byte: u8) -> Option<&[u8]>
+pub fn strip(text: &[u8], byte: u8) -> Option<&[u8]>
     ensures { MatchOption result (NotFirst byte text.now) (λ rest. text.now ≡ byte ∷ rest.now) }
 {
     match text {

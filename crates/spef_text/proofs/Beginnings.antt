@@ -2,7 +2,7 @@
 use Rattle.std.proofs.Common.{◌≡◌, ℕ, Bool, true, false, ◌+◌, zero, suc, List, [], ◌∷◌, take, drop, refl, ap, ◌∙◌, true≢false}
 use Rattle.std.specs.Prelude.{◌==◌, ◌||◌, ◌&&◌, Option, Some, None, if◌then◌else◌, position}
 use Rattle.std.specs.Char.{is_ascii_digit}
-use Rattle.delay_units.specs.Parts.{past_sign, in_whole, past_point, place_behind, is_sign}
+use Rattle.delay_units.specs.Places.{past_sign, in_whole, past_point, place_behind, is_sign}
 use Rattle.spef_text.specs.Classes.{ends_literal, is_literal, is_colon, is_value, is_value_parted, are_two_literals}
 use Rattle.spef_text.specs.LiteralPlaces.{begins_as_literal}
 

@@ -1,7 +1,7 @@
 -- The places that a literal leads over, byte by byte.
 use Rattle.std.proofs.Common.{◌≡◌, ℕ, ◌+◌, ◌<◌, ◌≤◌, false, List, [], ◌∷◌, length, get_or, drop, Some, None, refl, ap, ◌∙◌}
 use Rattle.std.proofs.lemmas.List.{drop_more, drop_all}
-use Rattle.delay_units.specs.Parts.{Place, at_start, may_end, place_after, place_behind}
+use Rattle.delay_units.specs.Places.{Place, at_start, may_end, place_after, place_behind}
 use Rattle.spef_text.specs.Classes.{is_literal, ends_literal}
 
 none_stays : (rest : List ℕ) → place_behind None rest ≡ None

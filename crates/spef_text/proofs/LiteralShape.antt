@@ -3,7 +3,7 @@ use Rattle.std.proofs.Common.{◌≡◌, ℕ, ◌<◌, ◌≤◌, ◌⊎◌, Boo
 use Rattle.std.specs.Char.{is_ascii_digit}
 use Rattle.std.proofs.lemmas.Bool.{eqb-true, leb-true}
 use Rattle.delay_units.specs.Literal.{AreDigits, Sign, unsigned, plus, minus, sign_text, Exponent, IsLiteral, fraction_text, fraction_digits, exponent_text, IsExponent}
-use Rattle.delay_units.specs.Parts.{Place, at_start, past_sign, in_whole, past_point, in_fraction, past_mark, past_exponent_sign, in_exponent, is_sign, is_mark, may_end, place_after, place_behind}
+use Rattle.delay_units.specs.Places.{Place, at_start, past_sign, in_whole, past_point, in_fraction, past_mark, past_exponent_sign, in_exponent, is_sign, is_mark, may_end, place_after, place_behind}
 use Rattle.delay_units.proofs.PlaceLemmas.{place_past_mantissa, place_past_exponent_sign, leads_then, leads_first, front_leads, mark_leads, exponent_sign_leads, digits_lead, in_exponent_enters}
 use Rattle.spef_text.specs.Classes.{is_literal, ends_literal}
 

@@ -5,7 +5,7 @@ use Rattle.std.specs.List.{AllByRecursion}
 use Rattle.std.specs.Str.{bytes_eq}
 use Rattle.std.proofs.lemmas.Bool.{eqb-true}
 use Rattle.std.proofs.lemmas.Slice.Eq.{bytes_eq-Decides}
-use Rattle.delay_units.specs.Parts.{place_behind}
+use Rattle.delay_units.specs.Places.{place_behind}
 use Rattle.spef_text.specs.Tokens.{is_broken}
 use Rattle.spef_text.specs.Classes.{keywords, lookup, word_of, is_top, is_tight, holds_of, is_other, is_loose, is_mark, is_two_marks, is_literal, is_value, is_value_parted, are_two_literals, is_id, is_index, is_name, is_indexed, is_ref, ends_literal, is_colon}
 use Rattle.spef_text.specs.declared.words.Word.{Word}

@@ -4,7 +4,7 @@ use Rattle.std.specs.List.{list_all, prefix_len}
 use Rattle.std.specs.Str.{bytes_eq}
 use Rattle.std.specs.Char.{is_ascii_digit, is_ascii_uppercase, is_ascii_alphanumeric}
 use Rattle.delay_units.specs.Literal.{without_leading_zeros}
-use Rattle.delay_units.specs.Parts.{Place, at_start, may_end, place_behind}
+use Rattle.delay_units.specs.Places.{Place, at_start, may_end, place_behind}
 use Rattle.spef_text.specs.Tokens.{is_broken, is_nothing}
 use Rattle.spef_text.specs.declared.words.Word.{Word}
 use Rattle.spef_text.specs.declared.words.Word.TheVariants.{Spef, Free, Design, Divider, Delimiter, BusDelimiter, CapUnit, ResUnit, NameMap, Net, Refused, Induc, Load, Port, Internal, Node, Conn, Cap, Res, End, Confidence}

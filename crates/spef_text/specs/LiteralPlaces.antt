@@ -1,7 +1,7 @@
 -- The places in a literal, as the reader keeps them, and what follows each of them by the kind of byte.
 use Rattle.std.specs.Prelude.{ℕ, Bool, false, ◌||◌, ◌==◌, List, [], ◌∷◌, Option, Some, None}
 use Rattle.std.specs.Char.{is_ascii_digit}
-use Rattle.delay_units.specs.Parts.{Place, at_start, past_sign, in_whole, past_point, in_fraction, past_mark, past_exponent_sign, in_exponent, is_sign}
+use Rattle.delay_units.specs.Places.{Place, at_start, past_sign, in_whole, past_point, in_fraction, past_mark, past_exponent_sign, in_exponent, is_sign}
 use Rattle.spef_text.specs.declared.places.Place.{Place as Kept}
 use Rattle.spef_text.specs.declared.places.Place.TheVariants.{Start, Sign, Whole, Point, Fraction, Mark, ExponentSign, Exponent}
 

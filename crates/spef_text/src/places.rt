@@ -1,6 +1,6 @@
 //! Whether a token is a decimal literal, by the places in one.
 ghost use Rattle.std.specs.Prelude.{◌≡◌, option_map};
-ghost use Rattle.delay_units.specs.Parts.{is_sign, is_mark, may_end, place_after};
+ghost use Rattle.delay_units.specs.Places.{is_sign, is_mark, may_end, place_after};
 ghost use Rattle.spef_text.specs.Classes.{is_literal};
 ghost use Rattle.spef_text.specs.LiteralPlaces.{begins_as_literal, place_of, place_after_digit, place_after_point, place_after_sign, place_after_mark};
 

@@ -1,6 +1,6 @@
 -- The places of the whole lead to the place so far, and on over the rest.
 use Rattle.std.proofs.Common.{◌≡◌, Some, drop}
-use Rattle.delay_units.specs.Parts.{at_start, place_behind}
+use Rattle.delay_units.specs.Places.{at_start, place_behind}
 use Rattle.spef_text.specs.LiteralPlaces.{place_of}
 use Rattle.spef_text.proofs.places.is_literal.Given as goal
 
