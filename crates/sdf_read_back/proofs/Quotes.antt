@@ -3,6 +3,7 @@ use Rattle.std.proofs.Common.{◌≡◌, ℕ, ◌+◌, ◌-◌, Bool, true, fals
 use Rattle.std.specs.List.{flat_map}
 use Rattle.std.proofs.Math.Seq.{take-append_seam, drop-append_seam}
 use Rattle.std.proofs.lemmas.List.{length-append}
+use Rattle.token_texts.specs.Quoted.{quote_end}
 use Rattle.sdf_reader.specs.Tokens.{text_end, text_cut, cut_at, Lexeme, AreTokens, take_one, said_behind, meaning}
 use Rattle.sdf_reader.specs.declared.scan.Kind.TheVariants.{Quoted}
 use Rattle.sdf_reader.specs.declared.scan.Cut.TheVariants.{Take}
@@ -19,7 +20,7 @@ next found = option_map (λ place. place + 1) found
 
 -- a byte that stands as it is, and one behind a backslash
 end_plain : (byte : ℕ) (rest : List ℕ) → (byte == 34) ≡ false → (byte == 92) ≡ false → text_end false (byte ∷ rest) ≡ next (text_end false rest)
-unfolding text_end
+unfolding quote_end
 end_plain byte rest p q =
     ap (λ t. cond (t && true) (Some 0) (next (text_end (byte == 92 && true) rest))) p
     ∙ ap (λ t. next (text_end (t && true) rest)) q
@@ -29,13 +30,13 @@ and_false true = refl
 and_false false = refl
 
 end_taken : (byte : ℕ) (rest : List ℕ) → text_end true (byte ∷ rest) ≡ next (text_end false rest)
-unfolding text_end
+unfolding quote_end
 end_taken byte rest =
     ap (λ t. cond t (Some 0) (next (text_end (byte == 92 && false) rest))) (and_false (byte == 34))
     ∙ ap (λ t. next (text_end t rest)) (and_false (byte == 92))
 
 end_slash : (rest : List ℕ) → text_end false (92 ∷ rest) ≡ next (text_end true rest)
-unfolding text_end
+unfolding quote_end
 end_slash rest = refl
 
 said_plain : (byte : ℕ) (rest : List ℕ) → (byte == 92) ≡ false → said_behind false (byte ∷ rest) ≡ byte ∷ said_behind false rest
@@ -82,7 +83,7 @@ passes byte = by (byte == 34) (byte == 92) refl refl
     by false false p q = passes_plain byte p q
 
 end_of : (text rest : List ℕ) → text_end false (inner text ++ 34 ∷ rest) ≡ Some (length (inner text))
-unfolding text_end
+unfolding quote_end
 end_of [] rest = refl
 end_of (byte ∷ text) rest =
     ap (text_end false) (append_assoc (escaped byte) (inner text) (34 ∷ rest))

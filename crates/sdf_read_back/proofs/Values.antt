@@ -13,7 +13,7 @@ use Rattle.sdf_reader.specs.declared.timescales.Timescale.{Timescale}
 use Rattle.sdf_reader.specs.declared.timescales.Count.TheVariants.{One}
 use Rattle.sdf_reader.specs.declared.timescales.TimeUnit.TheVariants.{Picosecond}
 use Rattle.sdf_reader.specs.declared.words.Keyword.{Keyword}
-use Rattle.sdf_reader.proofs.Runs.{not_byte}
+use Rattle.token_texts.specs.ByteLemmas.{not_byte}
 use Rattle.sdf_writer.specs.Bounds.{AreWithin}
 use Rattle.sdf_read_back.specs.Rows.{value_of}
 use Rattle.sdf_read_back.proofs.Digits.{decimal_writes, last_are_digits}

@@ -3,12 +3,15 @@ use Rattle.std.proofs.Common.{◌≡◌, ℕ, suc, ◌+◌, ◌<◌, ◌≤◌, 
 use Rattle.std.specs.List.{list_all}
 use Rattle.std.proofs.Math.Seq.{take-append_seam, drop-append_seam}
 use Rattle.std.proofs.lemmas.Bool.{le-leb, leb-true}
-use Rattle.sdf_reader.specs.Tokens.{begins_with, is_blank, is_plain, word_length, word_cut, cut_at, Lexeme, AreTokens, skip, take_one}
+use Rattle.token_texts.specs.Bytes.{begins_with}
+use Rattle.token_texts.specs.Blanks.{is_blank}
+use Rattle.token_texts.specs.RunLemmas.{escaped_more, escaped_none, escaped_taking}
+use Rattle.sdf_reader.specs.Tokens.{is_plain, word_length, word_cut, cut_at, Lexeme, AreTokens, skip, take_one}
 use Rattle.sdf_reader.specs.declared.scan.Kind.TheVariants.{LeftParen, RightParen, Word}
 use Rattle.sdf_reader.specs.declared.scan.Cut.TheVariants.{Take}
 use Rattle.sdf_read_back.proofs.TokenLists.{left, right, word}
 use Rattle.sdf_reader.proofs.Cutting.{cut_blank, cut_left, cut_right, cut_slash, cut_word}
-use Rattle.sdf_reader.proofs.Runs.{not_byte, word_plain, word_other, word_taking}
+use Rattle.token_texts.specs.ByteLemmas.{not_byte}
 
 -- ---- tokens
 
@@ -49,10 +52,10 @@ abbrev pub is_bare : ℕ → Bool
 is_bare byte = is_plain byte && not (byte == 92)
 
 pub bare_goes_on : (byte : ℕ) → is_plain byte ≡ true → (byte == 92) ≡ false → GoesOn (byte ∷ [])
-bare_goes_on byte plain other rest = let e = word_plain byte rest other plain in omega (arith, e)
+bare_goes_on byte plain other rest = let e = escaped_more is_plain byte rest other plain in omega (arith, e)
 
 pub taken_goes_on : (byte : ℕ) → GoesOn (92 ∷ byte ∷ [])
-taken_goes_on byte rest = let e = word_taking 92 byte rest refl in omega (arith, e)
+taken_goes_on byte rest = let e = escaped_taking is_plain 92 byte rest refl in omega (arith, e)
 
 -- a byte that a word begins with, other than a slash and a backslash
 pub record BeginsWord (byte : ℕ) : Type 0 where
@@ -109,7 +112,7 @@ slash_word more goes none = record {
 cut_there : (first : ℕ) (more : List ℕ) (stop : ℕ) (rest : List ℕ) → cut_at first (more ++ stop ∷ rest) ≡ word_cut (first ∷ more ++ stop ∷ rest) (word_length (first ∷ more ++ stop ∷ rest)) → GoesOn (first ∷ more) → is_plain stop ≡ false → (stop == 92) ≡ false
     → cut_at first (more ++ stop ∷ rest) ≡ Take (suc (length more)) Word
 cut_there first more stop rest cut goes ends other =
-    let none : word_length (stop ∷ rest) ≡ 0 = word_other stop rest other ends in
+    let none : word_length (stop ∷ rest) ≡ 0 = escaped_none is_plain stop rest other ends in
     let all : word_length (first ∷ more ++ stop ∷ rest) ≡ length (first ∷ more) + word_length (stop ∷ rest) = goes (stop ∷ rest) in
     let long : word_length (first ∷ more ++ stop ∷ rest) ≡ suc (length more) = omega (arith, none, all) in
     cut ∙ ap (word_cut (first ∷ more ++ stop ∷ rest)) long

@@ -1,5 +1,3 @@
-pub mod Searching
-pub mod Runs
 pub mod Cutting
 pub mod Saying
 pub mod ScaleWords

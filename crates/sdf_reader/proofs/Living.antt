@@ -4,7 +4,9 @@ use Rattle.std.specs.Prelude.{codes}
 use Rattle.std.specs.List.{AllByRecursion}
 use Rattle.token_fronts.specs.Machine.{outcome}
 use Rattle.token_fronts.specs.Stopping.{Completes}
-use Rattle.sdf_reader.specs.Tokens.{Lexeme, IsToken, is_token, cut_at, word_length, text_end}
+use Rattle.token_texts.specs.Quoted.{quote_end}
+use Rattle.token_texts.specs.Runs.{escaped_run_length}
+use Rattle.sdf_reader.specs.Tokens.{Lexeme, IsToken, is_token, cut_at}
 use Rattle.sdf_reader.specs.Keywords.{keyword_of, same_word}
 use Rattle.sdf_reader.specs.Modes.{Entry, State, next, finish}
 use Rattle.sdf_reader.specs.declared.scan.Kind.{Kind}
@@ -42,43 +44,43 @@ unfolding cut_at
 ends_is = is_token refl refl
 
 text_is : IsToken empty_text
-unfolding cut_at text_end
+unfolding cut_at quote_end
 text_is = is_token refl refl
 
 a_is : IsToken (word (codes "a"))
-unfolding cut_at word_length
+unfolding cut_at escaped_run_length
 a_is = is_token refl refl
 
 file_is : IsToken (word (codes "DELAYFILE"))
-unfolding cut_at word_length
+unfolding cut_at escaped_run_length
 file_is = is_token refl refl
 
 dot_is : IsToken (word (codes "."))
-unfolding cut_at word_length
+unfolding cut_at escaped_run_length
 dot_is = is_token refl refl
 
 second_is : IsToken (word (codes "1s"))
-unfolding cut_at word_length
+unfolding cut_at escaped_run_length
 second_is = is_token refl refl
 
 s_is : IsToken (word (codes "s"))
-unfolding cut_at word_length
+unfolding cut_at escaped_run_length
 s_is = is_token refl refl
 
 zero_is : IsToken (word (codes "0s"))
-unfolding cut_at word_length
+unfolding cut_at escaped_run_length
 zero_is = is_token refl refl
 
 cell_is : IsToken (word (codes "CELL"))
-unfolding cut_at word_length
+unfolding cut_at escaped_run_length
 cell_is = is_token refl refl
 
 type_is : IsToken (word (codes "CELLTYPE"))
-unfolding cut_at word_length
+unfolding cut_at escaped_run_length
 type_is = is_token refl refl
 
 instance_is : IsToken (word (codes "INSTANCE"))
-unfolding cut_at word_length
+unfolding cut_at escaped_run_length
 instance_is = is_token refl refl
 
 -- so many `)`

@@ -2,7 +2,7 @@
 use Rattle.std.proofs.Common.{◌≡◌, ℕ, suc, ◌+◌, ◌-◌, ◌<◌, ◌≤◌, Bool, true, false, cond, not, ◌&&◌, ◌==◌, List, [], ◌∷◌, ◌++◌, length, take, drop, get_or, refl, sym, ap, ◌∙◌, arith, append-nil, append_assoc}
 use Rattle.std.proofs.lemmas.List.{drop_more, drop_all}
 use Rattle.sdf_reader.specs.Tokens.{said_behind, meaning}
-use Rattle.sdf_reader.proofs.Runs.{not_byte}
+use Rattle.token_texts.specs.ByteLemmas.{not_byte}
 
 -- what the whole says is the text so far, and what the rest says
 pub record SaidSoFar (whole text : List ℕ) (taken : Bool) (place : ℕ) : Type 0 where

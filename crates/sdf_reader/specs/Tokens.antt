@@ -1,52 +1,32 @@
 -- The bytes of an SDF file (IEEE 1497-2001), and the tokens that they are parted into.
-use Rattle.std.specs.Prelude.{◌≡◌, ℕ, zero, suc, ◌+◌, ◌-◌, Bool, true, false, not, ◌&&◌, ◌||◌, ◌==◌, nat_le, if◌then◌else◌, List, [], ◌∷◌, length, take, drop, position, Option, Some, None, unwrap_or}
-use Rattle.std.specs.Option.{option_map}
+use Rattle.std.specs.Prelude.{◌≡◌, ℕ, zero, suc, ◌+◌, ◌-◌, Bool, true, false, not, ◌&&◌, ◌||◌, ◌==◌, nat_le, if◌then◌else◌, List, [], ◌∷◌, length, take, drop, Option, Some, None}
+use Rattle.token_texts.specs.Bytes.{quote, left_paren, right_paren, star, slash, backslash, begins_with}
+use Rattle.token_texts.specs.Blanks.{is_blank}
+use Rattle.token_texts.specs.Comments.{line_length, comment_end}
+use Rattle.token_texts.specs.Quoted.{takes, quote_end}
+use Rattle.token_texts.specs.Runs.{escaped_run_length}
+use Rattle.token_texts.specs.declared.quoted.Escape.TheVariants.{NextByte}
 use Rattle.sdf_reader.specs.declared.scan.Kind.{Kind}
 use Rattle.sdf_reader.specs.declared.scan.Kind.TheVariants.{LeftParen, RightParen, Word, Quoted, Bad, OpenQuoted, OpenNote}
 use Rattle.sdf_reader.specs.declared.scan.Cut.{Cut}
 use Rattle.sdf_reader.specs.declared.scan.Cut.TheVariants.{Skip, Take}
 
--- the bytes 9 to 13 and 32
-abbrev pub is_blank : ℕ → Bool
-is_blank byte = (nat_le 9 byte && nat_le byte 13) || byte == 32
-
-abbrev pub is_line_end : ℕ → Bool
-is_line_end byte = byte == 10
-
-abbrev pub begins_with : ℕ → List ℕ → Bool
-begins_with byte [] = false
-begins_with byte (first ∷ rest) = first == byte
-
 -- A byte that a word goes on with: from 33 to 255, but no parenthesis, quote or backslash.
 abbrev pub is_plain : ℕ → Bool
-is_plain byte = nat_le 33 byte && not (byte == 40 || byte == 41 || byte == 34 || byte == 92)
+is_plain byte = nat_le 33 byte && not (byte == left_paren || byte == right_paren || byte == quote || byte == backslash)
 
 -- how many bytes the longest word has, in which a backslash takes the next byte with it, whatever that is; 0 where none begins
-unfoldable pub word_length : List ℕ → ℕ
-word_length [] = 0
-word_length (byte ∷ []) = if is_plain byte then 1 else 0
-word_length (byte ∷ next ∷ rest) =
-    if byte == 92 then word_length rest + 2
-    else (if is_plain byte then word_length (next ∷ rest) + 1 else 0)
+abbrev pub word_length : List ℕ → ℕ
+word_length bytes = escaped_run_length is_plain bytes
 
 -- Bytes behind a quote: the place of the quote that ends the text. A backslash takes the next byte with it; `taken` says that one stands before these bytes.
-unfoldable pub text_end : Bool → List ℕ → Option ℕ
-text_end taken [] = None
-text_end taken (byte ∷ rest) = if byte == 34 && not taken then Some 0 else option_map (λ place. place + 1) (text_end (byte == 92 && not taken) rest)
-
--- the place of the first `*/`
-unfoldable pub comment_end : List ℕ → Option ℕ
-comment_end [] = None
-comment_end (byte ∷ rest) = if byte == 42 && begins_with 47 rest then Some 0 else option_map (λ place. place + 1) (comment_end rest)
+abbrev pub text_end : Bool → List ℕ → Option ℕ
+text_end taken bytes = quote_end NextByte taken bytes
 
 -- A `/*` with `inner` behind it, where the comment ends at this place: it is passed over, or it is open and takes all.
 abbrev pub comment_cut : List ℕ → Option ℕ → Cut
 comment_cut inner None = Take (length inner + 2) OpenNote
 comment_cut inner (Some place) = Skip (place + 4)
-
--- A slash with `rest` behind it, which begins with a slash: the comment goes up to the end of the line.
-abbrev pub line_length : List ℕ → ℕ
-line_length rest = unwrap_or (position is_line_end rest) (length rest) + 1
 
 -- A quote with `rest` behind it, in which the text ends at this place: a text, or an open one, which takes all.
 abbrev pub text_cut : List ℕ → Option ℕ → Cut
@@ -62,11 +42,11 @@ word_cut bytes (suc more) = Take (suc more) Word
 unfoldable pub cut_at : ℕ → List ℕ → Cut
 cut_at first rest =
     if is_blank first then Skip 1
-    else (if first == 40 then Take 1 LeftParen
-    else (if first == 41 then Take 1 RightParen
-    else (if first == 34 then text_cut rest (text_end false rest)
-    else (if first == 47 && begins_with 47 rest then Skip (line_length rest)
-    else (if first == 47 && begins_with 42 rest then comment_cut (drop 1 rest) (comment_end (drop 1 rest))
+    else (if first == left_paren then Take 1 LeftParen
+    else (if first == right_paren then Take 1 RightParen
+    else (if first == quote then text_cut rest (text_end false rest)
+    else (if first == slash && begins_with slash rest then Skip (line_length rest)
+    else (if first == slash && begins_with star rest then comment_cut (drop 1 rest) (comment_end (drop 1 rest))
     else word_cut (first ∷ rest) (word_length (first ∷ rest)))))))
 
 -- what no text of the grammar has: a byte that begins no token, and a text and a comment that do not end
@@ -103,7 +83,7 @@ pub data IsToken : Lexeme → Type 0 where
 -- what bytes say in which a backslash makes the next byte stand for itself; `taken` says that one stands before them
 unfoldable pub said_behind : Bool → List ℕ → List ℕ
 said_behind taken [] = []
-said_behind taken (byte ∷ rest) = if byte == 92 && not taken then said_behind true rest else byte ∷ said_behind false rest
+said_behind taken (byte ∷ rest) = if takes NextByte byte taken then said_behind true rest else byte ∷ said_behind false rest
 
 -- what a text says that is given with its quotes
 abbrev pub meaning : List ℕ → List ℕ

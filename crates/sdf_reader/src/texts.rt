@@ -2,10 +2,10 @@
 ghost use Rattle.std.specs.Prelude.{◌≡◌, false, IfOk};
 ghost use Rattle.sdf_reader.specs.Tokens.{said_behind, meaning};
 
-use crate::scan::takes;
 use edge_io::{OutOfMemory, Text};
 use memchr::memchr;
 use std::alloc::Global;
+use token_texts::{Escape, takes};
 
 /// What bytes say in which a backslash makes the next byte stand for itself.
 fn unescaped(alloc: Global, raw: &[u8]) -> Result<Text, OutOfMemory>
@@ -14,7 +14,7 @@ fn unescaped(alloc: Global, raw: &[u8]) -> Result<Text, OutOfMemory>
     let mut text = Text::new(alloc);
     let mut is_taken = false;
     for byte in raw {
-        is_taken = takes(*byte, is_taken);
+        is_taken = takes(Escape::NextByte, *byte, is_taken);
         if !is_taken {
             text.push_all(&[*byte])?;
         }

@@ -2,7 +2,7 @@
 use Rattle.std.proofs.Common.{ℕ, List, sym, ap, ◌∙◌}
 use Rattle.sdf_reader.specs.Tokens.{cut_at, word_cut, word_length}
 use Rattle.sdf_reader.proofs.Cutting.{cut_blank, cut_left, cut_right, cut_quote, cut_word}
-use Rattle.sdf_reader.proofs.Runs.{not_byte}
+use Rattle.token_texts.specs.ByteLemmas.{not_byte}
 use Rattle.sdf_reader.proofs.scan.cut_at.Goals as goal
 
 pub returns-then-is_blank-clause-value : goal.returns-then-is_blank-clause-value
