@@ -10,7 +10,7 @@ ghost use Rattle.spef_nets.specs.DraftOf.{drafted};
 use crate::amounts::Grains;
 use crate::elements::Elements;
 use crate::parts::{Ends, Listed};
-use crate::pushing::{emptied, push};
+use crate::pushing::{empty, push};
 use crate::referred::{RefLists, Referred};
 use crate::section_lists::SectionLists;
 use crate::source::Source;
@@ -19,6 +19,7 @@ use corner_set::{CornerSet, Pick};
 use delay_units::{Farads, Ohms};
 use edge_io::{OutOfMemory, Text};
 use spef_text::Conn;
+use std::alloc::Global;
 use std::marker::PhantomData;
 use std::mem;
 
@@ -95,6 +96,17 @@ impl<'r, 'f> Draft<'r, 'f> {
         requires { IsHeadOf source.now.file.now source.now.head.now }
         ensures { IfOk result (λ draft. drafted draft ≡ no_draft source.now.file.now net) }
     {
+        let mut draft = Draft::over(source, lists, net);
+        draft.empty::<C>(source.alloc, conn_count, cap_count, res_count)?;
+        Ok(draft)
+    }
+
+    // The net's draft, over the lists, which are taken. What they hold does not count yet.
+    fn over(source: &Source<'r, 'f>, lists: &mut SectionLists<'r>, net: Text) -> Draft<'r, 'f>
+        requires { IsHeadOf source.now.file.now source.now.head.now }
+        ensures net { (drafted result).net.net ≡ net }
+        ensures file { (drafted result).refs.file ≡ source.now.file.now }
+    {
         let alloc = source.alloc;
         let refs = mem::replace(&mut lists.refs, RefLists::new(alloc));
         let numbered = mem::replace(&mut lists.nodes, Vec::new(alloc));
@@ -107,17 +119,36 @@ impl<'r, 'f> Draft<'r, 'f> {
             ohms,
             written: _,
         } = mem::replace(&mut lists.elements, Elements::new(alloc));
-        let nodes = room_for(cap_count, res_count);
-        Ok(Draft {
+        Draft {
             net,
-            refs: Referred::with_room(alloc, refs, numbered, source.file, source.head, nodes)?,
-            conns: emptied(conns, conn_count)?,
-            loads: emptied(loads, conn_count.saturating_mul(C::COUNT))?,
-            caps: emptied(caps, cap_count)?,
-            farads: emptied(farads, cap_count.saturating_mul(C::COUNT))?,
-            joints: emptied(joints, res_count)?,
-            ohms: emptied(ohms, res_count.saturating_mul(C::COUNT))?,
-        })
+            refs: Referred::over(refs, numbered, source.file, source.head),
+            conns,
+            loads,
+            caps,
+            farads,
+            joints,
+            ohms,
+        }
+    }
+
+    // Lets go of all elements, and makes room for so many.
+    fn empty<C: CornerSet>(
+        &mut self,
+        alloc: Global,
+        conn_count: usize,
+        cap_count: usize,
+        res_count: usize,
+    ) -> Result<(), OutOfMemory>
+        ensures { OnOk result (drafted self.new ≡ no_draft (drafted self.old).refs.file (drafted self.old).net.net) }
+    {
+        self.refs.empty(alloc, room_for(cap_count, res_count))?;
+        empty(&mut self.conns, conn_count)?;
+        empty(&mut self.loads, conn_count.saturating_mul(C::COUNT))?;
+        empty(&mut self.caps, cap_count)?;
+        empty(&mut self.farads, cap_count.saturating_mul(C::COUNT))?;
+        empty(&mut self.joints, res_count)?;
+        empty(&mut self.ohms, res_count.saturating_mul(C::COUNT))?;
+        Ok(())
     }
 
     /// Puts a connection at the end, whose node has this spelling and no number yet.

@@ -1,11 +1,11 @@
 //! The nodes that a section names, each at its place.
-ghost use Rattle.std.specs.Prelude.{◌≡◌, ◌+◌, false, [], slice_get, Some, IfOk, IfSome, IfNone};
+ghost use Rattle.std.specs.Prelude.{◌≡◌, ◌+◌, false, [], slice_get, Some, IfOk, OnOk, IfSome, IfNone};
 ghost use Rattle.std.specs.Option.{option_copied};
 ghost use Rattle.spef_nets.specs.Nodes.{key_of, same_key, same_tail, among};
 ghost use Rattle.spef_nets.specs.Refs.{IsInterned};
 
 use crate::name_hash::NameHash;
-use crate::pushing::{emptied, emptied_table, push};
+use crate::pushing::{empty, empty_table, push};
 use edge_io::OutOfMemory;
 use indexmap::IndexSet;
 use name_table::{NodeName, WrittenName};
@@ -174,15 +174,15 @@ impl<'r> NodeTable<'r> {
         }
     }
 
-    /// No node, with room for so many. The list of the few keeps its memory.
-    pub fn emptied(self, alloc: Global, many: usize) -> Result<NodeTable<'r>, OutOfMemory>
-        ensures { IfOk result (λ table. table ≡ []) }
+    /// Lets go of all nodes, and makes room for so many. The list of the few keeps its memory.
+    pub fn empty(&mut self, alloc: Global, many: usize) -> Result<(), OutOfMemory>
+        ensures { OnOk result (self.new ≡ []) }
     {
-        let NodeTable { few, keys, most: _ } = self;
         let (most, room) = if many < MANY { (FEW, 0) } else { (0, many) };
-        let few = emptied(few, most)?;
-        let keys = emptied_table(alloc, keys, room)?;
-        Ok(NodeTable { few, keys, most })
+        empty(&mut self.few, most)?;
+        empty_table(alloc, &mut self.keys, room)?;
+        self.most = most;
+        Ok(())
     }
 
     /// Whether all nodes stand in the list.

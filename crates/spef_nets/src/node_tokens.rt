@@ -6,7 +6,7 @@ ghost use Rattle.spef_nets.specs.Nodes.{node_at};
 ghost use Rattle.spef_nets.specs.NodeNames.{nodes_in, AreNames};
 
 use crate::node_names::{NodeNames, Spelled};
-use crate::pushing::{emptied, push};
+use crate::pushing::push;
 use edge_io::OutOfMemory;
 use name_table::NodeName;
 use spef_text::{Head, SpefFile};
@@ -33,18 +33,23 @@ impl<'r, 'f> Model for NodeTokens<'r, 'f> {
 }
 
 impl<'r, 'f> NodeTokens<'r, 'f> {
-    /// No node, with room for so many. The list is emptied, and used again.
-    pub fn with_room(
-        tokens: Vec<u32>,
-        file: &'r SpefFile<'f>,
-        head: &'r Head,
-        many: usize,
-    ) -> Result<NodeTokens<'r, 'f>, OutOfMemory>
+    /// No node. The list is emptied, and keeps its memory.
+    pub fn new(tokens: Vec<u32>, file: &'r SpefFile<'f>, head: &'r Head) -> NodeTokens<'r, 'f>
         requires { IsHeadOf file.now head.now }
-        ensures { IfOk result (λ nodes. nodes ≡ record { file = file.now; nodes = [] }) }
+        ensures { result ≡ record { file = file.now; nodes = [] } }
     {
-        let tokens = emptied(tokens, many)?;
-        Ok(NodeTokens { file, head, tokens })
+        let mut tokens = tokens;
+        tokens.clear();
+        NodeTokens { file, head, tokens }
+    }
+
+    /// Lets go of all nodes, and makes room for so many.
+    pub fn empty(&mut self, many: usize) -> Result<(), OutOfMemory>
+        ensures { OnOk result (self.new ≡ record { file = self.old.file; nodes = [] }) }
+    {
+        self.tokens.clear();
+        self.tokens.reserve(many)?;
+        Ok(())
     }
 
     /// Puts the node of a token at the end.

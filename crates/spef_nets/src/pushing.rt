@@ -24,27 +24,26 @@ pub fn kept(value: usize) -> Result<u32, OutOfMemory>
     }
 }
 
-/// The list without its items, in the same memory, with room for so many.
-pub fn emptied<T: Drop>(items: Vec<T>, many: usize) -> Result<Vec<T>, OutOfMemory>
-    ensures { IfOk result (λ empty. empty.items ≡ []) }
+/// Empties a list, which keeps its memory, and makes room for so many items.
+pub fn empty<T: Drop>(items: &mut Vec<T>, many: usize) -> Result<(), OutOfMemory>
+    ensures { OnOk result (items.new.items ≡ []) }
 {
-    let mut empty = items;
-    empty.clear();
-    empty.reserve(many)?;
-    Ok(empty)
+    items.clear();
+    items.reserve(many)?;
+    Ok(())
 }
 
-/// An empty table with room for so many. One that holds something is let go of, since to empty it would take as long as it is large.
-pub fn emptied_table<T: Eq + Hash + Drop>(
+/// Empties a table, and makes room for so many items. One that holds something is let go of, since to empty it would take as long as
+/// it is large.
+pub fn empty_table<T: Eq + Hash + Drop>(
     alloc: Global,
-    table: IndexSet<T, NameHash>,
+    table: &mut IndexSet<T, NameHash>,
     many: usize,
-) -> Result<IndexSet<T, NameHash>, OutOfMemory>
-    ensures { IfOk result (λ empty. empty.keys ≡ []) }
+) -> Result<(), OutOfMemory>
+    ensures { OnOk result (table.new.keys ≡ []) }
 {
-    if many == 0 && table.is_empty() {
-        return Ok(table);
+    if many > 0 || !table.is_empty() {
+        *table = IndexSet::with_capacity_and_hasher(alloc, many, NameHash::default())?;
     }
-    let empty = IndexSet::with_capacity_and_hasher(alloc, many, NameHash::default())?;
-    Ok(empty)
+    Ok(())
 }

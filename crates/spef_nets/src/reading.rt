@@ -1,16 +1,37 @@
 //! The sections of a file are read.
-ghost use Rattle.std.specs.Prelude.{◌≡◌, ◌⊎◌, IfOk, IfErr, OnOk};
+ghost use Rattle.std.specs.Prelude.{◌≡◌, ◌⊎◌, ◌<◌, [], ◌∷◌, ◌++◌, length, IfOk, IfErr, OnOk};
 ghost use Rattle.spef_text.specs.Heads.{IsHeadOf};
-ghost use Rattle.spef_nets.specs.Sections.{Corners, AreNets};
+ghost use Rattle.spef_nets.specs.Sections.{Corners, IsNet, AreNets};
+ghost use Rattle.spef_nets.specs.NetElements.{NetElements};
+ghost use Rattle.spef_nets.specs.Reading.{next_section, with_net};
+ghost use Rattle.spef_nets.specs.Drafts.{corners_of};
 ghost use Rattle.spef_nets.specs.Faults.{AreFaultless, IsSectionEnd, IsLeastFault};
 
 use crate::ends::SectionEnd;
 use crate::pushing::push;
+use crate::section::Section;
 use crate::section_reader::SectionReader;
 use crate::sections::Sections;
 use corner_set::{CornerSet, Pick};
 use spef_text::{Head, SpefFile};
 use std::alloc::Global;
+
+// Reads the next section, and puts it behind those before it.
+fn push_next<C: CornerSet>(
+    alloc: Global,
+    reader: &mut SectionReader,
+    sections: &mut Vec<Section<C>>,
+) -> Result<(), SectionEnd>
+    requires { length reader.old.nets < length reader.old.file.reading.sections }
+    ensures next { OnOk result ((net : NetElements) × IsNet (corners_of C.COUNT C.number_of C.member_of reader.old.pick) reader.old.file reader.old.head (next_section reader.old) net
+        × (reader.new ≡ with_net reader.old net.net) × (sections.new.items ≡ sections.old.items ++ net ∷ [])) }
+    ensures refused { IfErr result (IsSectionEnd reader.old.file reader.old.head) }
+    ensures least { IfErr result (λ end. (end ≡ SectionEnd.OutOfMemory) ⊎ IsLeastFault reader.old.file reader.old.head end) }
+{
+    let section = reader.read::<C>()?;
+    push(sections, section.into_section(alloc)?)?;
+    Ok(())
+}
 
 /// Reads all sections of a file, as [`SectionReader::read`] reads each of them. The first fault in the order of the file is told,
 /// which is the one with the least token; at one token they come in the order of [`SectionEnd`].
@@ -33,8 +54,7 @@ pub fn read_sections<C: CornerSet>(
     let mut reader = SectionReader::new(alloc, file, head, pick);
     let mut sections = Vec::new(alloc);
     for _ in 0..file.section_count() {
-        let section = reader.read::<C>()?;
-        push(&mut sections, section.into_section(alloc)?)?;
+        push_next::<C>(alloc, &mut reader, &mut sections)?;
     }
     Ok(Sections {
         sections,

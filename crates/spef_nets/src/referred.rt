@@ -11,7 +11,7 @@ ghost use Rattle.spef_nets.specs.Drafts.{BelongsBy};
 use crate::marks::Mark;
 use crate::node_table::{NodeKey, NodeTable};
 use crate::node_tokens::NodeTokens;
-use crate::pushing::{emptied, kept, push};
+use crate::pushing::{empty, kept, push};
 use crate::spellings::Spellings;
 use edge_io::{OutOfMemory, Text};
 use spef_text::{Head, SpefFile, are_equal};
@@ -59,17 +59,15 @@ pub struct Referred<'r, 'f> {
 }
 
 impl<'r, 'f> Referred<'r, 'f> {
-    /// No spelling yet, with room for those of so many nodes. The lists are emptied, and used again.
-    pub fn with_room(
-        alloc: Global,
+    /// The references of a section, over these lists. What they hold does not count: [`Referred::empty`] comes next.
+    pub fn over(
         lists: RefLists<'r>,
         numbered: Vec<u32>,
         file: &'r SpefFile<'f>,
         head: &'r Head,
-        nodes: usize,
-    ) -> Result<Referred<'r, 'f>, OutOfMemory>
+    ) -> Referred<'r, 'f>
         requires { IsHeadOf file.now head.now }
-        ensures { IfOk result (λ refs. refs_of refs ≡ no_refs file.now) }
+        ensures { (refs_of result).file ≡ file.now }
     {
         let RefLists {
             words,
@@ -79,15 +77,29 @@ impl<'r, 'f> Referred<'r, 'f> {
             marks,
             latest,
         } = lists;
-        Ok(Referred {
-            words: words.emptied(nodes)?,
-            places: emptied(places, nodes)?,
-            tokens: emptied(tokens, nodes)?,
-            table: table.emptied(alloc, nodes)?,
-            marks: emptied(marks, nodes)?,
-            latest: emptied(latest, nodes)?,
-            nodes: NodeTokens::with_room(numbered, file, head, nodes)?,
-        })
+        Referred {
+            words,
+            places,
+            tokens,
+            table,
+            marks,
+            latest,
+            nodes: NodeTokens::new(numbered, file, head),
+        }
+    }
+
+    /// Lets go of all spellings, and makes room for those of so many nodes.
+    pub fn empty(&mut self, alloc: Global, nodes: usize) -> Result<(), OutOfMemory>
+        ensures { OnOk result (refs_of self.new ≡ no_refs (refs_of self.old).file) }
+    {
+        self.words.empty(nodes)?;
+        self.table.empty(alloc, nodes)?;
+        self.nodes.empty(nodes)?;
+        empty(&mut self.places, nodes)?;
+        empty(&mut self.tokens, nodes)?;
+        empty(&mut self.marks, nodes)?;
+        empty(&mut self.latest, nodes)?;
+        Ok(())
     }
 
     /// The number of a spelling that stood before, where it is found at once.

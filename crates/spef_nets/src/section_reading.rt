@@ -316,6 +316,28 @@ impl<'r, 'f> Source<'r, 'f> {
         Ok(())
     }
 
+    // Puts the elements of a section into a new draft.
+    fn fill<C: CornerSet>(
+        &self,
+        s: usize,
+        draft: &mut Draft<'r, 'f>,
+        joints: &mut Vec<Joined>,
+    ) -> Result<(), SectionEnd>
+        requires section { s < length self.now.file.now.reading.sections }
+        requires head { IsHeadOf self.now.file.now self.now.head.now }
+        requires net { net_at self.now.file.now (section_at self.now.file.now.reading.sections s).net ≡ Some (drafted draft.old).net.net }
+        requires new { IsGood self.now.file.now s (section_at self.now.file.now.reading.sections s) (naming (section_at self.now.file.now.reading.sections s).net) }
+        requires fresh { drafted draft.old ≡ no_draft self.now.file.now (drafted draft.old).net.net }
+        ensures upto { OnOk result (IsUpto (corners_of C.COUNT C.number_of C.member_of self.now.pick) self.now.file.now self.now.head.now s (length (section_at self.now.file.now.reading.sections s).ress) (length (section_at self.now.file.now.reading.sections s).conns) (length (section_at self.now.file.now.reading.sections s).caps) (length (section_at self.now.file.now.reading.sections s).ress) (drafted draft.new)) }
+        ensures err { IfErr result (IsStop self.now.file.now self.now.head.now s) }
+    {
+        self.begin::<C>(s, draft, joints)?;
+        self.read_conns::<C>(s, draft)?;
+        self.read_caps::<C>(s, draft)?;
+        self.read_ress::<C>(s, draft, joints.as_slice())?;
+        Ok(())
+    }
+
     /// Reads the section at a place, of the net with this name. Its faults are looked for in the order of its tokens. Nothing of what
     /// the lists hold counts.
     pub fn read_section<C: CornerSet>(
@@ -337,10 +359,7 @@ impl<'r, 'f> Source<'r, 'f> {
         let caps = self.file.cap_count(s);
         let ress = self.file.res_count(s);
         let mut draft = Draft::with_room::<C>(self, lists, net, conns, caps, ress)?;
-        self.begin::<C>(s, &mut draft, &mut lists.joints)?;
-        self.read_conns::<C>(s, &mut draft)?;
-        self.read_caps::<C>(s, &mut draft)?;
-        self.read_ress::<C>(s, &mut draft, lists.joints.as_slice())?;
+        self.fill::<C>(s, &mut draft, &mut lists.joints)?;
         Ok(draft.into_section(caps, &mut lists.refs))
     }
 }

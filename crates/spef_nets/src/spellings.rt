@@ -2,7 +2,7 @@
 ghost use Rattle.std.specs.Prelude.{◌≡◌, ℕ, ◌+◌, ◌<◌, true, [], ◌∷◌, ◌++◌, List, length, map, slice_get, Some, IfOk, OnOk, IfSome};
 
 use crate::node_table::MANY;
-use crate::pushing::emptied;
+use crate::pushing::empty;
 use edge_io::OutOfMemory;
 use spef_text::are_equal;
 use std::alloc::Global;
@@ -44,22 +44,14 @@ impl<'t> Spellings<'t> {
         }
     }
 
-    /// No spelling, with room for so many. The list keeps its memory.
-    pub fn emptied(self, many: usize) -> Result<Spellings<'t>, OutOfMemory>
-        ensures { IfOk result (λ spellings. spellings ≡ []) }
+    /// Lets go of all spellings, and makes room for so many. The list keeps its memory.
+    pub fn empty(&mut self, many: usize) -> Result<(), OutOfMemory>
+        ensures { OnOk result (self.new ≡ []) }
     {
-        let Spellings {
-            words,
-            front: _,
-            last: _,
-        } = self;
-        let words = emptied(words, many)?;
-        let front = if many < MANY { FEW } else { FIRST };
-        Ok(Spellings {
-            words,
-            front,
-            last: 0,
-        })
+        empty(&mut self.words, many)?;
+        self.front = if many < MANY { FEW } else { FIRST };
+        self.last = 0;
+        Ok(())
     }
 
     /// How many spellings there are.
