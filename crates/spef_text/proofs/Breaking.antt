@@ -1,9 +1,11 @@
 -- Whether a token is broken, by its first byte.
 use Rattle.std.proofs.Common.{◌≡◌, ℕ, Bool, true, false, cond, ◌==◌, List, [], ◌∷◌, length, sym, refl, ap, ◌∙◌, arith}
-use Rattle.spef_text.specs.Tokens.{is_blank, run_length, cut_at, is_broken, is_broken_cut}
+use Rattle.token_texts.specs.Bytes.{quote, slash, backslash}
+use Rattle.token_texts.specs.Blanks.{is_blank}
+use Rattle.token_texts.specs.ByteLemmas.{not_byte}
+use Rattle.spef_text.specs.Tokens.{run_length, cut_at, is_broken, is_broken_cut}
 use Rattle.spef_text.specs.declared.scan.Cut.TheVariants.{Skip, Take}
 use Rattle.spef_text.proofs.Cutting.{cut_backslash, cut_backslash_last}
-use Rattle.spef_text.proofs.Runs.{not_byte}
 
 pub by_first : (text : List ℕ) (first : ℕ) (rest : List ℕ) → text ≡ first ∷ rest → is_broken text ≡ is_broken_cut (cut_at first rest)
 unfolding is_broken
@@ -14,7 +16,7 @@ unfolding is_broken
 nothing_broken [] none = refl
 nothing_broken (b ∷ text) none = absurd (omega arith)
 
-pub backslash_broken : (rest : List ℕ) → is_broken_cut (cut_at 92 rest) ≡ (length rest == 0)
+pub backslash_broken : (rest : List ℕ) → is_broken_cut (cut_at backslash rest) ≡ (length rest == 0)
 backslash_broken [] = ap is_broken_cut (cut_backslash_last [] refl)
 backslash_broken (b ∷ rest) = ap is_broken_cut (cut_backslash (b ∷ rest) (omega arith)) ∙ sym (not_byte (length (b ∷ rest)) 0 (λ e. omega arith))
 
@@ -22,6 +24,6 @@ neither : (blank : Bool) (n : ℕ) → is_broken_cut (cond blank (Skip 1) (Take 
 neither true n = refl
 neither false n = refl
 
-pub others_broken : (first : ℕ) (rest : List ℕ) → (first == 34) ≡ false → (first == 47) ≡ false → (first == 92) ≡ false → is_broken_cut (cut_at first rest) ≡ false
+pub others_broken : (first : ℕ) (rest : List ℕ) → (first == quote) ≡ false → (first == slash) ≡ false → (first == backslash) ≡ false → is_broken_cut (cut_at first rest) ≡ false
 unfolding cut_at
 others_broken first rest p q r = simp (p, q, r) (neither (is_blank first) (run_length (first ∷ rest)))

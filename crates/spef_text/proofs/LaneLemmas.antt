@@ -7,8 +7,9 @@ use Rattle.std.proofs.lemmas.Simd.{bit_mask_l, length-chunk, get_or-chunk}
 use Rattle.std.specs.Int.{bit_at, trailing_zeros}
 use Rattle.std.specs.Int.Bits.{bit_or}
 use Rattle.std.specs.Simd.Lanes.{mask_l}
-use Rattle.spef_text.specs.Tokens.{is_blank, is_backslash}
-use Rattle.spef_text.proofs.Runs.{not_byte}
+use Rattle.token_texts.specs.Blanks.{is_blank}
+use Rattle.spef_text.specs.Tokens.{is_backslash}
+use Rattle.token_texts.specs.ByteLemmas.{not_byte}
 
 bit_off : (b : Bool) → cond {A = ℕ} b 1 0 ≡ 0 → b ≡ false
 bit_off true off = absurd (omega (arith, off))

@@ -9,7 +9,6 @@ pub mod Parting
 pub mod Runs
 pub mod Samples
 pub mod Scanning
-pub mod Searching
 pub mod Living
 pub mod Overlaps
 pub mod PlainDecimals

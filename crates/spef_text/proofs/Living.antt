@@ -4,7 +4,8 @@ use Rattle.std.specs.Prelude.{codes}
 use Rattle.std.specs.List.{AllByRecursion}
 use Rattle.token_fronts.specs.Machine.{outcome}
 use Rattle.token_fronts.specs.Stopping.{Completes}
-use Rattle.spef_text.specs.Tokens.{IsToken, cut_at, run_length, is_broken}
+use Rattle.token_texts.specs.Runs.{escaped_run_length}
+use Rattle.spef_text.specs.Tokens.{IsToken, cut_at, is_broken}
 use Rattle.spef_text.specs.Classes.{word_of, is_mark, is_two_marks, is_literal, is_other, is_map_name, is_name, is_ref, is_value, is_direction, is_loose, is_id}
 use Rattle.spef_text.specs.Entries.{Section, Head, Reading}
 use Rattle.spef_text.specs.Modes.{State, next, finish}
@@ -19,7 +20,7 @@ module _ (head : Head) (done : List Section) (begun : Section) (number : ℕ) wh
   completed_by mode more value tokens made = record { more = more; tokens = tokens; value = value; made = made }
 
   completes : (mode : Mode) → Completes IsToken next finish (at mode) number []
-  unfolding cut_at run_length is_broken word_of is_mark is_two_marks is_literal is_other is_map_name is_name is_ref is_value is_direction is_loose is_id
+  unfolding cut_at escaped_run_length is_broken word_of is_mark is_two_marks is_literal is_other is_map_name is_name is_ref is_value is_direction is_loose is_id
   completes Start = completed_by Start (codes "*SPEF" ∷ []) _ (refl, tt) refl
   completes Others = completed_by Others [] _ tt refl
   completes DesignName = completed_by DesignName [] _ tt refl

@@ -5,7 +5,7 @@ use Rattle.std.specs.List.{list_all, prefix_len}
 use Rattle.std.specs.Char.{is_ascii_digit}
 use Rattle.delay_units.specs.Places.{at_start, in_whole, past_point, in_fraction, place_behind}
 use Rattle.std.proofs.lemmas.Bool.{lt-leb}
-use Rattle.spef_text.proofs.Runs.{not_byte}
+use Rattle.token_texts.specs.ByteLemmas.{not_byte}
 use Rattle.spef_text.specs.Classes.{ends_literal, is_literal, is_colon, is_value, is_value_parted}
 
 both_true : (one other : Bool) → (one && other) ≡ true → (one ≡ true) × (other ≡ true)

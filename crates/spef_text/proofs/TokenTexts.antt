@@ -1,45 +1,17 @@
 -- What stands at the front of a token's text alone is that token.
-use Rattle.std.proofs.Common.{◌≡◌, ℕ, zero, suc, ◌+◌, Bool, true, false, cond, ◌&&◌, ◌||◌, ◌==◌, List, [], ◌∷◌, length, take, drop, get_or, Option, Some, None, position, sym, refl, ap, ◌∙◌, subst, arith, nat_lt, lt-ltb, length-take, inl, inr}
+use Rattle.std.proofs.Common.{◌≡◌, ℕ, zero, suc, ◌+◌, Bool, true, false, cond, ◌&&◌, ◌==◌, List, [], ◌∷◌, length, take, drop, get_or, Option, Some, None, position, sym, refl, ap, ◌∙◌, subst, arith, nat_lt, lt-ltb, length-take, inl, inr}
 use Rattle.std.specs.List.{position_or_len}
 use Rattle.std.proofs.lemmas.List.{get_or-take}
 use Rattle.std.proofs.lemmas.List.Sums.{position_or_len_is}
 use Rattle.std.proofs.lemmas.List.Quantifiers.{position-Some}
-use Rattle.spef_text.specs.Tokens.{is_blank, is_quote, is_backslash, ends_text, begins_with, is_nothing, text_cut, comment_end, comment_cut, line_length, run_length, cut_at, IsToken, is_broken, is_broken_cut, AreTokens, end, skip, take_one, broken}
+use Rattle.token_texts.specs.Bytes.{star, slash, begins_with}
+use Rattle.token_texts.specs.Blanks.{is_blank}
+use Rattle.token_texts.specs.Comments.{line_length, comment_end}
+use Rattle.token_texts.specs.RunLemmas.{escaped_within, escaped_whole}
+use Rattle.spef_text.specs.Tokens.{is_quote, is_backslash, ends_text, is_nothing, is_solid, text_cut, comment_cut, run_length, cut_at, IsToken, is_broken, is_broken_cut, AreTokens, end, skip, take_one, broken}
 use Rattle.spef_text.specs.TokenTexts.{StandAlone}
 use Rattle.spef_text.specs.declared.scan.Cut.TheVariants.{Skip, Take, Broken}
-use Rattle.spef_text.proofs.Runs.{run_plain, run_taking}
-use Rattle.spef_text.proofs.Cutting.{run_within, run_from}
-
-one_byte : (b : ℕ) (t : Bool) → is_blank b || is_backslash b ≡ t → run_length (take (cond t 0 1) (b ∷ [])) ≡ cond t 0 1
-unfolding run_length
-one_byte b true e = refl
-one_byte b false e = ap (λ t. cond t 0 1) e
-
-taking : (b c : ℕ) (rest : List ℕ) (n : ℕ) → is_backslash b ≡ true → run_length (take n rest) ≡ n → run_length (take (n + 2) (b ∷ c ∷ rest)) ≡ n + 2
-taking b c rest n is later =
-    let e : n + 2 ≡ suc (suc n) = omega arith in
-    ap (λ m. run_length (take m (b ∷ c ∷ rest))) e ∙ run_taking b c (take n rest) is ∙ ap (λ m. m + 2) later
-
-plain : (b : ℕ) (rest : List ℕ) (n : ℕ) → is_backslash b ≡ false → is_blank b ≡ false → run_length (take n rest) ≡ n → run_length (take (n + 1) (b ∷ rest)) ≡ n + 1
-plain b rest n p q later =
-    let e : n + 1 ≡ suc n = omega arith in
-    ap (λ m. run_length (take m (b ∷ rest))) e ∙ run_plain b (take n rest) p q ∙ ap (λ m. m + 1) later
-
-nothing_run : run_length [] ≡ 0
-unfolding run_length
-nothing_run = refl
-
-two_bytes : (b c : ℕ) (rest : List ℕ) (s t : Bool) → is_backslash b ≡ s → is_blank b ≡ t → run_length (take (run_length rest) rest) ≡ run_length rest → run_length (take (run_length (c ∷ rest)) (c ∷ rest)) ≡ run_length (c ∷ rest)
-    → run_length (take (cond s (run_length rest + 2) (cond t 0 (run_length (c ∷ rest) + 1))) (b ∷ c ∷ rest)) ≡ cond s (run_length rest + 2) (cond t 0 (run_length (c ∷ rest) + 1))
-two_bytes b c rest true t p q after next = taking b c rest (run_length rest) p after
-two_bytes b c rest false true p q after next = nothing_run
-two_bytes b c rest false false p q after next = plain b (c ∷ rest) (run_length (c ∷ rest)) p q next
-
-whole_run : (bytes : List ℕ) → run_length (take (run_length bytes) bytes) ≡ run_length bytes
-unfolding run_length
-whole_run [] = refl
-whole_run (b ∷ []) = one_byte b (is_blank b || is_backslash b) refl
-whole_run (b ∷ c ∷ rest) = two_bytes b c rest (is_backslash b) (is_blank b) refl refl (whole_run rest) (whole_run (c ∷ rest))
+use Rattle.spef_text.proofs.Runs.{run_taking, run_from}
 
 text_whole : (rest : List ℕ) (place : ℕ) → position ends_text rest ≡ Some place → position ends_text (take (place + 1) rest) ≡ Some place
 text_whole rest place e =
@@ -64,16 +36,16 @@ last_same first (c ∷ rest) zero true is h size = let two = run_taking first c 
 last_same first (c ∷ rest) (suc k) true is h size = refl
 
 -- the cut of a token's own text, where it is a run
-run_alone : (first : ℕ) (rest : List ℕ) (k : ℕ) → is_blank first ≡ false → is_quote first ≡ false → first == 47 && begins_with 47 rest ≡ false → first == 47 && begins_with 42 rest ≡ false → is_backslash first && is_nothing rest ≡ false → run_length (first ∷ rest) ≡ suc k
+run_alone : (first : ℕ) (rest : List ℕ) (k : ℕ) → is_blank first ≡ false → is_quote first ≡ false → first == slash && begins_with slash rest ≡ false → first == slash && begins_with star rest ≡ false → is_backslash first && is_nothing rest ≡ false → run_length (first ∷ rest) ≡ suc k
     → cut_at first (take k rest) ≡ Take (length (first ∷ take k rest))
 unfolding cut_at
 run_alone first rest k blank quote line comment last size =
-    let line_too = head_same 47 (first == 47) rest k line in
-    let comment_too = head_same 42 (first == 47) rest k comment in
+    let line_too = head_same slash (first == slash) rest k line in
+    let comment_too = head_same star (first == slash) rest k comment in
     let last_too = last_same first rest k (is_backslash first) refl last size in
-    let all = run_within (first ∷ rest) in
+    let all = escaped_within is_solid (first ∷ rest) in
     let long : length (first ∷ take k rest) ≡ suc k = omega (arith, length-take k rest) in
-    let same : run_length (first ∷ take k rest) ≡ suc k = ap (λ m. run_length (take m (first ∷ rest))) (sym size) ∙ whole_run (first ∷ rest) ∙ size in
+    let same : run_length (first ∷ take k rest) ≡ suc k = ap (λ m. run_length (take m (first ∷ rest))) (sym size) ∙ escaped_whole is_solid (first ∷ rest) ∙ size in
     simp (blank, quote, line_too, comment_too, last_too) (ap (λ n. Take n) (same ∙ sym long))
 
 text_alone : (first : ℕ) (rest : List ℕ) (place : ℕ) → is_blank first ≡ false → is_quote first ≡ true → position ends_text rest ≡ Some place → is_quote (get_or rest place 0) ≡ true
@@ -99,7 +71,7 @@ no_comment_token : (end : Option ℕ) (n : ℕ) → comment_cut end ≡ Take n �
 no_comment_token None n h = cc
 no_comment_token (Some place) n h = cc
 
-run_token : (first : ℕ) (rest : List ℕ) (n : ℕ) → is_blank first ≡ false → is_quote first ≡ false → first == 47 && begins_with 47 rest ≡ false → first == 47 && begins_with 42 rest ≡ false → is_backslash first && is_nothing rest ≡ false → run_length (first ∷ rest) ≡ n
+run_token : (first : ℕ) (rest : List ℕ) (n : ℕ) → is_blank first ≡ false → is_quote first ≡ false → first == slash && begins_with slash rest ≡ false → first == slash && begins_with star rest ≡ false → is_backslash first && is_nothing rest ≡ false → run_length (first ∷ rest) ≡ n
     → IsToken (take n (first ∷ rest))
 run_token first rest zero blank quote line comment last size = let some = run_from first rest blank last in absurd (omega arith)
 run_token first rest (suc k) blank quote line comment last size = run_alone first rest k blank quote line comment last size
@@ -107,9 +79,9 @@ run_token first rest (suc k) blank quote line comment last size = run_alone firs
 pub token_text : (first : ℕ) (rest : List ℕ) (n : ℕ) → cut_at first rest ≡ Take n → IsToken (take n (first ∷ rest))
 unfolding cut_at
 token_text first rest n cut =
-    by (is_blank first) refl (is_quote first) refl (first == 47 && begins_with 47 rest) refl (first == 47 && begins_with 42 rest) refl (is_backslash first && is_nothing rest) refl cut
+    by (is_blank first) refl (is_quote first) refl (first == slash && begins_with slash rest) refl (first == slash && begins_with star rest) refl (is_backslash first && is_nothing rest) refl cut
   where
-    by : (blank : Bool) → is_blank first ≡ blank → (quote : Bool) → is_quote first ≡ quote → (line : Bool) → first == 47 && begins_with 47 rest ≡ line → (comment : Bool) → first == 47 && begins_with 42 rest ≡ comment → (last : Bool) → is_backslash first && is_nothing rest ≡ last
+    by : (blank : Bool) → is_blank first ≡ blank → (quote : Bool) → is_quote first ≡ quote → (line : Bool) → first == slash && begins_with slash rest ≡ line → (comment : Bool) → first == slash && begins_with star rest ≡ comment → (last : Bool) → is_backslash first && is_nothing rest ≡ last
         → cond blank (Skip 1) (cond quote (text_cut rest (position ends_text rest)) (cond line (Skip (line_length rest)) (cond comment (comment_cut (comment_end (drop 1 rest))) (cond last Broken (Take (run_length (first ∷ rest))))))) ≡ Take n
         → IsToken (take n (first ∷ rest))
     by true b quote q line l comment m last z h = absurd (cc)

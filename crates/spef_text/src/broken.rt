@@ -2,8 +2,8 @@
 ghost use Rattle.std.specs.Prelude.{◌≡◌, position};
 ghost use Rattle.spef_text.specs.Tokens.{is_broken, is_broken_cut, ends_text, text_cut, cut_at};
 
-use crate::scan::begins_with;
-use memchr::{memchr2, memmem};
+use memchr::memchr2;
+use token_texts::{begins_with, comment_end};
 
 /// Behind a quote: whether no other quote stands on the line.
 fn is_open_text(rest: &[u8]) -> bool
@@ -22,10 +22,7 @@ fn is_open_comment(rest: &[u8]) -> bool
     if begins_with(b'/', rest) {
         false
     } else if begins_with(b'*', rest) {
-        match memmem::find(rest.split_at(1).1, b"*/") {
-            Some(_) => false,
-            None => true,
-        }
+        comment_end(rest.split_at(1).1).is_none()
     } else {
         false
     }

@@ -1,7 +1,8 @@
 //! Bytes of a run, 16 at a time.
 ghost use Rattle.std.specs.Prelude.{◌≡◌, ◌+◌, ◌<◌, ◌≤◌, ℕ, false, length, slice_index};
 ghost use Rattle.std.specs.Int.{bit_at};
-ghost use Rattle.spef_text.specs.Tokens.{is_blank, is_backslash};
+ghost use Rattle.token_texts.specs.Blanks.{is_blank};
+ghost use Rattle.spef_text.specs.Tokens.{is_backslash};
 
 use std::simd::prelude::*;
 

@@ -1,14 +1,16 @@
 //! Parts a file's bytes into tokens.
 ghost use Rattle.std.specs.Prelude.{◌≡◌, ◌+◌, ◌^◌, ◌<◌, ◌≤◌, [], ◌∷◌, ◌++◌, length, position, IfOk, OnOk};
 ghost use Rattle.spef_text.specs.Spans.{texts};
-ghost use Rattle.spef_text.specs.Tokens.{is_blank, ends_text, text_cut, comment_end, comment_cut, line_length, run_length, begins_with, cut_at, AreTokens};
+ghost use Rattle.token_texts.specs.Comments.{comment_end};
+ghost use Rattle.spef_text.specs.Tokens.{ends_text, text_cut, comment_cut, run_length, cut_at, AreTokens};
 ghost use Rattle.spef_text.specs.Cuts.{IsWithin};
 
 use crate::lanes::plain_length;
 use crate::spans::Span;
 use edge_io::OutOfMemory;
-use memchr::{memchr, memchr2, memmem};
+use memchr::memchr2;
 use std::alloc::Global;
+use token_texts::{begins_with, comment_end, is_blank, line_length};
 
 /// What stands at the front of some bytes: so many that are passed over, a token of so many, or a token that is broken,
 /// which takes them all.
@@ -17,13 +19,6 @@ pub enum Cut {
     Skip(usize),
     Take(usize),
     Broken,
-}
-
-#[inline]
-fn is_blank(byte: u8) -> bool
-    ensures { result ≡ is_blank byte }
-{
-    matches!(byte, 9..=13 | b' ')
 }
 
 /// Behind a quote: a text to the next quote of the line, or an open one.
@@ -37,23 +32,12 @@ fn text_cut(rest: &[u8]) -> Cut
     }
 }
 
-/// Behind the first slash of a comment to the end of the line: how many bytes it has.
-fn line_length(rest: &[u8]) -> usize
-    requires { length rest.now < 2 ^ 32 }
-    ensures { result ≡ line_length rest.now }
-{
-    match memchr(b'\n', rest) {
-        Some(place) => place + 1,
-        None => rest.len() + 1,
-    }
-}
-
 /// Behind the `/*` of a comment.
 fn comment_cut(rest: &[u8]) -> Cut
     requires { length rest.now < 2 ^ 32 }
     ensures { result ≡ comment_cut (comment_end rest.now) }
 {
-    match memmem::find(rest, b"*/") {
+    match comment_end(rest) {
         Some(place) => Cut::Skip(place + 4),
         None => Cut::Broken,
     }
@@ -84,17 +68,6 @@ fn run_length(bytes: &[u8]) -> usize
         }
     }
     place
-}
-
-/// Whether the bytes begin with this one.
-#[inline]
-pub(crate) fn begins_with(byte: u8, bytes: &[u8]) -> bool
-    ensures { result ≡ begins_with byte bytes.now }
-{
-    match bytes {
-        [] => false,
-        [first, ..] => *first == byte,
-    }
 }
 
 /// Behind a slash: a comment, or a run of bytes.

@@ -1,5 +1,5 @@
 -- How long a run is, byte by byte.
-use Rattle.std.proofs.Common.{◌≡◌, ℕ, zero, suc, ◌+◌, ◌-◌, ◌<◌, ◌≤◌, Bool, true, false, cond, ◌==◌, List, [], ◌∷◌, length, drop, get_or, ap, subst, ◌∙◌, arith}
+use Rattle.std.proofs.Common.{◌≡◌, ℕ, zero, suc, ◌+◌, ◌-◌, ◌<◌, ◌≤◌, Bool, true, false, cond, ◌==◌, List, [], ◌∷◌, length, take, drop, get_or, refl, ap, subst, ◌∙◌, arith}
 use Rattle.std.proofs.lemmas.Bool.{eq-eqb}
 use Rattle.std.proofs.lemmas.List.{drop_more, drop_all}
 use Rattle.token_texts.specs.Bytes.{backslash}
@@ -82,6 +82,35 @@ module _ (is_in : ℕ → Bool) where
         | false ↦ elim (is_in b) as (λ t. cond t (escaped_run_length is_in (c ∷ rest) + 1) 0 ≤ suc (suc (length rest))) [ true ↦ omega arith | false ↦ omega arith ]
       ]
 
+  -- the run is the whole of its own bytes
+  nothing : escaped_run_length is_in [] ≡ 0
+  unfolding escaped_run_length
+  nothing = refl
+
+  whole_one : (b : ℕ) (s t : Bool) → (b == backslash) ≡ s → is_in b ≡ t → escaped_run_length is_in (take (cond s 0 (cond t 1 0)) (b ∷ [])) ≡ cond s 0 (cond t 1 0)
+  whole_one b true t p q = nothing
+  whole_one b false true p q = escaped_more b [] p q ∙ ap (λ n. n + 1) nothing
+  whole_one b false false p q = nothing
+
+  whole_two : (b c : ℕ) (rest : List ℕ) (far near : ℕ) (s t : Bool) → (b == backslash) ≡ s → is_in b ≡ t
+      → escaped_run_length is_in (take far rest) ≡ far → escaped_run_length is_in (take near (c ∷ rest)) ≡ near
+      → escaped_run_length is_in (take (cond s (far + 2) (cond t (near + 1) 0)) (b ∷ c ∷ rest)) ≡ cond s (far + 2) (cond t (near + 1) 0)
+  whole_two b c rest far near true t p q after next =
+      let e : far + 2 ≡ suc (suc far) = omega arith in
+      ap (λ n. escaped_run_length is_in (take n (b ∷ c ∷ rest))) e ∙ escaped_taking b c (take far rest) p ∙ ap (λ n. n + 2) after
+  whole_two b c rest far near false true p q after next =
+      let e : near + 1 ≡ suc near = omega arith in
+      ap (λ n. escaped_run_length is_in (take n (b ∷ c ∷ rest))) e ∙ escaped_more b (take near (c ∷ rest)) p q ∙ ap (λ n. n + 1) next
+  whole_two b c rest far near false false p q after next = nothing
+
+  pub escaped_whole : (bytes : List ℕ) → escaped_run_length is_in (take (escaped_run_length is_in bytes) bytes) ≡ escaped_run_length is_in bytes
+  unfolding escaped_run_length
+  escaped_whole [] = refl
+  escaped_whole (b ∷ []) = whole_one b (b == backslash) (is_in b) refl refl
+  escaped_whole (b ∷ c ∷ rest) =
+      whole_two b c rest (escaped_run_length is_in rest) (escaped_run_length is_in (c ∷ rest)) (b == backslash) (is_in b) refl refl (escaped_whole rest) (escaped_whole (c ∷ rest))
+
+  -- the run of the whole is the bytes so far and the run of the rest
   pub record EscapedSoFar (whole : List ℕ) (place : ℕ) : Type 0 where
     pub within : place ≤ length whole
     pub so_far : escaped_run_length is_in whole ≡ place + escaped_run_length is_in (drop place whole)

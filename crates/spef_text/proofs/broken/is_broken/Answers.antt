@@ -3,7 +3,7 @@ use Rattle.std.proofs.Common.{ℕ, sym, ap, ◌∙◌}
 use Rattle.spef_text.specs.Tokens.{cut_at, is_broken_cut}
 use Rattle.spef_text.proofs.Breaking.{by_first, nothing_broken, backslash_broken, others_broken}
 use Rattle.spef_text.proofs.Cutting.{cut_quote}
-use Rattle.spef_text.proofs.Runs.{not_byte}
+use Rattle.token_texts.specs.ByteLemmas.{not_byte}
 use Rattle.spef_text.proofs.broken.is_broken.Goals as goal
 
 pub returns-in_default : goal.returns-in_default

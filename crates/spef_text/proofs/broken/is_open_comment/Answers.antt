@@ -1,23 +1,25 @@
 -- A slash begins a comment, which may be open, or a run.
-use Rattle.std.proofs.Common.{sym, ap, ◌∙◌, arith}
-use Rattle.spef_text.specs.Tokens.{comment_end, comment_cut, is_broken_cut}
+use Rattle.std.proofs.Common.{◌≡◌, ℕ, Option, Some, None, Bool, true, false, not, refl, sym, ap, ◌∙◌}
+use Rattle.std.specs.Option.{is_some}
+use Rattle.token_texts.specs.Comments.{comment_end}
+use Rattle.spef_text.specs.Tokens.{comment_cut, is_broken_cut}
 use Rattle.spef_text.proofs.Cutting.{cut_line, cut_comment, cut_slash}
-use Rattle.spef_text.proofs.Searching.{comment_at, comment_open}
 use Rattle.spef_text.proofs.broken.is_open_comment.Goals as goal
 
 pub returns-then-begins_with : goal.returns-then-begins_with
 returns-then-begins_with c = sym (ap is_broken_cut (cut_line c.args.rest.now (sym c.begins_with.ensures ∙ c.if-begins_with.true)))
 
-pub returns-in-Some : goal.returns-in-Some
-returns-in-Some c =
-    let none = c.in-Some.ensures.0 in
-    let cut = cut_comment c.args.rest.now (sym c.begins_with.ensures ∙ c.if-begins_with.false) (sym c.begins_with-else-begins_with.ensures ∙ c.if-begins_with-2.true) in
-    sym (ap is_broken_cut (cut ∙ ap (λ l. comment_cut (comment_end l)) (sym c.split_at.ensures.back) ∙ ap comment_cut (comment_at c.split_at.result.1.now _ (λ j lt. none.before j (omega arith) lt) c.in-Some.ensures.1)))
+is_open : (end : Option ℕ) (none : Bool) → is_some end ≡ not none → none ≡ is_broken_cut (comment_cut end)
+is_open None true is = refl
+is_open None false is = absurd (cc)
+is_open (Some place) true is = absurd (cc)
+is_open (Some place) false is = refl
 
-pub returns-in-None : goal.returns-in-None
-returns-in-None c =
+pub returns-then-begins_with-2 : goal.returns-then-begins_with-2
+returns-then-begins_with-2 c =
     let cut = cut_comment c.args.rest.now (sym c.begins_with.ensures ∙ c.if-begins_with.false) (sym c.begins_with-else-begins_with.ensures ∙ c.if-begins_with-2.true) in
-    sym (ap is_broken_cut (cut ∙ ap (λ l. comment_cut (comment_end l)) (sym c.split_at.ensures.back) ∙ ap comment_cut (comment_open c.split_at.result.1.now (λ j occurs. c.in-None.ensures j (omega arith) (let fits = occurs.fits in omega arith) occurs))))
+    is_open c.comment_end.result c.is_none.result c.is_none.ensures
+    ∙ sym (ap is_broken_cut (cut ∙ ap (λ l. comment_cut (comment_end l)) (sym c.split_at.ensures.back) ∙ ap comment_cut (sym c.comment_end.ensures.value)))
 
 pub returns-else-begins_with-2 : goal.returns-else-begins_with-2
 returns-else-begins_with-2 c =

@@ -5,7 +5,7 @@ use Rattle.spef_text.specs.Tokens.{cut_at}
 use Rattle.spef_text.specs.declared.scan.Cut.{Cut}
 use Rattle.spef_text.specs.declared.scan.Cut.TheVariants.{Take}
 use Rattle.spef_text.proofs.Cutting.{cut_blank, cut_quote, cut_run, cut_within}
-use Rattle.spef_text.proofs.Runs.{not_byte}
+use Rattle.token_texts.specs.ByteLemmas.{not_byte}
 use Rattle.spef_text.proofs.scan.cut_at.Goals as goal
 
 within_of : (first : ℕ) (rest : List ℕ) (cut : Cut) → cut ≡ cut_at first rest → IsWithin (length rest + 1) cut

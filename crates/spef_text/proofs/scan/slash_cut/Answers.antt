@@ -1,13 +1,14 @@
 -- A slash begins a comment, or a run.
 use Rattle.std.proofs.Common.{ℕ, ◌+◌, sym, ap, ◌∙◌}
-use Rattle.spef_text.specs.Tokens.{comment_end, comment_cut}
+use Rattle.token_texts.specs.Comments.{comment_end}
+use Rattle.spef_text.specs.Tokens.{comment_cut}
 use Rattle.spef_text.specs.declared.scan.Cut.TheVariants.{Skip, Take}
 use Rattle.spef_text.proofs.Cutting.{cut_line, cut_comment, cut_slash}
 use Rattle.spef_text.proofs.scan.slash_cut.Goals as goal
 
 pub returns-then-begins_with : goal.returns-then-begins_with
 returns-then-begins_with c =
-    sym (cut_line c.args.rest.now (sym c.begins_with.ensures ∙ c.if-begins_with.true) ∙ sym (ap (λ (n : ℕ). Skip n) c.line_length.ensures))
+    sym (cut_line c.args.rest.now (sym c.begins_with.ensures ∙ c.if-begins_with.true) ∙ sym (ap (λ (n : ℕ). Skip n) c.line_length.ensures.value))
 
 pub returns-then-begins_with-2 : goal.returns-then-begins_with-2
 returns-then-begins_with-2 c =
