@@ -1,4 +1,3 @@
-pub mod Searching
 pub mod Runs
 pub mod Cutting
 pub mod Within

@@ -2,7 +2,7 @@
 use Rattle.std.proofs.Common.{◌≡◌, ℕ, ◌+◌, ◌<◌, ◌≤◌, true, false, cond, List, length, drop, get_or, ap, ◌∙◌, arith, count_by}
 use Rattle.std.proofs.lemmas.List.{drop_more, drop_all}
 use Rattle.std.proofs.lemmas.List.Sums.{sum_by-cons}
-use Rattle.liberty_groups.specs.Tokens.{is_line_end}
+use Rattle.token_texts.specs.Blanks.{is_line_end}
 
 pub record LinesSoFar (bytes : List ℕ) (line index : ℕ) : Type 0 where
   pub within : index ≤ length bytes

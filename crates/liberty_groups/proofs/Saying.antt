@@ -1,12 +1,13 @@
 -- What the bytes of a text say, byte by byte.
 use Rattle.std.proofs.Common.{◌≡◌, ℕ, zero, suc, ◌+◌, ◌-◌, ◌<◌, ◌≤◌, Bool, true, false, cond, ◌&&◌, ◌||◌, ◌==◌, List, [], ◌∷◌, ◌++◌, length, take, drop, get_or, refl, sym, ap, ◌∙◌, subst, arith, append-nil, append_assoc, nat_lt}
 use Rattle.std.proofs.lemmas.List.{drop_more, drop_all, drop-drop}
-use Rattle.liberty_groups.specs.Tokens.{begins_with, continuation, is_dropped, meaning_behind, meaning}
+use Rattle.token_texts.specs.Bytes.{quote, backslash, begins_with}
+use Rattle.token_texts.specs.ByteLemmas.{not_byte}
+use Rattle.liberty_groups.specs.Tokens.{continuation, is_dropped, meaning_behind, meaning}
 use Rattle.liberty_groups.specs.Dropping.{dropped}
 use Rattle.liberty_groups.specs.Tokens.{said_by}
 use Rattle.liberty_groups.specs.declared.scan.Kind.{Kind}
 use Rattle.liberty_groups.specs.declared.scan.Kind.TheVariants.{Quoted}
-use Rattle.liberty_groups.proofs.Runs.{not_byte}
 
 pub record SaidSoFar (whole text : List ℕ) (place : ℕ) : Type 0 where
   pub within : place ≤ length whole
@@ -70,8 +71,8 @@ pub plain_text : (bytes : List ℕ) → ((i : ℕ) → i < length bytes → get_
 unfolding meaning_behind
 plain_text [] none = refl
 plain_text (b ∷ bytes) none =
-    let here : (b == 92) ≡ false = not_byte b 92 (none 0 (omega arith)) in
-    let kept : is_dropped b bytes ≡ false = ap (λ t. t && (begins_with 34 bytes || nat_lt 0 (continuation bytes))) here in
+    let here : (b == backslash) ≡ false = not_byte b backslash (none 0 (omega arith)) in
+    let kept : is_dropped b bytes ≡ false = ap (λ t. t && (begins_with quote bytes || nat_lt 0 (continuation bytes))) here in
     let rest = plain_text bytes (λ i lt. none (suc i) (omega arith)) in
     ap (λ l. b ∷ l) rest ∙ sym (ap (λ t. cond t (meaning_behind (continuation bytes) bytes) (b ∷ meaning_behind 0 bytes)) kept)
 

@@ -1,5 +1,6 @@
 -- How much of some bytes stands at their front.
 use Rattle.std.specs.Prelude.{ℕ, ◌+◌, ◌<◌, ◌≤◌, ◌==◌, Bool, not, ◌&&◌, List, length, if◌then◌else◌}
+use Rattle.token_texts.specs.Bytes.{slash, left_bracket, right_bracket}
 use Rattle.liberty_groups.specs.Tokens.{is_plain, is_mark, opened_behind, word_length}
 use Rattle.liberty_groups.specs.declared.scan.Kind.TheVariants.{Word, Bad}
 use Rattle.liberty_groups.specs.declared.scan.Cut.{Cut}
@@ -16,4 +17,4 @@ word_cut first rest = if is_plain first then Take (word_length (opened_behind 0 
 
 -- a byte that a word goes on with, whatever stands before and behind it, with as many `[` open as before
 abbrev pub is_simple : ℕ → Bool
-is_simple byte = is_plain byte && not (is_mark byte) && not (byte == 47) && not (byte == 91) && not (byte == 93)
+is_simple byte = is_plain byte && not (is_mark byte) && not (byte == slash) && not (byte == left_bracket) && not (byte == right_bracket)

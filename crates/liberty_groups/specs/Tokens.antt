@@ -1,26 +1,19 @@
 -- The bytes of a Liberty file (Liberty User Guide), and the tokens that they are parted into.
-use Rattle.std.specs.Prelude.{◌≡◌, ℕ, zero, suc, ◌+◌, ◌-◌, Bool, true, false, not, ◌&&◌, ◌||◌, ◌==◌, nat_le, nat_lt, if◌then◌else◌, List, [], ◌∷◌, length, take, drop, count_by, slice_index, position, Option, Some, None, unwrap_or}
+use Rattle.std.specs.Prelude.{◌≡◌, ℕ, zero, suc, ◌+◌, ◌-◌, Bool, true, false, not, ◌&&◌, ◌||◌, ◌==◌, nat_le, nat_lt, if◌then◌else◌, List, [], ◌∷◌, length, take, drop, count_by, slice_index, position, Option, Some, None}
 use Rattle.std.specs.List.{list_any}
-use Rattle.std.specs.Option.{option_map}
+use Rattle.token_texts.specs.Bytes.{tab, carriage_return, space, quote, left_paren, right_paren, star, comma, slash, colon, semicolon, left_bracket, backslash, right_bracket, left_brace, right_brace, begins_with}
+use Rattle.token_texts.specs.Blanks.{is_blank, is_line_end}
+use Rattle.token_texts.specs.Comments.{line_length, comment_end}
+use Rattle.token_texts.specs.Quoted.{quote_end}
+use Rattle.token_texts.specs.declared.quoted.Escape.TheVariants.{NextQuote}
 use Rattle.liberty_groups.specs.declared.scan.Kind.{Kind}
 use Rattle.liberty_groups.specs.declared.scan.Kind.TheVariants.{Word, Quoted, LeftParen, RightParen, LeftBrace, RightBrace, Colon, Semicolon, Comma, Bad, OpenQuoted, OpenNote}
 use Rattle.liberty_groups.specs.declared.scan.Cut.{Cut}
 use Rattle.liberty_groups.specs.declared.scan.Cut.TheVariants.{Skip, Take}
 
--- the bytes 9 to 13 and 32
-abbrev pub is_blank : ℕ → Bool
-is_blank byte = (nat_le 9 byte && nat_le byte 13) || byte == 32
-
-abbrev pub is_line_end : ℕ → Bool
-is_line_end byte = byte == 10
-
 -- the bytes that may stand in a continuation between its backslash and its line end: 9, 13 and 32; this test is of all others
 abbrev pub ends_gap : ℕ → Bool
-ends_gap byte = not (byte == 9 || byte == 13 || byte == 32)
-
-abbrev pub begins_with : ℕ → List ℕ → Bool
-begins_with byte [] = false
-begins_with byte (first ∷ rest) = first == byte
+ends_gap byte = not (byte == tab || byte == carriage_return || byte == space)
 
 -- A backslash with `rest` behind it, in which the first byte that is no gap is at this place: how many bytes of `rest` belong to the continuation, or 0, where there is none.
 abbrev pub continued_to : List ℕ → Option ℕ → ℕ
@@ -31,13 +24,12 @@ abbrev pub continuation : List ℕ → ℕ
 continuation rest = continued_to rest (position ends_gap rest)
 
 -- A quote with `rest` behind it: the place in `rest` of the quote that ends the text. A quote right behind a backslash does not.
-unfoldable pub text_end : Bool → List ℕ → Option ℕ
-text_end escaped [] = None
-text_end escaped (byte ∷ rest) = if byte == 34 && not escaped then Some 0 else option_map (λ place. place + 1) (text_end (byte == 92) rest)
+abbrev pub text_end : Bool → List ℕ → Option ℕ
+text_end escaped bytes = quote_end NextQuote escaped bytes
 
 -- a backslash that is dropped: it makes the quote behind it a part of the text, or begins a continuation
 abbrev pub is_dropped : ℕ → List ℕ → Bool
-is_dropped byte rest = byte == 92 && (begins_with 34 rest || nat_lt 0 (continuation rest))
+is_dropped byte rest = byte == backslash && (begins_with quote rest || nat_lt 0 (continuation rest))
 
 -- What the bytes between the quotes of a text say: continuations are dropped, and so is a backslash in front of a quote. Every other byte stands for itself. The first number is how many bytes of a continuation are still to be dropped.
 unfoldable pub meaning_behind : ℕ → List ℕ → List ℕ
@@ -51,51 +43,43 @@ meaning bytes = meaning_behind 0 bytes
 -- the kind of a mark, `( ) { } : ; ,`
 abbrev pub mark_of : ℕ → Option Kind
 mark_of byte =
-    if byte == 40 then Some LeftParen
-    else (if byte == 41 then Some RightParen
-    else (if byte == 123 then Some LeftBrace
-    else (if byte == 125 then Some RightBrace
-    else (if byte == 58 then Some Colon
-    else (if byte == 59 then Some Semicolon
-    else (if byte == 44 then Some Comma
+    if byte == left_paren then Some LeftParen
+    else (if byte == right_paren then Some RightParen
+    else (if byte == left_brace then Some LeftBrace
+    else (if byte == right_brace then Some RightBrace
+    else (if byte == colon then Some Colon
+    else (if byte == semicolon then Some Semicolon
+    else (if byte == comma then Some Comma
     else None))))))
 
 abbrev pub is_mark : ℕ → Bool
-is_mark byte = byte == 40 || byte == 41 || byte == 123 || byte == 125 || byte == 58 || byte == 59 || byte == 44
+is_mark byte =
+    byte == left_paren || byte == right_paren || byte == left_brace || byte == right_brace || byte == colon || byte == semicolon || byte == comma
 
 -- the bytes 33 to 126 but a quote and a backslash
 abbrev pub is_plain : ℕ → Bool
-is_plain byte = nat_le 33 byte && nat_le byte 126 && not (byte == 34) && not (byte == 92)
+is_plain byte = nat_le 33 byte && nat_le byte 126 && not (byte == quote) && not (byte == backslash)
 
 -- a byte with `rest` behind it that begins a comment
 abbrev pub begins_comment : ℕ → List ℕ → Bool
-begins_comment byte rest = byte == 47 && (begins_with 42 rest || begins_with 47 rest)
+begins_comment byte rest = byte == slash && (begins_with star rest || begins_with slash rest)
 
 -- a byte with `rest` behind it that a word goes on with, where so many `[` of the word are not closed: inside them a colon belongs to the word
 abbrev pub goes_on : ℕ → ℕ → List ℕ → Bool
-goes_on opened byte rest = is_plain byte && not (begins_comment byte rest) && (not (is_mark byte) || (byte == 58 && nat_lt 0 opened))
+goes_on opened byte rest = is_plain byte && not (begins_comment byte rest) && (not (is_mark byte) || (byte == colon && nat_lt 0 opened))
 
 abbrev pub opened_behind : ℕ → ℕ → ℕ
-opened_behind opened byte = if byte == 91 then opened + 1 else (if byte == 93 then opened - 1 else opened)
+opened_behind opened byte = if byte == left_bracket then opened + 1 else (if byte == right_bracket then opened - 1 else opened)
 
 -- how many bytes the longest word has, or the longest rest of a word in which so many `[` are not closed
 unfoldable pub word_length : ℕ → List ℕ → ℕ
 word_length opened [] = 0
 word_length opened (byte ∷ rest) = if goes_on opened byte rest then word_length (opened_behind opened byte) rest + 1 else 0
 
--- the place of the first `*/`
-unfoldable pub comment_end : List ℕ → Option ℕ
-comment_end [] = None
-comment_end (byte ∷ rest) = if byte == 42 && begins_with 47 rest then Some 0 else option_map (λ place. place + 1) (comment_end rest)
-
 -- A `/*` with `inner` behind it, where the comment ends at this place: it is passed over, or it is open and takes all.
 abbrev pub comment_cut : List ℕ → Option ℕ → Cut
 comment_cut inner None = Take (length inner + 2) OpenNote
 comment_cut inner (Some place) = Skip (place + 4) (list_any is_line_end (take place inner))
-
--- A slash with `rest` behind it, which begins with a slash: the comment goes up to the end of the line.
-abbrev pub line_length : List ℕ → ℕ
-line_length rest = unwrap_or (position is_line_end rest) (length rest) + 1
 
 -- A backslash with `rest` behind it, of which so many bytes belong to a continuation.
 abbrev pub backslash_cut : List ℕ → ℕ → Cut
@@ -114,10 +98,10 @@ mark_or_word first rest None = if is_plain first then Take (word_length 0 (first
 unfoldable pub cut_at : ℕ → List ℕ → Cut
 cut_at first rest =
     if is_blank first then Skip 1 (is_line_end first)
-    else (if first == 34 then text_cut rest (text_end false rest)
-    else (if first == 92 then backslash_cut rest (continuation rest)
-    else (if first == 47 && begins_with 47 rest then Skip (line_length rest) false
-    else (if first == 47 && begins_with 42 rest then comment_cut (drop 1 rest) (comment_end (drop 1 rest))
+    else (if first == quote then text_cut rest (text_end false rest)
+    else (if first == backslash then backslash_cut rest (continuation rest)
+    else (if first == slash && begins_with slash rest then Skip (line_length rest) false
+    else (if first == slash && begins_with star rest then comment_cut (drop 1 rest) (comment_end (drop 1 rest))
     else mark_or_word first rest (mark_of first)))))
 
 -- what no text of the grammar has: a byte that begins no token, and a text and a comment that do not end

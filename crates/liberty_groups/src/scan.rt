@@ -1,11 +1,12 @@
 //! Parts a file's bytes into tokens.
 ghost use Rattle.std.specs.Prelude.{◌≡◌, ◌+◌, ◌^◌, ◌<◌, ◌≤◌, false, length, position};
 ghost use Rattle.std.specs.List.{list_any};
-ghost use Rattle.std.specs.Option.{IfSome};
-ghost use Rattle.liberty_groups.specs.Tokens.{is_blank, is_line_end, ends_gap, begins_with, continuation, text_end, mark_of, is_mark, is_plain, begins_comment, goes_on, opened_behind, word_length, comment_end, comment_cut, line_length, backslash_cut, text_cut, cut_at};
+ghost use Rattle.token_texts.specs.Blanks.{is_line_end};
+ghost use Rattle.token_texts.specs.Comments.{comment_end};
+ghost use Rattle.liberty_groups.specs.Tokens.{ends_gap, continuation, text_end, mark_of, is_mark, is_plain, begins_comment, goes_on, opened_behind, word_length, comment_cut, backslash_cut, text_cut, cut_at};
 ghost use Rattle.liberty_groups.specs.Cuts.{IsWithin, word_cut, is_simple};
 
-use memchr::{memchr, memmem};
+use token_texts::{Escape, begins_with, comment_end, is_blank, line_length, quote_end};
 
 /// What a token is.
 #[derive(Clone, Copy, PartialEq, Eq, Debug)]
@@ -38,25 +39,6 @@ pub enum Cut {
     Take(usize, Kind),
 }
 
-/// The bytes 9 to 13 and 32.
-#[inline]
-fn is_blank(byte: u8) -> bool
-    ensures { result ≡ is_blank byte }
-{
-    matches!(byte, 9..=13 | b' ')
-}
-
-/// Whether the bytes begin with this one.
-#[inline]
-pub(crate) fn begins_with(byte: u8, bytes: &[u8]) -> bool
-    ensures { result ≡ begins_with byte bytes.now }
-{
-    match bytes {
-        [] => false,
-        [first, ..] => *first == byte,
-    }
-}
-
 /// The place of the first byte that may not stand in a continuation before its line end.
 fn gap_end(rest: &[u8]) -> Option<usize>
     ensures { result ≡ position ends_gap rest.now }
@@ -74,25 +56,6 @@ pub(crate) fn continuation(rest: &[u8]) -> usize
         Some(place) if rest[place] == b'\n' => place + 1,
         _ => 0,
     }
-}
-
-/// Behind a quote: the place of the quote that ends the text.
-#[inline]
-fn text_end(rest: &[u8]) -> Option<usize>
-    ensures value { result ≡ text_end false rest.now }
-    ensures within { IfSome result (λ place. place < length rest.now) }
-{
-    let mut escaped = false;
-    let mut place = 0;
-    while place < rest.len() {
-        let byte = rest[place];
-        if byte == b'"' && !escaped {
-            return Some(place);
-        }
-        escaped = byte == b'\\';
-        place += 1;
-    }
-    None
 }
 
 /// The kind of a mark.
@@ -215,21 +178,9 @@ fn text_cut(rest: &[u8]) -> Cut
     ensures value { result ≡ text_cut rest.now (text_end false rest.now) }
     ensures within { IsWithin (length rest.now + 1) result }
 {
-    match text_end(rest) {
+    match quote_end(Escape::NextQuote, rest) {
         Some(place) => Cut::Take(place + 2, Kind::Quoted),
         None => Cut::Take(rest.len() + 1, Kind::OpenQuoted),
-    }
-}
-
-/// Behind the first slash of a comment up to the end of the line: how many bytes it has.
-fn line_length(rest: &[u8]) -> usize
-    requires { length rest.now < 2 ^ 32 }
-    ensures value { result ≡ line_length rest.now }
-    ensures within { (0 < result) × (result ≤ length rest.now + 1) }
-{
-    match memchr(b'\n', rest) {
-        Some(place) => place + 1,
-        None => rest.len() + 1,
     }
 }
 
@@ -239,7 +190,7 @@ fn comment_cut(inner: &[u8]) -> Cut
     ensures value { result ≡ comment_cut inner.now (comment_end inner.now) }
     ensures within { IsWithin (length inner.now + 2) result }
 {
-    match memmem::find(inner, b"*/") {
+    match comment_end(inner) {
         Some(place) => Cut::Skip(place + 4, has_line_end(inner.split_at(place).0)),
         None => Cut::Take(inner.len() + 2, Kind::OpenNote),
     }

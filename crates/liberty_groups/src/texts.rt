@@ -3,10 +3,11 @@ ghost use Rattle.std.specs.Prelude.{◌≡◌, ◌+◌, ◌<◌, ◌≤◌, ◌^
 ghost use Rattle.liberty_groups.specs.Tokens.{meaning, said_by};
 ghost use Rattle.liberty_groups.specs.Dropping.{dropped};
 
-use crate::scan::{Kind, begins_with, continuation};
+use crate::scan::{Kind, continuation};
 use edge_io::{OutOfMemory, Text};
 use memchr::memchr;
 use std::alloc::Global;
+use token_texts::begins_with;
 
 /// How many bytes of a text a backslash drops, itself with them, or 0, where the byte stands for itself.
 fn dropped(byte: u8, rest: &[u8]) -> usize

@@ -4,7 +4,7 @@ use Rattle.std.specs.Prelude.{position}
 use Rattle.std.specs.List.{filter, slice_split, onto_first, position_or_len, before_first, after_first}
 use Rattle.std.proofs.lemmas.Bool.Decides.{nat_tests}
 use Rattle.std.proofs.lemmas.List.Splits.{slice_split_first}
-use Rattle.liberty_groups.specs.Tokens.{is_blank}
+use Rattle.token_texts.specs.Blanks.{is_blank}
 use Rattle.timing_arcs.specs.NumberLists.{is_filled}
 use Rattle.timing_arcs.specs.DelayGroups.{names_in}
 use Rattle.timing_arcs.specs.RelatedPins.{name_filled}

@@ -2,7 +2,7 @@
 use Rattle.std.specs.Prelude.{◌≡◌, ℕ, Bool, true, ◌&&◌, ◌||◌, if◌then◌else◌, List, [], ◌∷◌, map, filter, flat_map, slice_get, Option, Some, None, Ok, unwrap_or, is_some, bytes_eq, codes}
 use Rattle.std.specs.List.{list_any, slice_split}
 use Rattle.liberty_groups.specs.Groups.{Group, groups_of}
-use Rattle.liberty_groups.specs.Tokens.{is_blank}
+use Rattle.token_texts.specs.Blanks.{is_blank}
 use Rattle.timing_arcs.specs.declared.cell.ArcKind.{ArcKind}
 use Rattle.timing_arcs.specs.declared.cell.ArcKind.TheVariants.{Positive, Negative, Both, RisingEdge, FallingEdge}
 use Rattle.timing_arcs.specs.declared.cell.EdgeTables.{EdgeTables}

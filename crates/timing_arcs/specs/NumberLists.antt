@@ -5,7 +5,7 @@ use Rattle.delay_units.specs.Literal.{IsNumber}
 use Rattle.delay_units.specs.Reading.{IsReading}
 use Rattle.delay_units.specs.declared.numbers.Decimal.{Decimal}
 use Rattle.delay_units.specs.declared.numbers.Unit.{Unit}
-use Rattle.liberty_groups.specs.Tokens.{is_blank}
+use Rattle.token_texts.specs.Blanks.{is_blank}
 
 -- a comma or a blank
 abbrev pub is_parting : ℕ → Bool

@@ -2,7 +2,7 @@
 ghost use Rattle.std.specs.Prelude.{◌≡◌, ℕ, ◌<◌, ◌++◌, ◌∷◌, [], length, List, All, Some, IfOk, OnOk, IfErr, IfSome, IfNone, position, unwrap_or};
 ghost use Rattle.std.specs.List.{AllZip};
 ghost use Rattle.liberty_groups.specs.Tables.{tree_of, group_at, IsGroup};
-ghost use Rattle.liberty_groups.specs.Tokens.{is_blank};
+ghost use Rattle.token_texts.specs.Blanks.{is_blank};
 ghost use Rattle.timing_arcs.specs.PinModel.{is_input, IsPin};
 ghost use Rattle.timing_arcs.specs.PinTable.{entries_in};
 ghost use Rattle.timing_arcs.specs.DelayGroups.{names_in, related_names};

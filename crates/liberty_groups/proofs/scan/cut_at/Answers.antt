@@ -2,7 +2,7 @@
 use Rattle.std.proofs.Common.{ℕ, sym, ap, ◌∙◌}
 use Rattle.liberty_groups.specs.Tokens.{cut_at}
 use Rattle.liberty_groups.proofs.Cutting.{cut_blank, cut_quote, cut_backslash, cut_mark, cut_word}
-use Rattle.liberty_groups.proofs.Runs.{not_byte}
+use Rattle.token_texts.specs.ByteLemmas.{not_byte}
 use Rattle.liberty_groups.proofs.scan.cut_at.Goals as goal
 
 pub returns-then-is_blank-clause-value : goal.returns-then-is_blank-clause-value

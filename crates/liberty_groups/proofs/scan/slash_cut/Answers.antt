@@ -1,6 +1,7 @@
 -- A slash begins a comment, or a word.
 use Rattle.std.proofs.Common.{ℕ, List, false, sym, ap, ◌∙◌}
-use Rattle.liberty_groups.specs.Tokens.{comment_end, comment_cut}
+use Rattle.token_texts.specs.Comments.{comment_end}
+use Rattle.liberty_groups.specs.Tokens.{comment_cut}
 use Rattle.liberty_groups.specs.declared.scan.Cut.TheVariants.{Skip}
 use Rattle.liberty_groups.proofs.Cutting.{cut_line, cut_comment, cut_slash}
 use Rattle.liberty_groups.proofs.scan.slash_cut.Goals as goal
