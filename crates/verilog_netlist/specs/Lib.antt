@@ -1,0 +1,9 @@
+pub mod Spans
+pub mod Words
+pub mod Tokens
+pub mod Grammar
+pub mod Netlists
+pub mod Cuts
+pub mod Steps
+pub mod Modes
+pub mod ReaderStates

@@ -1,0 +1,30 @@
+-- What the reader's own state stands for.
+use Rattle.std.specs.Prelude.{◌≡◌, ℕ, Bool, true, false, List, Option, Some, None, Result, Ok, Err, ⊤}
+use Rattle.verilog_netlist.specs.Spans.{text_at}
+use Rattle.verilog_netlist.specs.Modes.{State}
+use Rattle.verilog_netlist.specs.declared.spans.Span.{Span}
+use Rattle.verilog_netlist.specs.declared.kinds.Kind.{Kind}
+use Rattle.verilog_netlist.specs.declared.kinds.Kind.TheVariants.{NotStructural as StartsOther}
+use Rattle.verilog_netlist.specs.declared.reading.ReadEnd.{ReadEnd}
+use Rattle.verilog_netlist.specs.declared.reading.ReadEnd.TheVariants.{Syntax, NotStructural, OutOfMemory}
+use Rattle.verilog_netlist.specs.declared.entries.Entry.{Entry}
+use Rattle.verilog_netlist.specs.declared.reader.Reader.{Reader}
+
+abbrev pub state_of : Reader → State
+state_of reader = record { mode = reader.mode; entries = reader.entries.items }
+
+-- the step leads to this state, or is refused
+abbrev pub Steps : Result State ⊤ → State → Bool → Type 0
+Steps answer after true = answer ≡ Ok after
+Steps answer after false = answer ≡ Err tt
+
+-- the file says these entries, or may not end here
+abbrev pub Finishes : Result (List Entry) ⊤ → Option (List Entry) → Type 0
+Finishes answer (Some entries) = answer ≡ Ok entries
+Finishes answer None = answer ≡ Err tt
+
+-- the refusal of a token of this number and kind at this place
+abbrev pub IsRefusalOf : List ℕ → ℕ → Kind → Span → ReadEnd → Type 0
+IsRefusalOf bytes number kind at (Syntax token) = (token ≡ number) × (kind ≡ StartsOther → ⊥)
+IsRefusalOf bytes number kind at (NotStructural word token) = (token ≡ number) × (kind ≡ StartsOther) × (word ≡ text_at bytes at)
+IsRefusalOf bytes number kind at OutOfMemory = ⊤

@@ -1,0 +1,49 @@
+//! What a netlist says, one thing after another.
+use crate::spans::Span;
+
+/// The direction of a port.
+#[derive(Clone, Copy, PartialEq, Eq, Debug)]
+pub enum Way {
+    In,
+    Out,
+}
+
+/// What declares a name: a direction in the header of its module, a direction behind it, or the word `wire`.
+#[derive(Clone, Copy, PartialEq, Eq, Debug)]
+pub enum Decl {
+    InHeader(Way),
+    Port(Way),
+    Wire,
+}
+
+/// The bounds of a range or of a part select, left and right. A bound past 1,048,575 stands as 1,048,576.
+#[derive(Clone, Copy, PartialEq, Eq, Debug)]
+pub struct Range {
+    pub left: u32,
+    pub right: u32,
+}
+
+/// What a netlist says at one place. What belongs to a module, an instance or a connection stands behind it, up to the next one.
+#[derive(Clone, Copy, PartialEq, Eq, Debug)]
+pub enum Entry {
+    /// A module begins, of this name.
+    Module(Span),
+
+    /// A name in the header of the module, which says nothing else of it.
+    Header(Span),
+
+    /// A name is declared, with this range. In the header of the module it is a name of the header, too.
+    Declared(Decl, Span, Option<Range>),
+
+    /// An instance begins: of what, and its name.
+    Instance(Span, Span),
+
+    /// A connection of the instance begins, at this port.
+    Port(Span),
+
+    /// What is joined to the port, from the left: a whole name, one bit of it, some of its bits, a constant.
+    Whole(Span),
+    Bit(Span, u32),
+    Part(Span, Range),
+    Constant(Span),
+}

@@ -1,0 +1,17 @@
+//! Structural Verilog (IEEE 1364-2005): its tokens, and what a netlist says, or the one token that cannot stand where it stands.
+//! `read_entries` answers the entries, which are what the file says in its order: modules, ports, wires, instances, connections.
+#![tactic(auto)]
+
+mod entries;
+mod kinds;
+mod laws;
+mod modes;
+mod reader;
+mod reading;
+mod scan;
+mod spans;
+mod words;
+
+pub use entries::{Decl, Entry, Range, Way};
+pub use reading::{ReadEnd, read_entries};
+pub use spans::Span;

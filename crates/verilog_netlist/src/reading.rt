@@ -1,0 +1,108 @@
+//! Reads a netlist, or tells at which token it is none.
+ghost use Rattle.std.specs.Prelude.{◌≡◌, ◌+◌, ◌^◌, ◌<◌, ◌≤◌, List, length, IfOk, IfErr, MatchResult};
+ghost use Rattle.verilog_netlist.specs.Spans.{text_at};
+ghost use Rattle.verilog_netlist.specs.Tokens.{span_of};
+ghost use Rattle.verilog_netlist.specs.Netlists.{SaysNetlist, IsDead, HasWord};
+ghost use Rattle.verilog_netlist.specs.ReaderStates.{IsRefusalOf};
+ghost use Rattle.verilog_netlist.specs.declared.entries.Entry.{Entry};
+
+use crate::entries::Entry;
+use crate::kinds::Kind;
+use crate::reader::Reader;
+use crate::scan::{Cut, cut_at};
+use crate::spans::Span;
+use edge_io::Text;
+use std::alloc::Global;
+
+/// Why a file is no netlist. Tokens count from 1; comments, attributes, directives and blanks are none.
+#[derive(Debug, Drop)]
+pub enum ReadEnd {
+    /// No text of the grammar begins with the tokens up to this one, or, one past the last token, the file ends too early.
+    Syntax { token: u64 },
+
+    /// The same, where the token is a reserved word of Verilog that begins what is not structural, as `assign`.
+    NotStructural { word: Text, token: u64 },
+
+    /// There was no memory for what the file says.
+    OutOfMemory,
+}
+
+/// The place of the name of a token that begins here with this byte, and has so many bytes.
+#[inline]
+fn span_of(first: u8, start: usize, len: usize) -> Span
+    requires some { 0 < len }
+    requires within { start + len < 2 ^ 32 }
+    ensures { result ≡ span_of first start len }
+{
+    if first == b'\\' {
+        Span {
+            start: start as u32 + 1,
+            len: len as u32 - 1,
+        }
+    } else {
+        Span {
+            start: start as u32,
+            len: len as u32,
+        }
+    }
+}
+
+/// The refusal of the token of this number and kind at this place.
+fn refusal(alloc: Global, bytes: &[u8], number: u64, kind: Kind, at: Span) -> ReadEnd
+    ensures { IsRefusalOf bytes.now number kind at result }
+{
+    match kind {
+        Kind::NotStructural => match Text::from_bytes(alloc, at.of(bytes)) {
+            Ok(word) => ReadEnd::NotStructural {
+                word,
+                token: number,
+            },
+            Err(_) => ReadEnd::OutOfMemory,
+        },
+        _ => ReadEnd::Syntax { token: number },
+    }
+}
+
+/// Reads the bytes of a netlist (IEEE 1364-2005, structural), in one pass.
+///
+/// `Syntax` and `NotStructural` come exactly where the bytes are no text of the grammar; their token is the first with which no
+/// text of the grammar begins.
+pub fn read_entries(alloc: Global, bytes: &[u8]) -> Result<Vec<Entry>, ReadEnd>
+    requires { length bytes.now < 2 ^ 30 }
+    // What is answered is what the bytes say.
+    ensures ok { IfOk result (λ entries. SaysNetlist bytes.now entries.items) }
+    // A refusal's token is the one with which the bytes leave the grammar, and they say nothing.
+    ensures dead { IfErr result (IsDead bytes.now) }
+    // It is `NotStructural`, with the word, exactly where that token is a reserved word that the grammar has nowhere.
+    ensures word { IfErr result (HasWord bytes.now) }
+    // What the bytes say is answered, unless memory ran out.
+    ensures only { (entries : List Entry) → SaysNetlist bytes.now entries → MatchResult result (λ answer. answer.items ≡ entries) (λ end. end ≡ ReadEnd.OutOfMemory) }
+{
+    let mut reader = Reader::new(alloc);
+    let mut number = 1;
+    let mut start = 0;
+    let mut rest = bytes;
+    while let [first, behind @ ..] = rest {
+        match cut_at(rest, *first, behind) {
+            Cut::Skip(count) => {
+                rest = rest.split_at(count).1;
+                start += count;
+            }
+            Cut::Take(count, kind) => {
+                let at = span_of(*first, start, count);
+                rest = rest.split_at(count).1;
+                match reader.take(kind, at) {
+                    Ok(true) => {}
+                    Ok(false) => return Err(refusal(alloc, bytes, number, kind, at)),
+                    Err(_) => return Err(ReadEnd::OutOfMemory),
+                }
+                number += 1;
+                start += count;
+            }
+        }
+    }
+    match reader.finish() {
+        Some(entries) => Ok(entries),
+        None => Err(ReadEnd::Syntax { token: number }),
+    }
+}

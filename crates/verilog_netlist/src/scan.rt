@@ -1,0 +1,294 @@
+//! Parts a file's bytes into tokens.
+ghost use Rattle.std.specs.Prelude.{◌≡◌, ◌+◌, ◌^◌, ◌<◌, ◌≤◌, ◌∷◌, length};
+ghost use Rattle.verilog_netlist.specs.Tokens.{is_digit, begins_name, goes_on_name, is_visible, is_constant_digit, is_sign, is_base, based_length, signed_length, and_before, constant_length, bound_of, word_cut, number_cut, ends_escaped, escaped_cut, comment_cut, slash_cut, paren_cut, mark_kind, cut_at};
+ghost use Rattle.verilog_netlist.specs.Cuts.{IsWithin};
+ghost use Rattle.token_texts.specs.Comments.{pair_place};
+
+use crate::kinds::Kind;
+use crate::words::word_kind;
+use token_texts::{ByteClass, begins_with, is_blank, line_length, pair_place, run_length};
+
+/// What stands at the front of some bytes.
+#[derive(Clone, Copy)]
+pub enum Cut {
+    /// So many bytes that are passed over.
+    Skip(usize),
+
+    /// A token of so many bytes.
+    Take(usize, Kind),
+}
+
+/// Any number past the bounds of ranges and selects counts as this.
+const PAST_BOUNDS: u32 = 1_048_576;
+
+#[inline]
+fn is_digit(byte: u8) -> bool
+    ensures { result ≡ is_digit byte }
+{
+    matches!(byte, b'0'..=b'9')
+}
+
+/// A letter or `_`.
+#[inline]
+fn begins_name(byte: u8) -> bool
+    ensures { result ≡ begins_name byte }
+{
+    matches!(byte, b'a'..=b'z' | b'A'..=b'Z' | b'_')
+}
+
+/// What an identifier goes on with: letters, digits, `_` and `$`.
+pub struct InName;
+
+impl ByteClass for InName {
+    ghost is_in = { goes_on_name };
+
+    #[inline]
+    fn has(byte: u8) -> bool
+        ensures { result ≡ goes_on_name byte }
+    {
+        matches!(byte, b'a'..=b'z' | b'A'..=b'Z' | b'0'..=b'9' | b'_' | b'$')
+    }
+}
+
+/// The bytes of an escaped identifier, 33 to 126.
+pub struct Visible;
+
+impl ByteClass for Visible {
+    ghost is_in = { is_visible };
+
+    #[inline]
+    fn has(byte: u8) -> bool
+        ensures { result ≡ is_visible byte }
+    {
+        matches!(byte, 33..=126)
+    }
+}
+
+/// Decimal digits.
+pub struct Digit;
+
+impl ByteClass for Digit {
+    ghost is_in = { is_digit };
+
+    #[inline]
+    fn has(byte: u8) -> bool
+        ensures { result ≡ is_digit byte }
+    {
+        is_digit(byte)
+    }
+}
+
+/// The digits of a constant: those of any base, and `x X z Z ? _`.
+pub struct ConstantDigit;
+
+impl ByteClass for ConstantDigit {
+    ghost is_in = { is_constant_digit };
+
+    #[inline]
+    fn has(byte: u8) -> bool
+        ensures { result ≡ is_constant_digit byte }
+    {
+        matches!(byte, b'0'..=b'9' | b'a'..=b'f' | b'A'..=b'F' | b'x' | b'X' | b'z' | b'Z' | b'?' | b'_')
+    }
+}
+
+/// `s` or `S`.
+fn is_sign(byte: u8) -> bool
+    ensures { result ≡ is_sign byte }
+{
+    matches!(byte, b's' | b'S')
+}
+
+/// One of `b B o O d D h H`.
+fn is_base(byte: u8) -> bool
+    ensures { result ≡ is_base byte }
+{
+    matches!(byte, b'b' | b'B' | b'o' | b'O' | b'd' | b'D' | b'h' | b'H')
+}
+
+/// So many bytes and `n` before them, or none where there are none.
+fn and_before(n: usize, length: usize) -> usize
+    requires { n + length < 2 ^ 33 }
+    ensures { result ≡ and_before n length }
+{
+    if length == 0 { 0 } else { length + n }
+}
+
+/// How many bytes at the front are a base and at least one digit of a constant, or 0.
+fn based_length(bytes: &[u8]) -> usize
+    requires { length bytes.now < 2 ^ 32 }
+    ensures value { result ≡ based_length bytes.now }
+    ensures within { result ≤ length bytes.now }
+{
+    match bytes {
+        [byte, rest @ ..] if is_base(*byte) => and_before(1, run_length::<ConstantDigit>(rest)),
+        _ => 0,
+    }
+}
+
+/// The same with a sign before them, or none.
+fn signed_length(bytes: &[u8]) -> usize
+    requires { length bytes.now < 2 ^ 32 }
+    ensures value { result ≡ signed_length bytes.now }
+    ensures within { result ≤ length bytes.now }
+{
+    match bytes {
+        [byte, rest @ ..] if is_sign(*byte) => and_before(1, based_length(rest)),
+        _ => based_length(bytes),
+    }
+}
+
+/// Behind the digits of a width: how many bytes at the front are the rest of a constant, or 0.
+#[tactic(auto, unfolding(crate::specs::Tokens::constant_length))]
+fn constant_length(bytes: &[u8]) -> usize
+    requires { length bytes.now < 2 ^ 32 }
+    ensures value { result ≡ constant_length bytes.now }
+    ensures within { result ≤ length bytes.now }
+{
+    match bytes {
+        [byte, rest @ ..] if *byte == b'\'' => and_before(1, signed_length(rest)),
+        _ => 0,
+    }
+}
+
+/// The value of decimal digits, or one past the largest bound where it is more than that.
+fn bound_of(digits: &[u8]) -> u32
+    ensures { result ≡ bound_of digits.now }
+{
+    let mut value = 0;
+    for digit in digits {
+        value = (value * 10 + u32::from(digit.saturating_sub(b'0'))).min(PAST_BOUNDS);
+    }
+    value
+}
+
+/// An identifier, or a reserved word.
+#[inline]
+fn word_cut(bytes: &[u8]) -> Cut
+    ensures { result ≡ word_cut bytes.now }
+{
+    let length = run_length::<InName>(bytes);
+    Cut::Take(length, word_kind(bytes.split_at(length).0))
+}
+
+/// A number, or a constant.
+fn number_cut(bytes: &[u8]) -> Cut
+    requires { length bytes.now < 2 ^ 32 }
+    ensures { result ≡ number_cut bytes.now }
+{
+    let length = run_length::<Digit>(bytes);
+    let (digits, behind) = bytes.split_at(length);
+    let more = constant_length(behind);
+    if more == 0 {
+        Cut::Take(length, Kind::Number(bound_of(digits)))
+    } else {
+        Cut::Take(length + more, Kind::Constant)
+    }
+}
+
+/// Whether a blank stands at the front, or nothing.
+fn ends_escaped(bytes: &[u8]) -> bool
+    ensures { result ≡ ends_escaped bytes.now }
+{
+    match bytes {
+        [] => true,
+        [byte, ..] => is_blank(*byte),
+    }
+}
+
+/// Behind a backslash: an escaped identifier, or a byte that begins no token.
+fn escaped_cut(rest: &[u8]) -> Cut
+    requires { length rest.now < 2 ^ 32 }
+    ensures { result ≡ escaped_cut rest.now }
+{
+    let length = run_length::<Visible>(rest);
+    if length > 0 && ends_escaped(rest.split_at(length).1) {
+        Cut::Take(length + 1, Kind::Name)
+    } else {
+        Cut::Take(1, Kind::Bad)
+    }
+}
+
+/// Behind `/*` or `(*`, which end with the byte `*` and this one.
+fn comment_cut(last: u8, inner: &[u8]) -> Cut
+    requires { length inner.now < 2 ^ 32 }
+    ensures { result ≡ comment_cut inner.now (pair_place 42 last inner.now) }
+{
+    match pair_place(b'*', last, inner) {
+        Some(place) => Cut::Skip(place + 4),
+        None => Cut::Take(inner.len() + 2, Kind::Bad),
+    }
+}
+
+/// Behind a slash: a comment, or a byte that begins no token.
+fn slash_cut(rest: &[u8]) -> Cut
+    requires { length rest.now < 2 ^ 32 }
+    ensures { result ≡ slash_cut rest.now }
+{
+    if begins_with(b'/', rest) {
+        Cut::Skip(line_length(rest))
+    } else if begins_with(b'*', rest) {
+        comment_cut(b'/', rest.split_at(1).1)
+    } else {
+        Cut::Take(1, Kind::Bad)
+    }
+}
+
+/// Behind a `(`: an attribute, or the mark.
+#[inline]
+fn paren_cut(rest: &[u8]) -> Cut
+    requires { length rest.now < 2 ^ 32 }
+    ensures { result ≡ paren_cut rest.now }
+{
+    if begins_with(b'*', rest) {
+        comment_cut(b')', rest.split_at(1).1)
+    } else {
+        Cut::Take(1, Kind::LeftParen)
+    }
+}
+
+/// What a mark is, or a byte that begins no token.
+#[inline]
+fn mark_kind(byte: u8) -> Kind
+    ensures { result ≡ mark_kind byte }
+{
+    match byte {
+        b',' => Kind::Comma,
+        b')' => Kind::RightParen,
+        b'.' => Kind::Dot,
+        b';' => Kind::Semicolon,
+        b'[' => Kind::LeftBracket,
+        b']' => Kind::RightBracket,
+        b'{' => Kind::LeftBrace,
+        b'}' => Kind::RightBrace,
+        b':' => Kind::Colon,
+        _ => Kind::Bad,
+    }
+}
+
+/// What stands at the front of the bytes, which are `first` and `rest`.
+#[inline]
+pub(crate) fn cut_at(bytes: &[u8], first: u8, rest: &[u8]) -> Cut
+    requires parts { bytes.now ≡ first ∷ rest.now }
+    requires bytes { length bytes.now < 2 ^ 32 }
+    ensures value { result ≡ cut_at first rest.now }
+    ensures within { IsWithin (length bytes.now) result }
+{
+    if is_blank(first) {
+        Cut::Skip(1)
+    } else if begins_name(first) {
+        word_cut(bytes)
+    } else if is_digit(first) {
+        number_cut(bytes)
+    } else if first == b'\\' {
+        escaped_cut(rest)
+    } else if first == b'`' {
+        Cut::Skip(line_length(rest))
+    } else if first == b'/' {
+        slash_cut(rest)
+    } else if first == b'(' {
+        paren_cut(rest)
+    } else {
+        Cut::Take(1, mark_kind(first))
+    }
+}

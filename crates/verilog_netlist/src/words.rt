@@ -1,0 +1,132 @@
+//! Reserved words.
+ghost use Rattle.std.specs.Prelude.{◌≡◌, map};
+ghost use Rattle.verilog_netlist.specs.Words.{look_up, word_kind};
+
+use crate::kinds::Kind;
+
+/// The reserved words that the grammar tells from names.
+const RESERVED_WORDS: [(&[u8], Kind); 103] = [
+    (b"module", Kind::Module),
+    (b"endmodule", Kind::EndModule),
+    (b"input", Kind::Input),
+    (b"output", Kind::Output),
+    (b"wire", Kind::Wire),
+    (b"assign", Kind::NotStructural),
+    (b"always", Kind::NotStructural),
+    (b"and", Kind::NotStructural),
+    (b"automatic", Kind::NotStructural),
+    (b"begin", Kind::NotStructural),
+    (b"buf", Kind::NotStructural),
+    (b"bufif0", Kind::NotStructural),
+    (b"bufif1", Kind::NotStructural),
+    (b"case", Kind::NotStructural),
+    (b"casex", Kind::NotStructural),
+    (b"casez", Kind::NotStructural),
+    (b"cmos", Kind::NotStructural),
+    (b"deassign", Kind::NotStructural),
+    (b"default", Kind::NotStructural),
+    (b"defparam", Kind::NotStructural),
+    (b"disable", Kind::NotStructural),
+    (b"else", Kind::NotStructural),
+    (b"end", Kind::NotStructural),
+    (b"endcase", Kind::NotStructural),
+    (b"endfunction", Kind::NotStructural),
+    (b"endgenerate", Kind::NotStructural),
+    (b"endprimitive", Kind::NotStructural),
+    (b"endspecify", Kind::NotStructural),
+    (b"endtable", Kind::NotStructural),
+    (b"endtask", Kind::NotStructural),
+    (b"event", Kind::NotStructural),
+    (b"for", Kind::NotStructural),
+    (b"force", Kind::NotStructural),
+    (b"forever", Kind::NotStructural),
+    (b"fork", Kind::NotStructural),
+    (b"function", Kind::NotStructural),
+    (b"generate", Kind::NotStructural),
+    (b"genvar", Kind::NotStructural),
+    (b"if", Kind::NotStructural),
+    (b"ifnone", Kind::NotStructural),
+    (b"initial", Kind::NotStructural),
+    (b"inout", Kind::NotStructural),
+    (b"integer", Kind::NotStructural),
+    (b"join", Kind::NotStructural),
+    (b"localparam", Kind::NotStructural),
+    (b"medium", Kind::NotStructural),
+    (b"nand", Kind::NotStructural),
+    (b"negedge", Kind::NotStructural),
+    (b"nmos", Kind::NotStructural),
+    (b"nor", Kind::NotStructural),
+    (b"not", Kind::NotStructural),
+    (b"notif0", Kind::NotStructural),
+    (b"notif1", Kind::NotStructural),
+    (b"or", Kind::NotStructural),
+    (b"parameter", Kind::NotStructural),
+    (b"pmos", Kind::NotStructural),
+    (b"posedge", Kind::NotStructural),
+    (b"primitive", Kind::NotStructural),
+    (b"pull0", Kind::NotStructural),
+    (b"pull1", Kind::NotStructural),
+    (b"pulldown", Kind::NotStructural),
+    (b"pullup", Kind::NotStructural),
+    (b"rcmos", Kind::NotStructural),
+    (b"real", Kind::NotStructural),
+    (b"realtime", Kind::NotStructural),
+    (b"reg", Kind::NotStructural),
+    (b"release", Kind::NotStructural),
+    (b"repeat", Kind::NotStructural),
+    (b"rnmos", Kind::NotStructural),
+    (b"rpmos", Kind::NotStructural),
+    (b"rtran", Kind::NotStructural),
+    (b"rtranif0", Kind::NotStructural),
+    (b"rtranif1", Kind::NotStructural),
+    (b"scalared", Kind::NotStructural),
+    (b"signed", Kind::NotStructural),
+    (b"small", Kind::NotStructural),
+    (b"specify", Kind::NotStructural),
+    (b"specparam", Kind::NotStructural),
+    (b"strong0", Kind::NotStructural),
+    (b"strong1", Kind::NotStructural),
+    (b"supply0", Kind::NotStructural),
+    (b"supply1", Kind::NotStructural),
+    (b"table", Kind::NotStructural),
+    (b"task", Kind::NotStructural),
+    (b"time", Kind::NotStructural),
+    (b"tran", Kind::NotStructural),
+    (b"tranif0", Kind::NotStructural),
+    (b"tranif1", Kind::NotStructural),
+    (b"tri", Kind::NotStructural),
+    (b"tri0", Kind::NotStructural),
+    (b"tri1", Kind::NotStructural),
+    (b"triand", Kind::NotStructural),
+    (b"trior", Kind::NotStructural),
+    (b"trireg", Kind::NotStructural),
+    (b"vectored", Kind::NotStructural),
+    (b"wait", Kind::NotStructural),
+    (b"wand", Kind::NotStructural),
+    (b"weak0", Kind::NotStructural),
+    (b"weak1", Kind::NotStructural),
+    (b"while", Kind::NotStructural),
+    (b"wor", Kind::NotStructural),
+    (b"xnor", Kind::NotStructural),
+    (b"xor", Kind::NotStructural),
+];
+
+/// What stands in the table beside the word, or a name.
+fn look_up(table: &[(&[u8], Kind)], word: &[u8]) -> Kind
+    ensures { result ≡ look_up (map (λ k. (k.0.now, k.1)) table.now) word.now }
+{
+    for row in table {
+        if row.0 == word {
+            return row.1;
+        }
+    }
+    Kind::Name
+}
+
+/// What a word is: a reserved word, or a name.
+#[tactic(auto, unfolding(crate::specs::Words::word_kind))]
+pub(crate) fn word_kind(word: &[u8]) -> Kind
+    ensures { result ≡ word_kind word.now }
+{
+    look_up(&RESERVED_WORDS, word)
+}
