@@ -5,3 +5,5 @@ pub mod SpefNames
 pub mod Staying
 pub mod WellSpelled
 pub mod WrittenNames
+pub mod NodeKeys
+pub mod SameKeys

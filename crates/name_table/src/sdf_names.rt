@@ -4,6 +4,7 @@ ghost use Rattle.name_table.specs.Characters.{bare};
 ghost use Rattle.name_table.specs.SdfNames.{is_plain, spelled, part, respelled, canonical, slash};
 ghost use Rattle.name_table.specs.WellSpelled.{IsPart};
 
+use edge_io::lists::push;
 use edge_io::{OutOfMemory, Text};
 use std::alloc::Global;
 
@@ -23,13 +24,6 @@ pub(crate) fn is_plain(byte: u8) -> bool
     ensures { result ≡ is_plain byte }
 {
     PLAIN_BYTES[byte as usize] != b','
-}
-
-// Puts a byte at the end.
-pub(crate) fn push(bytes: &mut Vec<u8>, byte: u8) -> Result<(), OutOfMemory>
-    ensures ok { OnOk result (bytes.new.items ≡ bytes.old.items ++ byte ∷ []) }
-{
-    bytes.push(byte).map_err(|_| OutOfMemory)
 }
 
 // Puts the spelling of a byte at the end.
@@ -53,7 +47,7 @@ pub fn escape_sdf(alloc: Global, name: &[u8]) -> Result<Text, OutOfMemory>
     for &byte in name {
         push_spelled(&mut spelling, byte)?;
     }
-    Text::from_bytes(alloc, spelling.as_slice())
+    Ok(Text::from_vec(spelling))
 }
 
 /// The canonical spelling of a name as it stands in a file with this divider. A divider becomes `/`;
@@ -75,7 +69,7 @@ pub fn canonical_sdf(alloc: Global, word: &[u8], divider: u8) -> Result<Text, Ou
             push_respelled(&mut spelling, byte, divider)?;
         }
     }
-    Text::from_bytes(alloc, spelling.as_slice())
+    Ok(Text::from_vec(spelling))
 }
 
 // Puts the spelling of a byte without a backslash at the end.

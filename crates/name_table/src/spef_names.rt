@@ -6,7 +6,8 @@ ghost use Rattle.name_table.specs.SdfNames.{slash, canonical};
 ghost use Rattle.name_table.specs.SpefNames.{sdf_of, meaning, text_of, spelling_of, cut_last, halves_at, whole_node, cut_node, node_name, joined};
 ghost use Rattle.name_table.specs.Staying.{stays, stays_as, are_usual};
 
-use crate::sdf_names::{is_plain, push, push_spelled};
+use crate::sdf_names::{is_plain, push_spelled};
+use edge_io::lists::push;
 use edge_io::{OutOfMemory, Text};
 use memchr::memrchr;
 use std::alloc::Global;
@@ -29,6 +30,19 @@ pub struct NodeName {
     pub head: Text,
     pub tail: Option<Text>,
     pub sdf: Text,
+}
+
+/// A copy of a name.
+pub fn copy_name(alloc: Global, name: &NodeName) -> Result<NodeName, OutOfMemory>
+    ensures { IfOk result (λ copy. copy ≡ name.now) }
+{
+    let head = Text::from_bytes(alloc, name.head.bytes())?;
+    let tail = match &name.tail {
+        Some(tail) => Some(Text::from_bytes(alloc, tail.bytes())?),
+        None => None,
+    };
+    let sdf = Text::from_bytes(alloc, name.sdf.bytes())?;
+    Ok(NodeName { head, tail, sdf })
 }
 
 /// Reads a name. A backslash makes the next byte literal; an unescaped divider is `/`, and unescaped bus

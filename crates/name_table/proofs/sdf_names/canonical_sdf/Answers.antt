@@ -1,4 +1,4 @@
-use Rattle.std.proofs.Common.{◌∙◌, sym, take, get_or}
+use Rattle.std.proofs.Common.{ℕ, ◌∙◌, sym, take, get_or, Ok}
 use Rattle.name_table.specs.Characters.{bare, escaped, characters}
 use Rattle.name_table.specs.SdfNames.{respelled, canonical}
 use Rattle.name_table.proofs.Reading.{read_escaped, read_slash, read_bare, leaves_escape, enters_escape, stays_outside, flat_map-push}
@@ -33,5 +33,5 @@ loop-byte-preserved c =
 
 pub returns-clause-settled : goal.returns-clause-settled
 returns-clause-settled c =
-    settled_as _ _ (canonical c.args.divider (take c.loop-byte.byte-index c.args.word.now)) c.from_bytes.ensures (c.as_slice.ensures.value ∙ c.loop-byte.invariant.so_far)
+    settled_as {E = ℕ} (Ok c.from_vec.result) _ (canonical c.args.divider (take c.loop-byte.byte-index c.args.word.now)) c.from_vec.ensures c.loop-byte.invariant.so_far
     (canonical_stays c.args.divider (take c.loop-byte.byte-index c.args.word.now))
