@@ -191,7 +191,3 @@ is_direction (byte ∷ next ∷ rest) = false
 -- the digits of an index without the zeros in front
 abbrev pub index_digits : List ℕ → List ℕ
 index_digits text = without_leading_zeros (drop 1 text)
-
--- two spellings of one index
-unfoldable pub same_index : List ℕ → List ℕ → Bool
-same_index one other = bytes_eq (index_digits one) (index_digits other)

@@ -4,7 +4,7 @@ ghost use Rattle.std.specs.List.{list_all, prefix_len};
 ghost use Rattle.std.specs.Char.{is_ascii_digit};
 ghost use Rattle.delay_units.specs.Literal.{without_leading_zeros};
 ghost use Rattle.spef_text.specs.Tokens.{is_broken, is_nothing};
-ghost use Rattle.spef_text.specs.Classes.{is_other, is_loose, marks, is_mark, is_two_marks, is_colon, is_literal, are_two_literals, is_value_parted, is_value, is_id, is_index, is_tail, is_indexed, is_name, is_map_name, is_ref, is_direction, index_digits, same_index, holds_of, is_top, is_tight, word_of};
+ghost use Rattle.spef_text.specs.Classes.{is_other, is_loose, marks, is_mark, is_two_marks, is_colon, is_literal, are_two_literals, is_value_parted, is_value, is_id, is_index, is_tail, is_indexed, is_name, is_map_name, is_ref, is_direction, index_digits, holds_of, is_top, is_tight, word_of};
 
 use crate::broken::is_broken;
 use crate::places::{begins_as_literal, is_literal};
@@ -257,12 +257,4 @@ fn without_leading_zeros(digits: &[u8]) -> &[u8]
         rest = after;
     }
     rest
-}
-
-/// Whether two spellings are of one index.
-#[tactic(auto, unfolding(crate::specs::Classes::same_index))]
-pub fn same_index(one: &[u8], other: &[u8]) -> bool
-    ensures { result ≡ same_index one.now other.now }
-{
-    index_digits(one) == index_digits(other)
 }

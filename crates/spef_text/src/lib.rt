@@ -5,7 +5,6 @@
 mod broken;
 mod classes;
 mod entries;
-mod equality;
 mod file;
 mod file_texts;
 mod head;
@@ -27,7 +26,6 @@ mod units;
 mod words;
 
 pub use entries::{Cap, Conn, Res};
-pub use equality::are_equal;
 pub use file::SpefFile;
 pub use head::{Head, read_head};
 pub use head_ends::HeadEnd;

@@ -2,7 +2,7 @@
 ghost use Rattle.std.specs.Prelude.{◌≡◌, map, None, if◌then◌else◌};
 ghost use Rattle.spef_text.specs.Classes.{word_of, keywords, lookup, is_top, is_tight, lone_word, sifted_word};
 
-use crate::equality::are_equal;
+use edge_io::are_equal;
 
 /// What a keyword stands for in the grammar.
 #[derive(Clone, Copy, PartialEq, Eq, Debug)]
