@@ -8,8 +8,6 @@ mod decimals;
 mod faults;
 mod help;
 mod reading;
-#[cfg(test)]
-mod tests;
 mod words;
 
 pub use asked::{Asked, Given};

@@ -1,13 +1,11 @@
 //! Words, with what they ask for or their first fault. The faults are worked from the tables of commands and keys.
-
-use crate::{
+use corner_set::Pick;
+use edge_io::{OutOfMemory, Text};
+use gdc_words::{
     Asked, Command, Key, UsageFault, UsageKind, Words, WordsEnd, help_text, read_words,
     version_text,
 };
-use corner_set::Pick;
-use edge_io::{OutOfMemory, Text};
 use std::alloc::Global;
-use std::process::Abort;
 use std::test::Fail;
 
 /// Words, one a line, with the kind and the place of their first fault.
@@ -82,33 +80,32 @@ fn asked_by(alloc: Global, lines: &[u8]) -> Result<Asked, OutOfMemory> {
     read_words(alloc, &words).map_err(|_| OutOfMemory)
 }
 
-fn misses(rt: &impl Abort, alloc: Global, lines: &[u8], key: &[u8]) -> Result<(), OutOfMemory> {
-    let Some(fault) = fault_of(alloc, lines)? else {
-        return Err(OutOfMemory);
-    };
-    assert_eq!(rt; fault.kind, UsageKind::MissingKey);
-    assert_eq!(rt; fault.place, 0);
-    assert!(rt; fault.key.is_some_and(|named| named.bytes() == key));
-    Ok(())
-}
+/// Words that lack a key, and the first that they lack.
+const LACKING: [(&[u8], &[u8]); 5] = [
+    (b"wires\n", b"--spef"),
+    (b"wires\n--triple\nmin\n", b"--spef"),
+    (b"show\n", b"--sdf"),
+    (b"lookup\n--slew\n1000000\n", b"--lib"),
+    (b"lookup\n--lib\na\n--slew\n1\n--load\n2\n", b"--cell"),
+];
 
 #[test]
-fn each_fault_comes_first(rt: HostRuntime) -> Result<(), Fail> {
+fn the_first_fault_is_told(rt: HostRuntime) -> Result<(), Fail> {
     let alloc = rt.alloc();
-    for row in &FAULTS {
-        let fault = fault_of(alloc, row.0)?;
-        assert!(rt; fault.is_some_and(|f| f.kind == row.1 && f.place == row.2 && f.key.is_none()));
+    for (lines, kind, place) in FAULTS {
+        let fault = fault_of(alloc, lines)?.ok_or("a fault")?;
+        assert_eq!(rt; (fault.kind, fault.place), (kind, place), "{lines:?}");
+        assert!(rt; fault.key.is_none(), "{lines:?}");
     }
-    misses(&rt, alloc, b"wires\n", b"--spef")?;
-    misses(&rt, alloc, b"wires\n--triple\nmin\n", b"--spef")?;
-    misses(&rt, alloc, b"show\n", b"--sdf")?;
-    misses(&rt, alloc, b"lookup\n--slew\n1000000\n", b"--lib")?;
-    misses(
-        &rt,
-        alloc,
-        b"lookup\n--lib\na\n--slew\n1\n--load\n2\n",
-        b"--cell",
-    )?;
+    for (lines, key) in LACKING {
+        let fault = fault_of(alloc, lines)?.ok_or("a fault")?;
+        let wanted = (UsageKind::MissingKey, 0);
+        assert_eq!(rt; (fault.kind, fault.place), wanted, "{lines:?}");
+        assert!(rt;
+            fault.key.is_some_and(|named| named.bytes() == key),
+            "{lines:?}"
+        );
+    }
     Ok(())
 }
 
