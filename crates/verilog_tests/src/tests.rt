@@ -1,0 +1,4 @@
+//! One module a subject.
+mod accepted;
+mod reading;
+mod refused;

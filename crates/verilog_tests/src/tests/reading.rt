@@ -1,0 +1,141 @@
+//! Reads the files of both tables.
+ghost use Rattle.std.specs.Prelude.{◌<◌, ◌^◌, length};
+
+use super::accepted::ACCEPTED;
+use super::refused::{NOT_STRUCTURAL, REFUSED};
+use edge_io::Text;
+use std::alloc::Global;
+use std::test::Fail;
+use verilog_netlist::{Decl, Entry, Range, ReadEnd, Way, read_entries};
+
+/// Adds a line of words, each but the first with a space before it.
+fn tell(text: &mut Text, first: &[u8], words: &[&[u8]]) -> Result<(), Fail> {
+    text.push_all(first)?;
+    for word in words {
+        text.push_all(b" ")?;
+        text.push_all(word)?;
+    }
+    text.push_all(b"\n")?;
+    Ok(())
+}
+
+/// The bounds in brackets.
+fn bounds(alloc: Global, range: Range) -> Result<Text, Fail> {
+    let text = format!(in alloc; "[{}:{}]", range.left, range.right)?;
+    let text = Text::from_bytes(alloc, text.as_bytes())?;
+    Ok(text)
+}
+
+fn way_word(way: Way) -> &'static [u8] {
+    match way {
+        Way::In => b"input",
+        Way::Out => b"output",
+    }
+}
+
+fn decl_word(decl: Decl) -> &'static [u8] {
+    match decl {
+        Decl::InHeader(Way::In) => b"header input",
+        Decl::InHeader(Way::Out) => b"header output",
+        Decl::Port(way) => way_word(way),
+        Decl::Wire => b"wire",
+    }
+}
+
+fn tell_declared(
+    alloc: Global,
+    text: &mut Text,
+    decl: Decl,
+    name: &[u8],
+    range: Option<Range>,
+) -> Result<(), Fail> {
+    match range {
+        None => tell(text, decl_word(decl), &[name]),
+        Some(range) => {
+            let range = bounds(alloc, range)?;
+            tell(text, decl_word(decl), &[name, range.bytes()])
+        }
+    }
+}
+
+fn tell_bit(alloc: Global, text: &mut Text, name: &[u8], place: u32) -> Result<(), Fail> {
+    let index = format!(in alloc; "[{place}]")?;
+    tell(text, b"bit", &[name, index.as_bytes()])
+}
+
+fn tell_part(alloc: Global, text: &mut Text, name: &[u8], range: Range) -> Result<(), Fail> {
+    let range = bounds(alloc, range)?;
+    tell(text, b"part", &[name, range.bytes()])
+}
+
+fn tell_entry(alloc: Global, text: &mut Text, bytes: &[u8], entry: Entry) -> Result<(), Fail> {
+    match entry {
+        Entry::Module(name) => tell(text, b"module", &[name.of(bytes)]),
+        Entry::Header(name) => tell(text, b"header", &[name.of(bytes)]),
+        Entry::Declared(decl, name, range) => {
+            tell_declared(alloc, text, decl, name.of(bytes), range)
+        }
+        Entry::Instance(cell, name) => tell(text, b"instance", &[cell.of(bytes), name.of(bytes)]),
+        Entry::Port(name) => tell(text, b"port", &[name.of(bytes)]),
+        Entry::Whole(name) => tell(text, b"name", &[name.of(bytes)]),
+        Entry::Bit(name, place) => tell_bit(alloc, text, name.of(bytes), place),
+        Entry::Part(name, range) => tell_part(alloc, text, name.of(bytes), range),
+        Entry::Constant(name) => tell(text, b"constant", &[name.of(bytes)]),
+    }
+}
+
+#[test]
+fn says_what_the_accepted_files_say(rt: HostRuntime) -> Result<(), Fail> {
+    for file in ACCEPTED.as_slice() {
+        assert!(rt; file.0.len() < 1 << 20);
+        let mut text = Text::new(rt.alloc());
+        match read_entries(rt.alloc(), file.0) {
+            Ok(entries) => {
+                for entry in entries.as_slice() {
+                    tell_entry(rt.alloc(), &mut text, file.0, *entry)?;
+                }
+            }
+            Err(_) => assert!(rt; false),
+        }
+        assert_eq!(rt; text.bytes(), file.1);
+    }
+    Ok(())
+}
+
+/// The token and the word of a refusal are these; of one that is no refusal of a word the word is empty.
+fn is_refused(alloc: Global, bytes: &[u8], token: u64, word: &[u8]) -> bool
+    requires { length bytes.now < 2 ^ 30 }
+{
+    match read_entries(alloc, bytes) {
+        Err(ReadEnd::Syntax { token: number }) => number == token && word.is_empty(),
+        Err(
+            ReadEnd::NotStructural {
+                word: found,
+                token: number,
+            },
+        ) => number == token && found.bytes() == word,
+        _ => false,
+    }
+}
+
+#[test]
+fn refuses_the_refused_files(rt: HostRuntime) -> Result<(), Fail> {
+    for file in REFUSED.as_slice() {
+        assert!(rt; file.0.len() < 1 << 20);
+        assert!(rt; is_refused(rt.alloc(), file.0, file.1, file.2));
+    }
+    Ok(())
+}
+
+#[test]
+fn names_each_word_that_is_not_structural(rt: HostRuntime) -> Result<(), Fail> {
+    for word in NOT_STRUCTURAL.as_slice() {
+        let mut text = Text::new(rt.alloc());
+        text.push_all(b"module m; ")?;
+        text.push_all(word)?;
+        text.push_all(b" u (); endmodule")?;
+        assert!(rt; text.bytes().len() < 1 << 20);
+        assert!(rt; is_refused(rt.alloc(), text.bytes(), 4, word));
+    }
+    Ok(())
+}
