@@ -1,4 +1,5 @@
 pub mod Bounds
+pub mod QuickWords
 pub mod Cutting
 pub mod Taking
 pub mod Meaning

@@ -4,6 +4,7 @@ pub mod Tokens
 pub mod Grammar
 pub mod Netlists
 pub mod Cuts
+pub mod WordFilter
 pub mod Steps
 pub mod Modes
 pub mod ReaderStates

@@ -1,6 +1,7 @@
 //! Reserved words.
 ghost use Rattle.std.specs.Prelude.{◌≡◌, map};
 ghost use Rattle.verilog_netlist.specs.Words.{look_up, word_kind};
+ghost use Rattle.verilog_netlist.specs.WordFilter.{may_be_reserved};
 
 use crate::kinds::Kind;
 
@@ -123,10 +124,29 @@ fn look_up(table: &[(&[u8], Kind)], word: &[u8]) -> Kind
     Kind::Name
 }
 
+/// Whether a word may be reserved: reserved words begin with two small letters, and have at most twelve bytes. Most names of a
+/// netlist do not, so the table is looked through for few.
+#[inline]
+fn may_be_reserved(word: &[u8]) -> bool
+    ensures { result ≡ may_be_reserved word.now }
+{
+    match word {
+        [first, second, rest @ ..] => {
+            matches!(*first, b'a'..=b'z') && matches!(*second, b'a'..=b'z') && rest.len() <= 10
+        }
+        _ => false,
+    }
+}
+
 /// What a word is: a reserved word, or a name.
-#[tactic(auto, unfolding(crate::specs::Words::word_kind))]
+#[inline]
+#[tactic(auto, using(crate::proofs::QuickWords::others_are_names, crate::proofs::QuickWords::looked_up))]
 pub(crate) fn word_kind(word: &[u8]) -> Kind
     ensures { result ≡ word_kind word.now }
 {
-    look_up(&RESERVED_WORDS, word)
+    if may_be_reserved(word) {
+        look_up(&RESERVED_WORDS, word)
+    } else {
+        Kind::Name
+    }
 }
