@@ -1,4 +1,6 @@
--- The grammar of structural Verilog (IEEE 1364-2005, source text), a relation by cases over numbered tokens: one definition for each line of it, with a constructor for each case. In each, `from` begins with what is said and `rest` follows it; `before` are the entries that have been said up to there, and `after` those and what this says.
+-- The grammar of structural Verilog (IEEE 1364-2005, source text), a relation by cases over numbered tokens: one definition for
+-- each line of it, with a constructor for each case. In each, `from` begins with what is said and `rest` follows it; `before` are
+-- the entries that have been said up to there, and `after` those and what this says.
 use Rattle.std.specs.Prelude.{◌≡◌, ℕ, suc, ◌<◌, List, [], ◌∷◌, ◌++◌, Option, Some, None}
 use Rattle.token_fronts.specs.Tokens.{Token}
 use Rattle.verilog_netlist.specs.Tokens.{Lexeme}
@@ -23,8 +25,12 @@ Is kind token = token.text.kind ≡ kind
 abbrev pub added : List Entry → Entry → List Entry
 added entries entry = entries ++ entry ∷ []
 
+-- a line of the grammar: what `from` begins with, the entries before and after it, and the rest
+abbrev pub Rule : Type 1
+Rule = List Tok → List Entry → List Entry → List Tok → Type 0
+
 -- part { "," part }
-pub data Listed (Part : List Tok → List Entry → List Entry → List Tok → Type 0) : List Tok → List Entry → List Entry → List Tok → Type 0 where
+pub data Listed (Part : Rule) : List Tok → List Entry → List Entry → List Tok → Type 0 where
   one : {from rest : List Tok} {before after : List Entry}
       → Part from before after rest
       → Listed Part from before after rest
@@ -33,14 +39,14 @@ pub data Listed (Part : List Tok → List Entry → List Entry → List Tok → 
       → Listed Part from before after rest
 
 -- { part }
-pub data Many (Part : List Tok → List Entry → List Entry → List Tok → Type 0) : List Tok → List Entry → List Entry → List Tok → Type 0 where
+pub data Many (Part : Rule) : List Tok → List Entry → List Entry → List Tok → Type 0 where
   none : {from : List Tok} {before : List Entry} → Many Part from before before from
   more : {from middle rest : List Tok} {before between after : List Entry}
       → Many Part from before between middle → Part middle between after rest
       → Many Part from before after rest
 
 -- [ part ]
-pub data Maybe (Part : List Tok → List Entry → List Entry → List Tok → Type 0) : List Tok → List Entry → List Entry → List Tok → Type 0 where
+pub data Maybe (Part : Rule) : List Tok → List Entry → List Entry → List Tok → Type 0 where
   left_out : {from : List Tok} {before : List Entry} → Maybe Part from before before from
   there : {from rest : List Tok} {before after : List Entry}
       → Part from before after rest
@@ -65,7 +71,8 @@ pub data MaybeWire : List Tok → List Tok → Type 0 where
 -- range = "[" number ":" number "]"
 pub data IsRange : List Tok → Range → List Tok → Type 0 where
   range : {begin first colon second close : Tok} {rest : List Tok} {left right : ℕ}
-      → Is kind.LeftBracket begin → Is (kind.Number left) first → Is kind.Colon colon → Is (kind.Number right) second → Is kind.RightBracket close
+      → Is kind.LeftBracket begin → Is (kind.Number left) first → Is kind.Colon colon → Is (kind.Number right) second
+      → Is kind.RightBracket close
       → IsRange (begin ∷ first ∷ colon ∷ second ∷ close ∷ rest) (record { left = left; right = right }) rest
 
 -- [ range ]
@@ -132,14 +139,17 @@ mutual
 pub data IsConnection : List Tok → List Entry → List Entry → List Tok → Type 0 where
   connection : {dot port begin close : Tok} {from rest : List Tok} {before after : List Entry}
       → Is kind.Dot dot → Is kind.Name port
-      → Is kind.LeftParen begin → Maybe (IsExpr 0) from (added before (entry.Port port.text.at)) after (close ∷ rest) → Is kind.RightParen close
+      → Is kind.LeftParen begin → Maybe (IsExpr 0) from (added before (entry.Port port.text.at)) after (close ∷ rest)
+      → Is kind.RightParen close
       → IsConnection (dot ∷ port ∷ begin ∷ from) before after rest
 
 -- instance = id "(" [ connection { "," connection } ] ")", of this cell or module
 pub data IsInstance (cell : Span) : List Tok → List Entry → List Entry → List Tok → Type 0 where
   instance : {id begin close : Tok} {from rest : List Tok} {before after : List Entry}
       → Is kind.Name id
-      → Is kind.LeftParen begin → Maybe (Listed IsConnection) from (added before (entry.Instance cell id.text.at)) after (close ∷ rest) → Is kind.RightParen close
+      → Is kind.LeftParen begin
+      → Maybe (Listed IsConnection) from (added before (entry.Instance cell id.text.at)) after (close ∷ rest)
+      → Is kind.RightParen close
       → IsInstance cell (id ∷ begin ∷ from) before after rest
 
 -- item = ansi ";" | "wire" [ range ] id { "," id } ";" | id instance { "," instance } ";"

@@ -1,5 +1,5 @@
 -- What the bytes of a netlist say, and the token at which bytes are none.
-use Rattle.std.specs.Prelude.{◌≡◌, ℕ, ◌-◌, List, slice_get, Some, ⊤}
+use Rattle.std.specs.Prelude.{◌≡◌, ℕ, ◌-◌, List, slice_get, Some, Result, MatchResult, ⊤}
 use Rattle.token_fronts.specs.Reading.{Says, Leaves}
 use Rattle.verilog_netlist.specs.Spans.{text_at}
 use Rattle.verilog_netlist.specs.Tokens.{Lexeme, AreTokens, IsToken}
@@ -26,8 +26,13 @@ IsDead bytes OutOfMemory = ⊤
 -- it is a reserved word that the grammar has nowhere, where the refusal says so, with this text, and no such word else
 abbrev pub IsRefusalAt : List ℕ → List Lexeme → ReadEnd → Type 0
 IsRefusalAt bytes tokens (Syntax token) = (lexeme : Lexeme) → slice_get tokens (token - 1) ≡ Some lexeme → lexeme.kind ≡ StartsOther → ⊥
-IsRefusalAt bytes tokens (NotStructural word token) = (lexeme : Lexeme) × (slice_get tokens (token - 1) ≡ Some lexeme) × (lexeme.kind ≡ StartsOther) × (word ≡ text_at bytes lexeme.at)
+IsRefusalAt bytes tokens (NotStructural word token) =
+    (lexeme : Lexeme) × (slice_get tokens (token - 1) ≡ Some lexeme) × (lexeme.kind ≡ StartsOther) × (word ≡ text_at bytes lexeme.at)
 IsRefusalAt bytes tokens OutOfMemory = ⊤
 
 abbrev pub HasWord : List ℕ → ReadEnd → Type 0
 HasWord bytes end = (tokens : List Lexeme) → AreTokens bytes tokens → IsRefusalAt bytes tokens end
+
+-- the entries are answered, unless memory ran out
+abbrev pub Gives : {V : Type 0} → (V → List Entry) → List Entry → Result V ReadEnd → Type 0
+Gives said entries result = MatchResult result (λ answer. said answer ≡ entries) (λ end. end ≡ OutOfMemory)

@@ -52,7 +52,8 @@ is_visible byte = is_within 33 126 byte
 -- the digits of a constant: those of any base, and `x X z Z ? _`
 abbrev pub is_constant_digit : ℕ → Bool
 is_constant_digit byte =
-    is_digit byte || is_within 97 102 byte || is_within 65 70 byte || byte == 120 || byte == 88 || byte == 122 || byte == 90 || byte == question_mark || byte == underscore
+    is_digit byte || is_within 97 102 byte || is_within 65 70 byte
+    || byte == 120 || byte == 88 || byte == 122 || byte == 90 || byte == question_mark || byte == underscore
 
 -- `s` or `S`
 abbrev pub is_sign : ℕ → Bool
@@ -148,7 +149,8 @@ mark_kind byte =
     else (if byte == colon then Colon
     else Bad))))))))
 
--- What stands at the front of `first ∷ rest`: bytes that are passed over, or a token. A directive goes from a backquote up to the end of its line.
+-- What stands at the front of `first ∷ rest`: bytes that are passed over, or a token. A directive goes from a backquote up to
+-- the end of its line.
 unfoldable pub cut_at : ℕ → List ℕ → Cut
 cut_at first rest =
     if is_blank first then Skip 1

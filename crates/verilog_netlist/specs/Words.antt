@@ -1,4 +1,5 @@
--- The reserved words that the grammar tells from names: those that it has, and those of Verilog (IEEE 1364-2005) that begin what is not structural. A word that the standard reserves and that does not stand here, as `edge`, `cell` or `macromodule`, is a name.
+-- The reserved words that the grammar tells from names: those that it has, and those of Verilog (IEEE 1364-2005) that begin what
+-- is not structural. A word that the standard reserves and that does not stand here, as `edge`, `cell` or `macromodule`, is a name.
 use Rattle.std.specs.Prelude.{ℕ, List, [], ◌∷◌, if◌then◌else◌, codes}
 use Rattle.std.specs.Str.{bytes_eq}
 use Rattle.verilog_netlist.specs.declared.kinds.Kind.{Kind}

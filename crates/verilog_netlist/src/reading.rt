@@ -1,8 +1,8 @@
 //! Reads a netlist, or tells at which token it is none.
-ghost use Rattle.std.specs.Prelude.{◌≡◌, ◌+◌, ◌^◌, ◌<◌, ◌≤◌, List, length, IfOk, IfErr, MatchResult};
+ghost use Rattle.std.specs.Prelude.{◌≡◌, ◌+◌, ◌^◌, ◌<◌, ◌≤◌, List, length, IfOk, IfErr};
 ghost use Rattle.verilog_netlist.specs.Spans.{text_at};
 ghost use Rattle.verilog_netlist.specs.Tokens.{span_of};
-ghost use Rattle.verilog_netlist.specs.Netlists.{SaysNetlist, IsDead, HasWord};
+ghost use Rattle.verilog_netlist.specs.Netlists.{SaysNetlist, IsDead, HasWord, Gives};
 ghost use Rattle.verilog_netlist.specs.ReaderStates.{IsRefusalOf};
 ghost use Rattle.verilog_netlist.specs.declared.entries.Entry.{Entry};
 
@@ -76,7 +76,7 @@ pub fn read_entries(alloc: Global, bytes: &[u8]) -> Result<Vec<Entry>, ReadEnd>
     // It is `NotStructural`, with the word, exactly where that token is a reserved word that the grammar has nowhere.
     ensures word { IfErr result (HasWord bytes.now) }
     // What the bytes say is answered, unless memory ran out.
-    ensures only { (entries : List Entry) → SaysNetlist bytes.now entries → MatchResult result (λ answer. answer.items ≡ entries) (λ end. end ≡ ReadEnd.OutOfMemory) }
+    ensures only { (entries : List Entry) → SaysNetlist bytes.now entries → Gives (λ answer. answer.items) entries result }
 {
     let mut reader = Reader::new(alloc);
     let mut number = 1;
