@@ -1,8 +1,10 @@
 -- The places that a literal leads over, byte by byte, and the digits that it may be alone.
-use Rattle.std.proofs.Common.{◌≡◌, ◌↔◌, IsTrue, ℕ, zero, suc, ◌+◌, ◌-◌, ◌<◌, ◌≤◌, ◌==◌, Bool, true, false, true≢false, not, List, [], ◌∷◌, ◌++◌, length, get_or, take, drop, Some, None, refl, sym, ap, ◌∙◌, subst, append_assoc, length-append, arith}
+use Rattle.std.proofs.Common.{◌≡◌, ◌↔◌, IsTrue, ℕ, zero, suc, ◌+◌, ◌-◌, ◌<◌, ◌≤◌, ◌==◌, ◌||◌, Bool, true, false, true≢false, not, List, [], ◌∷◌, ◌++◌, length, get_or, take, drop, Some, None, refl, sym, ap, ◌∙◌, subst, append_assoc, length-append, arith}
+use Rattle.std.specs.Prelude.{if◌then◌else◌}
+use Rattle.std.specs.Char.{is_ascii_digit}
 use Rattle.std.proofs.lemmas.List.{drop_more, drop_all}
 use Rattle.delay_units.specs.Literal.{unsigned, IsLiteral}
-use Rattle.delay_units.specs.Places.{Place, at_start, may_end, place_after, place_behind, is_literal, ends_literal}
+use Rattle.delay_units.specs.Places.{Place, at_start, past_sign, in_whole, past_point, is_sign, may_end, place_after, place_behind, is_literal, ends_literal, begins_as_literal}
 use Rattle.delay_units.specs.PlaceSteps.{DropsDigits}
 use Rattle.delay_units.proofs.LiteralShape.{literal_has_parts, literal_ends}
 use Rattle.delay_units.proofs.PlaceLemmas.{none_stays}
@@ -19,6 +21,21 @@ pub ended : (text : List ℕ) (i : ℕ) (p : Place) → place_behind (Some at_st
     → is_literal text ≡ may_end p
 unfolding is_literal
 ended text i p so_far le = ap ends_literal (so_far ∙ ap (place_behind (Some p)) (drop_all i text le))
+
+-- what does not begin as a literal is none
+first_fails : (digit point sign : Bool) → (digit || (point || sign)) ≡ false
+    → (if digit then Some in_whole else (if point then Some past_point else (if sign then Some past_sign else None))) ≡ None
+first_fails true point sign is = absurd (true≢false is)
+first_fails false true sign is = absurd (true≢false is)
+first_fails false false true is = absurd (true≢false is)
+first_fails false false false is = refl
+
+pub no_literal : (text : List ℕ) → begins_as_literal text ≡ false → is_literal text ≡ false
+unfolding is_literal
+no_literal [] is = refl
+no_literal (first ∷ rest) is =
+    ap (λ place. ends_literal (place_behind place rest)) (first_fails (is_ascii_digit first) (first == 46) (is_sign first) is)
+    ∙ ap ends_literal (none_stays rest)
 
 -- ---- digits alone
 

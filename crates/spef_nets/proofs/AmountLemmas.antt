@@ -14,7 +14,7 @@ use Rattle.delay_units.specs.declared.numbers.Unit.{Unit}
 use Rattle.delay_units.proofs.PowerLemmas.{ten_is_positive}
 use Rattle.delay_units.proofs.ReadingLemmas.{one_reading}
 use Rattle.delay_units.proofs.RoundingLemmas.{rounding_low, rounding_high}
-use Rattle.spef_text.proofs.OneDecimal.{one_decimal}
+use Rattle.delay_units.proofs.OneDecimal.{one_decimal}
 use Rattle.spef_nets.specs.Values.{Triple, single, picked, ReadsAs, IsAmount, IsBad, unread, below, IsLarge, IsAmountFault, is_bad, HasBad, IsTripleFault, AreGrains, grains_at}
 use Rattle.spef_nets.specs.declared.amounts.Grains.{Grains}
 use Rattle.spef_nets.specs.declared.amounts.AmountFault.{AmountFault}

@@ -1,28 +1,9 @@
 -- What does not begin as a literal is no value.
-use Rattle.std.proofs.Common.{◌≡◌, ℕ, Bool, true, false, ◌+◌, zero, suc, List, [], ◌∷◌, take, drop, refl, ap, ◌∙◌, true≢false}
-use Rattle.std.specs.Prelude.{◌==◌, ◌||◌, ◌&&◌, Option, Some, None, if◌then◌else◌, position}
-use Rattle.std.specs.Char.{is_ascii_digit}
-use Rattle.delay_units.specs.Places.{past_sign, in_whole, past_point, place_behind, is_sign}
-use Rattle.spef_text.specs.Classes.{ends_literal, is_literal, is_colon, is_value, is_value_parted, are_two_literals}
-use Rattle.spef_text.specs.LiteralPlaces.{begins_as_literal}
-
-first_fails : (digit point sign : Bool) → (digit || (point || sign)) ≡ false
-    → (if digit then Some in_whole else (if point then Some past_point else (if sign then Some past_sign else None))) ≡ None
-first_fails true point sign is = absurd (true≢false is)
-first_fails false true sign is = absurd (true≢false is)
-first_fails false false true is = absurd (true≢false is)
-first_fails false false false is = refl
-
-nothing_behind : (text : List ℕ) → place_behind None text ≡ None
-nothing_behind [] = refl
-nothing_behind (first ∷ rest) = refl
-
-no_literal : (text : List ℕ) → begins_as_literal text ≡ false → is_literal text ≡ false
-unfolding is_literal
-no_literal [] is = refl
-no_literal (first ∷ rest) is =
-    ap (λ place. ends_literal (place_behind place rest)) (first_fails (is_ascii_digit first) (first == 46) (is_sign first) is)
-    ∙ ap ends_literal (nothing_behind rest)
+use Rattle.std.proofs.Common.{◌≡◌, ℕ, false, ◌+◌, zero, suc, List, [], ◌∷◌, take, drop, refl, ap}
+use Rattle.std.specs.Prelude.{◌&&◌, Option, Some, None, position}
+use Rattle.delay_units.specs.Places.{begins_as_literal}
+use Rattle.delay_units.proofs.LiteralReading.{no_literal}
+use Rattle.spef_text.specs.Classes.{is_colon, is_value, is_value_parted, are_two_literals}
 
 begins_less : (count : ℕ) (text : List ℕ) → begins_as_literal text ≡ false → begins_as_literal (take count text) ≡ false
 begins_less zero text is = refl

@@ -6,7 +6,8 @@ use Rattle.token_fronts.specs.Machine.{outcome}
 use Rattle.token_fronts.specs.Stopping.{Completes}
 use Rattle.token_texts.specs.Runs.{escaped_run_length}
 use Rattle.spef_text.specs.Tokens.{IsToken, cut_at, is_broken}
-use Rattle.spef_text.specs.Classes.{word_of, is_mark, is_two_marks, is_literal, is_other, is_map_name, is_name, is_ref, is_value, is_direction, is_loose, is_id}
+use Rattle.spef_text.specs.Classes.{word_of, is_mark, is_two_marks, is_other, is_map_name, is_name, is_ref, is_value, is_direction, is_loose, is_id}
+use Rattle.delay_units.specs.Places.{is_literal}
 use Rattle.spef_text.specs.Entries.{Section, Head, Reading}
 use Rattle.spef_text.specs.Modes.{State, next, finish}
 use Rattle.spef_text.specs.declared.modes.Mode.{Mode}

@@ -2,7 +2,8 @@
 use Rattle.std.proofs.Common.{◌≡◌, ℕ, Bool, true, false, List, [], ◌∷◌, ◌++◌, Option, Some, None, Result, Ok, Err, refl, subst}
 use Rattle.std.specs.Prelude.{⊤}
 use Rattle.token_fronts.specs.Accepting.{Accepts, ended, taken}
-use Rattle.spef_text.specs.Classes.{word_of, is_other, is_loose, is_mark, is_two_marks, is_literal, is_value, is_id, is_index, is_map_name, is_ref, is_direction}
+use Rattle.spef_text.specs.Classes.{word_of, is_other, is_loose, is_mark, is_two_marks, is_value, is_id, is_index, is_map_name, is_ref, is_direction}
+use Rattle.delay_units.specs.Places.{is_literal}
 use Rattle.spef_text.specs.Entries.{Section, Head, Reading, no_section, plain_head, with_item}
 use Rattle.spef_text.specs.declared.entries.Conn.{Conn}
 use Rattle.spef_text.specs.declared.entries.Cap.{Cap}

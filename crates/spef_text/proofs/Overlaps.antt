@@ -5,9 +5,10 @@ use Rattle.std.specs.List.{AllByRecursion}
 use Rattle.std.specs.Str.{bytes_eq}
 use Rattle.std.proofs.lemmas.Bool.{eqb-true}
 use Rattle.std.proofs.lemmas.Slice.Eq.{bytes_eq-Decides}
-use Rattle.delay_units.specs.Places.{place_behind}
 use Rattle.spef_text.specs.Tokens.{is_broken}
-use Rattle.spef_text.specs.Classes.{keywords, lookup, word_of, is_top, is_tight, holds_of, is_other, is_loose, is_mark, is_two_marks, is_literal, is_value, is_value_parted, are_two_literals, is_id, is_index, is_name, is_indexed, is_ref, ends_literal, is_colon}
+use Rattle.spef_text.specs.Classes.{keywords, lookup, word_of, is_top, is_tight, holds_of, is_other, is_loose, is_mark, is_two_marks, is_value, is_value_parted, are_two_literals, is_id, is_index, is_name, is_indexed, is_ref, is_colon}
+use Rattle.delay_units.specs.Places.{is_literal, ends_literal}
+use Rattle.delay_units.proofs.PlaceLemmas.{none_stays}
 use Rattle.spef_text.specs.declared.words.Word.{Word}
 
 and_false : (a b : Bool) → b ≡ false → (a && b) ≡ false
@@ -54,13 +55,9 @@ mark_not_two (byte ∷ []) e = refl
 mark_not_two (byte ∷ next ∷ rest) e = absurd (cc)
 
 -- what names a node has not the form of a value
-no_place : (text : List ℕ) → place_behind None text ≡ None
-no_place [] = refl
-no_place (byte ∷ rest) = refl
-
 star_no_literal : (rest : List ℕ) → is_literal (42 ∷ rest) ≡ false
 unfolding is_literal
-star_no_literal rest = ap ends_literal (no_place rest)
+star_no_literal rest = ap ends_literal (none_stays rest)
 
 empty_no_literal : is_literal [] ≡ false
 unfolding is_literal

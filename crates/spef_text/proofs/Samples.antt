@@ -3,7 +3,8 @@ use Rattle.std.proofs.Common.{◌≡◌, true, Some, None, refl, codes}
 use Rattle.token_texts.specs.Comments.{pair_place}
 use Rattle.token_texts.specs.Runs.{escaped_run_length}
 use Rattle.spef_text.specs.Tokens.{cut_at, is_broken, IsToken}
-use Rattle.spef_text.specs.Classes.{word_of, is_ref, is_name, is_value, is_literal}
+use Rattle.spef_text.specs.Classes.{word_of, is_ref, is_name, is_value}
+use Rattle.delay_units.specs.Places.{is_literal}
 use Rattle.spef_text.specs.declared.words.Word.TheVariants.{End}
 
 end_is : word_of (codes "*END") ≡ Some End

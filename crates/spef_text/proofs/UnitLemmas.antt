@@ -6,7 +6,7 @@ use Rattle.delay_units.specs.declared.numbers.Decimal.{Decimal}
 use Rattle.delay_units.specs.declared.numbers.Unit.{Unit}
 use Rattle.spef_text.specs.declared.units.Quantity.{Quantity}
 use Rattle.spef_text.specs.Units.{power_of, IsUnit, IsNoUnit}
-use Rattle.spef_text.proofs.OneDecimal.{one_decimal}
+use Rattle.delay_units.proofs.OneDecimal.{one_decimal}
 
 pub unit_from : (quantity : Quantity) (number word : List ℕ) (power : ℤ) (value : Decimal) (r : Option Unit) → power_of quantity word ≡ Some power → IsNumber number value
     → IfSome r (λ u. pos u.mantissa ≡ value.digits) → IfSome r (λ u. u.exponent ≡ value.exponent +ℤ power) → IfSome r (IsUnit quantity number word)

@@ -4,7 +4,7 @@ use Rattle.std.specs.List.{list_all, prefix_len}
 use Rattle.std.specs.Str.{bytes_eq}
 use Rattle.std.specs.Char.{is_ascii_digit, is_ascii_uppercase, is_ascii_alphanumeric}
 use Rattle.delay_units.specs.Literal.{without_leading_zeros}
-use Rattle.delay_units.specs.Places.{Place, at_start, may_end, place_behind}
+use Rattle.delay_units.specs.Places.{is_literal}
 use Rattle.spef_text.specs.Tokens.{is_broken, is_nothing}
 use Rattle.spef_text.specs.declared.words.Word.{Word}
 use Rattle.spef_text.specs.declared.words.Word.TheVariants.{Spef, Free, Design, Divider, Delimiter, BusDelimiter, CapUnit, ResUnit, NameMap, Net, Refused, Induc, Load, Port, Internal, Node, Conn, Cap, Res, End, Confidence}
@@ -120,14 +120,6 @@ is_two_marks [] = false
 is_two_marks (left ∷ []) = false
 is_two_marks (left ∷ right ∷ []) = marks left && marks right
 is_two_marks (left ∷ right ∷ next ∷ rest) = false
-
-abbrev pub ends_literal : Option Place → Bool
-ends_literal None = false
-ends_literal (Some place) = may_end place
-
--- a decimal literal: the places of a literal lead over the text to one where it may end
-unfoldable pub is_literal : List ℕ → Bool
-is_literal text = ends_literal (place_behind (Some at_start) text)
 
 abbrev pub is_colon : ℕ → Bool
 is_colon byte = byte == 58

@@ -1,7 +1,8 @@
 -- The grammar of SPEF (IEEE 1481), a relation by cases over numbered tokens: one definition for each line of it, with a constructor for each case. In each, `from` begins with what is said, and `rest` follows it.
 use Rattle.std.specs.Prelude.{◌≡◌, ℕ, true, false, List, [], ◌∷◌, ◌++◌, slice_index, Option, Some, None}
 use Rattle.token_fronts.specs.Tokens.{Token}
-use Rattle.spef_text.specs.Classes.{word_of, is_other, is_loose, is_mark, is_two_marks, is_literal, is_value, is_id, is_index, is_map_name, is_ref, is_direction}
+use Rattle.spef_text.specs.Classes.{word_of, is_other, is_loose, is_mark, is_two_marks, is_value, is_id, is_index, is_map_name, is_ref, is_direction}
+use Rattle.delay_units.specs.Places.{is_literal}
 use Rattle.spef_text.specs.Entries.{Section, Head, Reading, plain_head, with_item}
 use Rattle.spef_text.specs.declared.entries.Conn.{Conn}
 use Rattle.spef_text.specs.declared.entries.Cap.{Cap}

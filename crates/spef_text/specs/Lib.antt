@@ -1,6 +1,5 @@
 pub mod Classes
 pub mod Cuts
-pub mod LiteralPlaces
 pub mod Spans
 pub mod Tokens
 pub mod Entries

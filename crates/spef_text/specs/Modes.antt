@@ -1,7 +1,8 @@
 -- A SPEF file taken one token at a time: what is waited for, and what each token then does. It is the grammar unrolled for the reader's loop; the proofs show that both say the same.
 use Rattle.std.specs.Prelude.{ℕ, Bool, true, false, if◌then◌else◌, List, [], ◌∷◌, ◌++◌, slice_index, Option, Some, None, Result, Ok, Err, ⊤}
 use Rattle.token_fronts.specs.Tokens.{Token}
-use Rattle.spef_text.specs.Classes.{word_of, is_other, is_loose, is_mark, is_two_marks, is_literal, is_value, is_id, is_index, is_map_name, is_ref, is_direction}
+use Rattle.spef_text.specs.Classes.{word_of, is_other, is_loose, is_mark, is_two_marks, is_value, is_id, is_index, is_map_name, is_ref, is_direction}
+use Rattle.delay_units.specs.Places.{is_literal}
 use Rattle.spef_text.specs.Entries.{Section, Head, Reading, no_section, plain_head, with_item}
 use Rattle.spef_text.specs.declared.entries.Conn.{Conn}
 use Rattle.spef_text.specs.declared.entries.Cap.{Cap}

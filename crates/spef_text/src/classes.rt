@@ -4,11 +4,12 @@ ghost use Rattle.std.specs.List.{list_all, prefix_len};
 ghost use Rattle.std.specs.Char.{is_ascii_digit};
 ghost use Rattle.delay_units.specs.Literal.{without_leading_zeros};
 ghost use Rattle.spef_text.specs.Tokens.{is_broken, is_nothing};
-ghost use Rattle.spef_text.specs.Classes.{is_other, is_loose, marks, is_mark, is_two_marks, is_colon, is_literal, are_two_literals, is_value_parted, is_value, is_id, is_index, is_tail, is_indexed, is_name, is_map_name, is_ref, is_direction, index_digits, holds_of, is_top, is_tight, word_of};
+ghost use Rattle.spef_text.specs.Classes.{is_other, is_loose, marks, is_mark, is_two_marks, is_colon, are_two_literals, is_value_parted, is_value, is_id, is_index, is_tail, is_indexed, is_name, is_map_name, is_ref, is_direction, index_digits, holds_of, is_top, is_tight, word_of};
+ghost use Rattle.delay_units.specs.Places.{is_literal};
 
 use crate::broken::is_broken;
-use crate::places::{begins_as_literal, is_literal};
 use crate::words::{Word, word_of};
+use delay_units::{begins_as_literal, is_literal};
 
 /// A token that is no keyword of the head, as what stands behind `*DATE`.
 #[tactic(auto, unfolding(crate::specs::Classes::is_other))]
@@ -106,25 +107,14 @@ fn are_two_literals(text: &[u8]) -> bool
 }
 
 /// A literal, or three with colons between them. Most names are none by their first byte.
-#[tactic(auto, using(crate::proofs::Beginnings::no_value))]
+#[tactic(auto, using(crate::proofs::Beginnings::no_value, crate::proofs::Parting::one_literal_is_value))]
 pub fn is_value(text: &[u8]) -> bool
     ensures { result ≡ is_value text.now }
 {
-    begins_as_literal(text) && (is_plain_decimal(text) || is_any_value(text))
+    begins_as_literal(text) && (is_literal(text) || is_any_value(text))
 }
 
-/// Digits with at most one point among them, as most values are written.
-fn is_plain_decimal(text: &[u8]) -> bool
-    ensures { IsTrue result → IsTrue (is_value text.now) }
-{
-    let (whole, rest) = text.split_at(digits_in_front(text));
-    match rest {
-        [] => !whole.is_empty(),
-        [point, fraction @ ..] => *point == b'.' && text.len() > 1 && are_digits(fraction),
-    }
-}
-
-/// The same, whatever stands first.
+/// The same, also where it has colons.
 #[tactic(auto, unfolding(crate::specs::Classes::is_value))]
 fn is_any_value(text: &[u8]) -> bool
     ensures { result ≡ is_value text.now }

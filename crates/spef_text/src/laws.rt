@@ -1,7 +1,5 @@
 //! The laws of what the contracts speak of.
-ghost use Rattle.std.specs.Prelude.{◌≡◌, ◌↔◌, ℕ, List, true};
-ghost use Rattle.delay_units.specs.Literal.{IsLiteral};
-ghost use Rattle.spef_text.specs.Classes.{is_literal};
+ghost use Rattle.std.specs.Prelude.{◌≡◌, ℕ, List};
 ghost use Rattle.spef_text.specs.Tokens.{AreTokens};
 ghost use Rattle.spef_text.specs.Entries.{Reading};
 ghost use Rattle.spef_text.specs.SpefFiles.{SpefText, SaysSpef, LeavesSpef, IsFormed};
@@ -24,12 +22,6 @@ pub fn one_spef()
 /// it is called.
 pub fn one_dead_token()
     ensures law { (bytes : List ℕ) (one other : ℕ) → LeavesSpef bytes one → LeavesSpef bytes other → one ≡ other }
-{}
-
-/// The law of literals, which its contract states: the places of a literal lead over a text to its end exactly where the
-/// text has the parts of one. It does nothing when it is called.
-pub fn literals()
-    ensures law { (text : List ℕ) → (is_literal text ≡ true) ↔ IsLiteral text }
 {}
 
 /// The law of the texts of tokens, which its contract states: each stands alone as a token, and only the last may be

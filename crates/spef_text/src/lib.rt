@@ -16,7 +16,6 @@ mod laws;
 mod modes;
 mod name_map;
 mod parsing;
-mod places;
 mod reader;
 mod references;
 mod scan;
@@ -30,7 +29,7 @@ pub use file::SpefFile;
 pub use head::{Head, read_head};
 pub use head_ends::HeadEnd;
 pub use head_laws::{map_in_order, one_head_end};
-pub use laws::{literals, one_dead_token, one_spef, one_tokens, sections_in_order, token_texts};
+pub use laws::{one_dead_token, one_spef, one_tokens, sections_in_order, token_texts};
 pub use parsing::{SpefEnd, parse};
 pub use references::ResolveEnd;
 

@@ -8,8 +8,8 @@ use crate::classes::{
     is_two_marks, is_value,
 };
 use crate::entries::{CapAt, ConnAt, HeadItem, MapEntry, ResAt};
-use crate::places::is_literal;
 use crate::words::{Word, word_of};
+use delay_units::is_literal;
 
 /// What is waited for, with what has been read of the entry that has begun.
 #[derive(Clone, Copy)]
