@@ -4,9 +4,10 @@ use Rattle.std.specs.List.{flat_map}
 use Rattle.std.proofs.Math.Seq.{take-append_seam, drop-append_seam}
 use Rattle.std.proofs.lemmas.List.{length-append}
 use Rattle.token_texts.specs.Quoted.{quote_end}
-use Rattle.sdf_reader.specs.Tokens.{text_end, text_cut, cut_at, Lexeme, AreTokens, take_one, said_behind, meaning}
+use Rattle.token_texts.specs.Cuts.{take_one}
+use Rattle.sdf_reader.specs.Tokens.{text_end, text_cut, cut_at, Lexeme, AreTokens, said_behind, meaning}
 use Rattle.sdf_reader.specs.declared.scan.Kind.TheVariants.{Quoted}
-use Rattle.sdf_reader.specs.declared.scan.Cut.TheVariants.{Take}
+use Rattle.token_texts.specs.declared.cuts.Cut.TheVariants.{Take}
 use Rattle.sdf_reader.proofs.Cutting.{cut_quote}
 use Rattle.sdf_writer.specs.SdfText.{escaped, quoted}
 use Rattle.sdf_read_back.proofs.TokenLists.{text_token}

@@ -3,7 +3,8 @@ use Rattle.std.proofs.Common.{ℕ, Bool, true, false, cond, List, [], ◌∷◌,
 use Rattle.std.specs.List.{flat_map}
 use Rattle.std.proofs.lemmas.List.{append-nil}
 use Rattle.delay_units.specs.declared.quantities.Femto.{Femto}
-use Rattle.sdf_reader.specs.Tokens.{Lexeme, AreTokens, end}
+use Rattle.token_texts.specs.Cuts.{end}
+use Rattle.sdf_reader.specs.Tokens.{Lexeme, AreTokens}
 use Rattle.sdf_writer.specs.SdfText.{WireRow, PathRow, SdfRows, wire_line, path_line, delay_lines, same_cell, before_cells, cells_of, cell_opening, cell_closing, cell_lines, opening_lines, sdf_lines, lines_text, sdf_text}
 use Rattle.sdf_read_back.proofs.Fit.{Each, IsWire, IsPath, IsEdgeDelay}
 use Rattle.sdf_read_back.proofs.Lines.{LineIs, LinesAre, no_line, line_and, lines_and, IsEdgeWord, wire_is, path_is, close_is, delay_is, absolute_is, cell_is, text_is, type_is, instance_is, unnamed_is}

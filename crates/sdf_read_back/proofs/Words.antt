@@ -5,10 +5,11 @@ use Rattle.std.proofs.Math.Seq.{take-append_seam, drop-append_seam}
 use Rattle.std.proofs.lemmas.Bool.{le-leb, leb-true}
 use Rattle.token_texts.specs.Bytes.{begins_with}
 use Rattle.token_texts.specs.Blanks.{is_blank}
+use Rattle.token_texts.specs.Cuts.{skip, take_one}
 use Rattle.token_texts.specs.RunLemmas.{escaped_more, escaped_none, escaped_taking}
-use Rattle.sdf_reader.specs.Tokens.{is_plain, word_length, word_cut, cut_at, Lexeme, AreTokens, skip, take_one}
+use Rattle.sdf_reader.specs.Tokens.{is_plain, word_length, word_cut, cut_at, Lexeme, AreTokens}
 use Rattle.sdf_reader.specs.declared.scan.Kind.TheVariants.{LeftParen, RightParen, Word}
-use Rattle.sdf_reader.specs.declared.scan.Cut.TheVariants.{Take}
+use Rattle.token_texts.specs.declared.cuts.Cut.TheVariants.{Take}
 use Rattle.sdf_read_back.proofs.TokenLists.{left, right, word}
 use Rattle.sdf_reader.proofs.Cutting.{cut_blank, cut_left, cut_right, cut_slash, cut_word}
 use Rattle.token_texts.specs.ByteLemmas.{not_byte}

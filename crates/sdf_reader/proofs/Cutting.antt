@@ -5,7 +5,7 @@ use Rattle.token_texts.specs.Blanks.{is_blank}
 use Rattle.token_texts.specs.Comments.{line_length, comment_end}
 use Rattle.sdf_reader.specs.Tokens.{text_end, text_cut, comment_cut, word_length, word_cut, cut_at}
 use Rattle.sdf_reader.specs.declared.scan.Kind.TheVariants.{LeftParen, RightParen}
-use Rattle.sdf_reader.specs.declared.scan.Cut.TheVariants.{Skip, Take}
+use Rattle.token_texts.specs.declared.cuts.Cut.TheVariants.{Skip, Take}
 
 pub cut_blank : (first : ℕ) (rest : List ℕ) → is_blank first ≡ true → cut_at first rest ≡ Skip 1
 unfolding cut_at

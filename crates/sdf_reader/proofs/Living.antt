@@ -6,7 +6,8 @@ use Rattle.token_fronts.specs.Machine.{outcome}
 use Rattle.token_fronts.specs.Stopping.{Completes}
 use Rattle.token_texts.specs.Quoted.{quote_end}
 use Rattle.token_texts.specs.Runs.{escaped_run_length}
-use Rattle.sdf_reader.specs.Tokens.{Lexeme, IsToken, is_token, cut_at}
+use Rattle.token_texts.specs.Cuts.{is_token}
+use Rattle.sdf_reader.specs.Tokens.{Lexeme, IsToken, cut_at}
 use Rattle.sdf_reader.specs.Keywords.{keyword_of, same_word}
 use Rattle.sdf_reader.specs.Modes.{Entry, State, next, finish}
 use Rattle.sdf_reader.specs.declared.scan.Kind.{Kind}

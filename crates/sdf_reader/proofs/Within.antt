@@ -7,10 +7,11 @@ use Rattle.token_texts.specs.CommentLemmas.{line_within, pair_within}
 use Rattle.token_texts.specs.QuotedLemmas.{quote_within}
 use Rattle.token_texts.specs.RunLemmas.{escaped_within}
 use Rattle.token_texts.specs.declared.quoted.Escape.TheVariants.{NextByte}
-use Rattle.sdf_reader.specs.Cuts.{IsWithin}
+use Rattle.token_texts.specs.Cuts.{IsWithin}
 use Rattle.sdf_reader.specs.Tokens.{is_plain, text_end, text_cut, comment_cut, word_length, word_cut, cut_at}
+use Rattle.sdf_reader.specs.declared.scan.Kind.{Kind}
 use Rattle.sdf_reader.specs.declared.scan.Kind.TheVariants.{LeftParen, RightParen}
-use Rattle.sdf_reader.specs.declared.scan.Cut.TheVariants.{Skip, Take}
+use Rattle.token_texts.specs.declared.cuts.Cut.TheVariants.{Skip, Take}
 
 text_within : (rest : List ℕ) (end : Option ℕ) → ((i : ℕ) → end ≡ Some i → i < length rest) → IsWithin (length rest + 1) (text_cut rest end)
 text_within rest None below = (omega arith, omega arith)
@@ -47,7 +48,7 @@ cut_within first rest =
   where
     by : (blank left right text line comment : Bool)
         → IsWithin (length rest + 1) (text_cut rest (text_end false rest))
-        → IsWithin (length rest + 1) (Skip (line_length rest))
+        → IsWithin {K = Kind} (length rest + 1) (Skip (line_length rest))
         → (comment ≡ true → IsWithin (length rest + 1) (comment_cut (drop 1 rest) (comment_end (drop 1 rest))))
         → IsWithin (length rest + 1) (word_cut (first ∷ rest) (word_length (first ∷ rest)))
         → (first == slash && begins_with star rest) ≡ comment

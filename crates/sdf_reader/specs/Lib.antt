@@ -1,5 +1,4 @@
 pub mod Tokens
-pub mod Cuts
 pub mod Keywords
 pub mod Timescales
 pub mod Rows

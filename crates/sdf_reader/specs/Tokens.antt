@@ -1,5 +1,5 @@
 -- The bytes of an SDF file (IEEE 1497-2001), and the tokens that they are parted into.
-use Rattle.std.specs.Prelude.{◌≡◌, ℕ, zero, suc, ◌+◌, ◌-◌, Bool, true, false, not, ◌&&◌, ◌||◌, ◌==◌, nat_le, if◌then◌else◌, List, [], ◌∷◌, length, take, drop, Option, Some, None}
+use Rattle.std.specs.Prelude.{ℕ, zero, suc, ◌+◌, ◌-◌, Bool, true, false, not, ◌&&◌, ◌||◌, ◌==◌, nat_le, if◌then◌else◌, List, [], ◌∷◌, length, take, drop, Option, Some, None}
 use Rattle.token_texts.specs.Bytes.{quote, left_paren, right_paren, star, slash, backslash, begins_with}
 use Rattle.token_texts.specs.Blanks.{is_blank}
 use Rattle.token_texts.specs.Comments.{line_length, comment_end}
@@ -8,8 +8,9 @@ use Rattle.token_texts.specs.Runs.{escaped_run_length}
 use Rattle.token_texts.specs.declared.quoted.Escape.TheVariants.{NextByte}
 use Rattle.sdf_reader.specs.declared.scan.Kind.{Kind}
 use Rattle.sdf_reader.specs.declared.scan.Kind.TheVariants.{LeftParen, RightParen, Word, Quoted, Bad, OpenQuoted, OpenNote}
-use Rattle.sdf_reader.specs.declared.scan.Cut.{Cut}
-use Rattle.sdf_reader.specs.declared.scan.Cut.TheVariants.{Skip, Take}
+use Rattle.token_texts.specs.Cuts as cuts
+use Rattle.token_texts.specs.declared.cuts.Cut.{Cut}
+use Rattle.token_texts.specs.declared.cuts.Cut.TheVariants.{Skip, Take}
 
 -- A byte that a word goes on with: from 33 to 255, but no parenthesis, quote or backslash.
 abbrev pub is_plain : ℕ → Bool
@@ -24,22 +25,22 @@ abbrev pub text_end : Bool → List ℕ → Option ℕ
 text_end taken bytes = quote_end NextByte taken bytes
 
 -- A `/*` with `inner` behind it, where the comment ends at this place: it is passed over, or it is open and takes all.
-abbrev pub comment_cut : List ℕ → Option ℕ → Cut
+abbrev pub comment_cut : List ℕ → Option ℕ → Cut Kind
 comment_cut inner None = Take (length inner + 2) OpenNote
 comment_cut inner (Some place) = Skip (place + 4)
 
 -- A quote with `rest` behind it, in which the text ends at this place: a text, or an open one, which takes all.
-abbrev pub text_cut : List ℕ → Option ℕ → Cut
+abbrev pub text_cut : List ℕ → Option ℕ → Cut Kind
 text_cut rest None = Take (length rest + 1) OpenQuoted
 text_cut rest (Some place) = Take (place + 2) Quoted
 
 -- Bytes of which a word takes so many: that word, or a byte that begins no token. A control byte does not, and neither does a backslash at the end.
-abbrev pub word_cut : List ℕ → ℕ → Cut
+abbrev pub word_cut : List ℕ → ℕ → Cut Kind
 word_cut bytes zero = Take (length bytes) Bad
 word_cut bytes (suc more) = Take (suc more) Word
 
 -- What stands at the front of `first ∷ rest`: bytes that are passed over, or a token. What no text of the grammar has is a token that takes all.
-unfoldable pub cut_at : ℕ → List ℕ → Cut
+unfoldable pub cut_at : ℕ → List ℕ → Cut Kind
 cut_at first rest =
     if is_blank first then Skip 1
     else (if first == left_paren then Take 1 LeftParen
@@ -57,28 +58,16 @@ is_broken OpenNote = true
 is_broken _ = false
 
 -- a token: what it is, and its bytes
-pub record Lexeme : Type 0 where
-  pub kind : Kind
-  pub bytes : List ℕ
+abbrev pub Lexeme : Type 0
+Lexeme = cuts.Lexeme Kind
 
 -- the tokens of the bytes, in order
-pub data AreTokens : List ℕ → List Lexeme → Type 0 where
-  end : AreTokens [] []
-  skip : {first : ℕ} {rest : List ℕ} {tokens : List Lexeme} (n : ℕ)
-      → cut_at first rest ≡ Skip n
-      → AreTokens (drop n (first ∷ rest)) tokens
-      → AreTokens (first ∷ rest) tokens
-  take_one : {first : ℕ} {rest : List ℕ} {tokens : List Lexeme} (n : ℕ) (kind : Kind)
-      → cut_at first rest ≡ Take n kind
-      → AreTokens (drop n (first ∷ rest)) tokens
-      → AreTokens (first ∷ rest) (record { kind = kind; bytes = take n (first ∷ rest) } ∷ tokens)
+abbrev pub AreTokens : List ℕ → List Lexeme → Type 0
+AreTokens bytes tokens = cuts.AreTokens cut_at bytes tokens
 
--- What can stand as a token, those that are broken aside: some bytes are this one token, and all of it.
-pub data IsToken : Lexeme → Type 0 where
-  is_token : {kind : Kind} {first : ℕ} {rest : List ℕ}
-      → cut_at first rest ≡ Take (length (first ∷ rest)) kind
-      → is_broken kind ≡ false
-      → IsToken (record { kind = kind; bytes = first ∷ rest })
+-- what can stand as a token, those that are broken aside
+abbrev pub IsToken : Lexeme → Type 0
+IsToken token = cuts.IsToken cut_at is_broken token
 
 -- what bytes say in which a backslash makes the next byte stand for itself; `taken` says that one stands before them
 unfoldable pub said_behind : Bool → List ℕ → List ℕ

@@ -7,8 +7,9 @@ ghost use Rattle.sdf_reader.specs.declared.rows.SdfRow.{SdfRow};
 use crate::ends::{SdfCause, SdfEnd};
 use crate::reader::Reader;
 use crate::rows::SdfRows;
-use crate::scan::{Cut, cut_at};
+use crate::scan::cut_at;
 use std::alloc::Global;
+use token_texts::Cut;
 
 /// The rows of an SDF file (IEEE 1497-2001), or the token that cannot stand where it stands, with the cause.
 pub fn read(alloc: Global, bytes: &[u8]) -> Result<SdfRows, SdfEnd>

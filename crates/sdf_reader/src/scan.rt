@@ -2,10 +2,10 @@
 ghost use Rattle.std.specs.Prelude.{◌≡◌, ◌+◌, ◌^◌, ◌<◌, ◌≤◌, ◌∷◌, false, length};
 ghost use Rattle.token_texts.specs.Comments.{comment_end};
 ghost use Rattle.sdf_reader.specs.Tokens.{is_plain, word_length, text_end, comment_cut, text_cut, word_cut, cut_at};
-ghost use Rattle.sdf_reader.specs.Cuts.{IsWithin};
+ghost use Rattle.token_texts.specs.Cuts.{IsWithin};
 
 use token_texts::{
-    ByteClass, Escape, begins_with, comment_end, escaped_run_length, is_blank, line_length,
+    ByteClass, Cut, Escape, begins_with, comment_end, escaped_run_length, is_blank, line_length,
     quote_end,
 };
 
@@ -25,16 +25,6 @@ pub enum Kind {
     OpenNote,
 }
 
-/// What stands at the front of some bytes.
-#[derive(Clone, Copy, PartialEq, Eq, Debug)]
-pub enum Cut {
-    /// So many bytes that are passed over.
-    Skip(usize),
-
-    /// A token of so many bytes. What no text of the grammar has takes them all.
-    Take(usize, Kind),
-}
-
 /// The bytes that a word goes on with, whatever stands before it and behind it: those from 33 on that are no parenthesis, quote
 /// or backslash.
 struct PlainBytes;
@@ -50,7 +40,7 @@ impl ByteClass for PlainBytes {
 
 /// Behind a quote: a text, or an open one.
 #[inline]
-fn text_cut(rest: &[u8]) -> Cut
+fn text_cut(rest: &[u8]) -> Cut<Kind>
     requires { length rest.now < 2 ^ 32 }
     ensures value { result ≡ text_cut rest.now (text_end false rest.now) }
     ensures within { IsWithin (length rest.now + 1) result }
@@ -62,7 +52,7 @@ fn text_cut(rest: &[u8]) -> Cut
 }
 
 /// Behind the `/*` of a comment.
-fn comment_cut(inner: &[u8]) -> Cut
+fn comment_cut(inner: &[u8]) -> Cut<Kind>
     requires { length inner.now < 2 ^ 32 }
     ensures value { result ≡ comment_cut inner.now (comment_end inner.now) }
     ensures within { IsWithin (length inner.now + 2) result }
@@ -75,7 +65,7 @@ fn comment_cut(inner: &[u8]) -> Cut
 
 /// A word, or a byte that begins no token.
 #[inline]
-fn word_cut(bytes: &[u8]) -> Cut
+fn word_cut(bytes: &[u8]) -> Cut<Kind>
     requires some { 0 < length bytes.now }
     ensures value { result ≡ word_cut bytes.now (word_length bytes.now) }
     ensures within { IsWithin (length bytes.now) result }
@@ -89,7 +79,7 @@ fn word_cut(bytes: &[u8]) -> Cut
 }
 
 /// At a slash, with `rest` behind it: a comment, or a word.
-fn slash_cut(bytes: &[u8], rest: &[u8]) -> Cut
+fn slash_cut(bytes: &[u8], rest: &[u8]) -> Cut<Kind>
     requires parts { bytes.now ≡ 47 ∷ rest.now }
     requires bytes { length bytes.now < 2 ^ 32 }
     ensures value { result ≡ cut_at 47 rest.now }
@@ -106,7 +96,7 @@ fn slash_cut(bytes: &[u8], rest: &[u8]) -> Cut
 
 /// What stands at the front of the bytes, which are `first` and `rest`.
 #[inline]
-pub(crate) fn cut_at(bytes: &[u8], first: u8, rest: &[u8]) -> Cut
+pub(crate) fn cut_at(bytes: &[u8], first: u8, rest: &[u8]) -> Cut<Kind>
     requires parts { bytes.now ≡ first ∷ rest.now }
     requires bytes { length bytes.now < 2 ^ 32 }
     ensures value { result ≡ cut_at first rest.now }

@@ -8,10 +8,12 @@
 
 mod blanks;
 mod comments;
+mod cuts;
 mod quoted;
 mod runs;
 
 pub use blanks::{begins_with, is_blank};
 pub use comments::{comment_end, line_length, pair_place};
+pub use cuts::Cut;
 pub use quoted::{Escape, quote_end, takes};
 pub use runs::{ByteClass, escaped_run_length, run_length};

@@ -1,5 +1,6 @@
 -- One token more, what is passed over, and the end.
 use Rattle.std.proofs.Common.{ℕ, ◌+◌, ◌≤◌, List, length, Option, sym, subst, arith}
+use Rattle.token_texts.specs.CutLemmas.{first_and_rest, no_bytes}
 use Rattle.sdf_reader.specs.Steps.{does}
 use Rattle.sdf_reader.specs.Modes.{State, applied}
 use Rattle.sdf_reader.specs.ReaderStates.{state_of, Steps}
@@ -7,7 +8,7 @@ use Rattle.sdf_reader.specs.Sizes.{IsValueWithin}
 use Rattle.sdf_reader.specs.declared.ends.SdfCause.{SdfCause}
 use Rattle.sdf_reader.specs.declared.ends.SdfCause.TheVariants.{EndInside}
 use Rattle.sdf_reader.proofs.Deciding.{deciding, decides}
-use Rattle.sdf_reader.proofs.SoFar.{skips, takes, refuses, says, lacks, one_rows, where_taken, first_and_rest, no_bytes}
+use Rattle.sdf_reader.proofs.SoFar.{skips, takes, refuses, says, lacks, one_rows, where_taken}
 use Rattle.sdf_reader.proofs.reading.read.Goals as goal
 
 pub loop-rest-preserved-in-Skip : goal.loop-rest-preserved-in-Skip

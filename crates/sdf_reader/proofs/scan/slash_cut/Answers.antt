@@ -2,7 +2,7 @@
 use Rattle.std.proofs.Common.{ℕ, List, sym, ap, ◌∙◌}
 use Rattle.token_texts.specs.Comments.{comment_end}
 use Rattle.sdf_reader.specs.Tokens.{comment_cut, word_cut, word_length}
-use Rattle.sdf_reader.specs.declared.scan.Cut.TheVariants.{Skip}
+use Rattle.token_texts.specs.declared.cuts.Cut.TheVariants.{Skip}
 use Rattle.sdf_reader.proofs.Cutting.{cut_line, cut_comment, cut_slash}
 use Rattle.sdf_reader.proofs.scan.slash_cut.Goals as goal
 
