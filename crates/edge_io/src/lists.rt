@@ -25,16 +25,6 @@ pub fn empty<T: Drop>(items: &mut Vec<T>, many: usize) -> Result<(), OutOfMemory
     Ok(())
 }
 
-/// The list without its items, in the same memory, with room for so many.
-#[inline]
-pub fn emptied<T: Drop>(items: Vec<T>, many: usize) -> Result<Vec<T>, OutOfMemory>
-    ensures { IfOk result (λ list. list.items ≡ []) }
-{
-    let mut list = items;
-    empty(&mut list, many)?;
-    Ok(list)
-}
-
 /// Makes a list so many times one number. The list keeps its memory.
 #[inline]
 pub fn refill(values: &mut Vec<u32>, many: usize, value: u32) -> Result<(), OutOfMemory>

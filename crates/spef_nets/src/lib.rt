@@ -14,7 +14,6 @@ mod node_names;
 mod node_table;
 mod node_tokens;
 mod parts;
-mod pushing;
 mod reading;
 mod referred;
 mod section;

@@ -4,7 +4,7 @@ ghost use Rattle.spef_nets.specs.Nodes.{nodes_at};
 ghost use Rattle.spef_nets.specs.NodeNames.{nodes_in, AreNames, AreSpelled, IsSdfAt};
 
 use edge_io::{OutOfMemory, Text};
-use name_table::NodeName;
+use name_table::{NodeName, copy_name};
 use spef_text::{Head, ResolveEnd, SpefFile};
 use std::alloc::Global;
 
@@ -54,19 +54,6 @@ impl<'s, 'f> Spelled<'s, 'f> {
             None => Ok(self.name(alloc, node)?.sdf),
         }
     }
-}
-
-/// A copy of a name.
-pub fn copy_name(alloc: Global, name: &NodeName) -> Result<NodeName, OutOfMemory>
-    ensures { IfOk result (λ copy. copy ≡ name.now) }
-{
-    let head = Text::from_bytes(alloc, name.head.bytes())?;
-    let tail = match &name.tail {
-        Some(tail) => Some(Text::from_bytes(alloc, tail.bytes())?),
-        None => None,
-    };
-    let sdf = Text::from_bytes(alloc, name.sdf.bytes())?;
-    Ok(NodeName { head, tail, sdf })
 }
 
 // A copy of a name that is held.

@@ -5,11 +5,10 @@ ghost use Rattle.spef_nets.specs.Nodes.{key_of, same_key, same_tail, among};
 ghost use Rattle.spef_nets.specs.Refs.{IsInterned};
 
 use crate::name_hash::NameHash;
-use crate::pushing::{empty, empty_table, push};
-use edge_io::OutOfMemory;
+use edge_io::lists::{empty, push};
+use edge_io::{OutOfMemory, are_equal};
 use indexmap::IndexSet;
 use name_table::{NodeName, WrittenName};
-use spef_text::are_equal;
 use std::alloc::Global;
 use std::hash::{Hash, Hasher};
 use std::marker::Model;
@@ -242,4 +241,19 @@ fn intern<'r>(
         return Err(OutOfMemory);
     };
     Ok(place)
+}
+
+// Empties a table, and makes room for so many items. One that holds something is let go of, since to empty it would take as long as
+// it is large.
+fn empty_table<T: Eq + Hash + Drop>(
+    alloc: Global,
+    table: &mut IndexSet<T, NameHash>,
+    many: usize,
+) -> Result<(), OutOfMemory>
+    ensures { OnOk result (table.new.keys ≡ []) }
+{
+    if many > 0 || !table.is_empty() {
+        *table = IndexSet::with_capacity_and_hasher(alloc, many, NameHash::default())?;
+    }
+    Ok(())
 }

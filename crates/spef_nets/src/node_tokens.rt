@@ -6,8 +6,8 @@ ghost use Rattle.spef_nets.specs.Nodes.{node_at};
 ghost use Rattle.spef_nets.specs.NodeNames.{nodes_in, AreNames};
 
 use crate::node_names::{NodeNames, Spelled};
-use crate::pushing::push;
 use edge_io::OutOfMemory;
+use edge_io::lists::push;
 use name_table::NodeName;
 use spef_text::{Head, SpefFile};
 use std::alloc::Global;

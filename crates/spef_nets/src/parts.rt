@@ -1,9 +1,9 @@
 //! The parts of a net, by the numbers of its nodes.
 ghost use Rattle.std.specs.Prelude.{◌≡◌, IfOk};
 
-use crate::pushing::kept;
 use delay_units::Ohms;
 use edge_io::OutOfMemory;
+use edge_io::lists::to_u32;
 
 /// A connection of a net: a port of the design, or a pin of an instance.
 #[derive(Clone, Copy, PartialEq, Eq, Debug)]
@@ -55,7 +55,7 @@ fn kept_spelling(spelling: Option<usize>) -> Result<Option<u32>, OutOfMemory>
     ensures { IfOk result (λ number. number ≡ spelling) }
 {
     match spelling {
-        Some(spelling) => Ok(Some(kept(spelling)?)),
+        Some(spelling) => Ok(Some(to_u32(spelling)?)),
         None => Ok(None),
     }
 }

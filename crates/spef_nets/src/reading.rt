@@ -8,11 +8,11 @@ ghost use Rattle.spef_nets.specs.Drafts.{corners_of};
 ghost use Rattle.spef_nets.specs.Faults.{AreFaultless, IsSectionEnd, IsLeastFault};
 
 use crate::ends::SectionEnd;
-use crate::pushing::push;
 use crate::section::Section;
 use crate::section_reader::SectionReader;
 use crate::sections::Sections;
 use corner_set::{CornerSet, Pick};
+use edge_io::lists::push;
 use spef_text::{Head, SpefFile};
 use std::alloc::Global;
 

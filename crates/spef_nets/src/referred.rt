@@ -11,10 +11,10 @@ ghost use Rattle.spef_nets.specs.Drafts.{BelongsBy};
 use crate::marks::Mark;
 use crate::node_table::{NodeKey, NodeTable};
 use crate::node_tokens::NodeTokens;
-use crate::pushing::{empty, kept, push};
 use crate::spellings::Spellings;
-use edge_io::{OutOfMemory, Text};
-use spef_text::{Head, SpefFile, are_equal};
+use edge_io::lists::{empty, push, to_u32};
+use edge_io::{OutOfMemory, Text, are_equal};
+use spef_text::{Head, SpefFile};
 use std::alloc::Global;
 
 /// The lists of the references of a section, which are used again for the next one. What they hold then does not count.
@@ -130,9 +130,9 @@ impl<'r, 'f> Referred<'r, 'f> {
         }
         let spelling = self.words.len();
         mark_new(&mut self.marks, place, belongs)?;
-        mark_latest(&mut self.latest, place, kept(spelling)?)?;
-        push(&mut self.places, kept(place)?)?;
-        push(&mut self.tokens, kept(token as usize)?)?;
+        mark_latest(&mut self.latest, place, to_u32(spelling)?)?;
+        push(&mut self.places, to_u32(place)?)?;
+        push(&mut self.tokens, to_u32(token as usize)?)?;
         self.words.add(word)?;
         Ok(spelling)
     }
@@ -226,7 +226,7 @@ impl<'r, 'f> Referred<'r, 'f> {
         match mark.number {
             Some(number) => Ok(number),
             None => {
-                let number = kept(self.nodes.len())?;
+                let number = to_u32(self.nodes.len())?;
                 self.nodes.push(self.tokens[spelling])?;
                 self.marks[place] = Mark {
                     listed: mark.listed,

@@ -15,12 +15,12 @@ use crate::amounts::Grains;
 use crate::draft::Draft;
 use crate::ends::SectionEnd;
 use crate::parts::{Joined, spelling_of};
-use crate::pushing::push;
 use crate::referred::Referred;
 use crate::section_lists::SectionLists;
 use crate::source::Source;
 use crate::spelled_section::SpelledSection;
 use corner_set::CornerSet;
+use edge_io::lists::push;
 use edge_io::{OutOfMemory, Text};
 use spef_text::{Cap, Conn};
 

@@ -2,9 +2,8 @@
 ghost use Rattle.std.specs.Prelude.{◌≡◌, ℕ, ◌+◌, ◌<◌, true, [], ◌∷◌, ◌++◌, List, length, map, slice_get, Some, IfOk, OnOk, IfSome};
 
 use crate::node_table::MANY;
-use crate::pushing::empty;
-use edge_io::OutOfMemory;
-use spef_text::are_equal;
+use edge_io::lists::empty;
+use edge_io::{OutOfMemory, are_equal};
 use std::alloc::Global;
 use std::marker::Model;
 

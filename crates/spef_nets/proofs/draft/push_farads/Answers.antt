@@ -15,7 +15,7 @@ loop-number-preserved g c = elim c.match-nth.branch [
   | in-Some+in_ok-push-in-Some w ↦
       row_grows (corners_of g.C.CornerSet.COUNT g.C.CornerSet.number_of g.C.CornerSet.member_of c.args.pick) (FaradsOf c.args.grains) c.args.values.now.items
       g.C.CornerSet.corner_of (λ corner. g.met.C.CornerSet.corner_of_number corner) c.loop-number.values.items c.match-nth.values.items c.loop-number.number w.in-Some.corner (record { 0 = w.of.result })
-      c.loop-number.invariant (sym c.nth.ensures ∙ w.in-Some.is) (w.of.ensures.value ∙ ap (λ pick. grains_at pick c.args.grains) w.member.ensures) (ap (λ (v : Vec Farads Global). v.items) w.values-is ∙ w.in_ok-push-in-Some.ensures)
+      c.loop-number.invariant (sym c.nth.ensures ∙ w.in-Some.is) (w.of.ensures.value ∙ ap (λ pick. grains_at pick c.args.grains) w.member.ensures) (ap (λ (v : Vec Farads Global). v.items) w.values-is ∙ w.in_ok-push-in-Some.ensures.ok)
   | in-None w ↦ absurd (corner_there g.C.CornerSet.corner_of c.loop-number.number (let there = g.met.C.CornerSet.number_of_corner c.loop-number.number (subst (λ (n : ℕ). c.loop-number.number < n) c.COUNT-number-end.ensures c.loop-number-test.true) in (there.0, there.1)) (sym c.nth.ensures ∙ w.in-None.is))
 ]
 

@@ -10,7 +10,7 @@ returns-clause-next g c = (
   c.in_ok-section.section,
   c.in_ok-section.ensures.ok,
   c.in_ok-section.ensures.read,
-  c.in_ok-push.ensures ∙ ap (λ (n : NetElements). c.args.sections.now.items ++ n ∷ []) c.in_ok-into_section.ensures,
+  c.in_ok-push.ensures.ok ∙ ap (λ (n : NetElements). c.args.sections.now.items ++ n ∷ []) c.in_ok-into_section.ensures,
 )
 
 pub returns-in_err-section-clause-least : goal.returns-in_err-section-clause-least

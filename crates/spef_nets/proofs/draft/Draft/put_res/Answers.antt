@@ -17,7 +17,7 @@ returns g c = record {
     loads = c.args.self.now.loads.items;
     caps = c.args.self.now.caps.items;
     farads = c.args.self.now.farads.items;
-    joints = c.in_ok-push.ensures i;
+    joints = c.in_ok-push.ensures.ok i;
     ohms = c.push_ohms.new.values.items;
     written = 0;
   };

@@ -46,9 +46,9 @@ returns c node names =
     (λ i. record {
       file = file_is i;
       words = (c.in_ok-add.ensures.added ∙ ap (λ (r : Refs). r.words ++ c.args.word.now ∷ []) seen) i;
-      places = (c.in_ok-push.ensures ∙ ap (λ n. c.spelled.new.self.places.items ++ n ∷ []) c.in_ok-kept-2.ensures ∙ ap (λ (r : Refs). r.places ++ c.in_ok-place.place ∷ []) seen) i;
-      names = (ap (map (node_at file)) c.in_ok-push-2.ensures ∙ map_push (node_at file) tokens c.in_ok-kept-3.field-0
-          ∙ ap (λ (n : Option NodeName). map (node_at file) tokens ++ n ∷ []) (ap (node_at file) c.in_ok-kept-3.ensures ∙ ap (λ (f : SpefText). node_at f c.args.token) file_is ∙ names)
+      places = (c.in_ok-push.ensures.ok ∙ ap (λ n. c.spelled.new.self.places.items ++ n ∷ []) c.in_ok-to_u32-2.ensures ∙ ap (λ (r : Refs). r.places ++ c.in_ok-place.place ∷ []) seen) i;
+      names = (ap (map (node_at file)) c.in_ok-push-2.ensures.ok ∙ map_push (node_at file) tokens c.in_ok-to_u32-3.field-0
+          ∙ ap (λ (n : Option NodeName). map (node_at file) tokens ++ n ∷ []) (ap (node_at file) c.in_ok-to_u32-3.ensures ∙ ap (λ (f : SpefText). node_at f c.args.token) file_is ∙ names)
           ∙ ap (λ (r : Refs). r.names ++ Some node ∷ []) seen) i;
       keys = (ap (λ (r : Refs). r.keys) seen) i;
       marks = c.mark_new.new.marks.items;

@@ -23,7 +23,7 @@ pub loop-i-preserved : goal.loop-i-preserved
 loop-i-preserved c =
     joined_more c.args.self.now.file.now c.args.net.now (refs_of c.args.refs.now) (refs_of c.loop-i.refs) (refs_of c.joined_at.new.refs) (refs_of c.joined_at-in-loop-i.new.refs)
     (section_at c.args.self.now.file.now.reading.sections c.args.s).ress c.loop-i.joints.items c.push.new.items.items c.loop-i.i c.res-res.result c.in_ok-first.first c.in_ok-second.second
-    c.res-res.ensures c.loop-i.invariant c.in_ok-first.ensures c.in_ok-second.ensures (c.in_ok-push.ensures ∙ ap (λ (j : Joined). c.loop-i.joints.items ++ j ∷ []) c.in_ok-of.ensures)
+    c.res-res.ensures c.loop-i.invariant c.in_ok-first.ensures c.in_ok-second.ensures (c.in_ok-push.ensures.ok ∙ ap (λ (j : Joined). c.loop-i.joints.items ++ j ∷ []) c.in_ok-of.ensures)
 
 pub returns : goal.returns
 returns c =
