@@ -12,8 +12,6 @@ mod reading;
 mod rows;
 mod scan;
 mod summary;
-#[cfg(test)]
-mod tests;
 mod texts;
 mod times;
 mod timescales;

@@ -12,6 +12,3 @@ mod values;
 
 pub use rows::Rows;
 pub use text::write;
-
-#[cfg(test)]
-mod tests;

@@ -1,36 +1,17 @@
-ghost use Rattle.std.specs.Prelude.{◌≡◌, ◌≤◌, ◌^◌, unsigned_abs, length, IfOk};
-ghost use Rattle.sdf_writer.specs.Bounds.{AreWithin};
-
-use super::*;
-use crate::values::write_value;
-use corner_set::{Grid, Single};
+//! The texts of small designs, worked by hand, and what a fault leaves of one.
+use super::rows::{FROM_A, FROM_B, PathNames, add_path, add_wire, row_of};
+use corner_set::{Grid, Pick, Single, Triple};
 use delay_units::Femto;
-use edge_io::{Failed, MemSink, OutOfMemory, Text, WaitingBytes};
+use edge_io::{Failed, MemSink, OutOfMemory, Text};
+use sdf_writer::{Rows, write};
 use std::alloc::Global;
 use std::test::Fail;
-
-/// Adds a wire of one corner.
-fn add(
-    alloc: Global,
-    rows: &mut Rows<Single>,
-    from: &[u8],
-    to: &[u8],
-    femtoseconds: i128,
-) -> Result<(), OutOfMemory>
-    requires { unsigned_abs femtoseconds ≤ 10 ^ 27 }
-{
-    let mut delay = Grid::<Single, Femto>::with_rows(alloc, 1, Femto(0))?;
-    delay.set(0, (), Femto(femtoseconds));
-    let from = Text::from_bytes(alloc, from)?;
-    let to = Text::from_bytes(alloc, to)?;
-    rows.add_wire(from, to, &delay)
-}
 
 /// The design `top`, in which a pin drives two others.
 fn two_wires(alloc: Global) -> Result<Rows<Single>, OutOfMemory> {
     let mut rows = Rows::new(alloc, Text::from_bytes(alloc, b"top")?);
-    add(alloc, &mut rows, b"u1/Z", b"u2/A", 300)?;
-    add(alloc, &mut rows, b"u1/Z", b"u3/A", 600)?;
+    add_wire(alloc, &mut rows, b"u1/Z", b"u2/A", 300)?;
+    add_wire(alloc, &mut rows, b"u1/Z", b"u3/A", 600)?;
     Ok(rows)
 }
 
@@ -95,58 +76,67 @@ fn without_wires_the_cell_has_no_delays(rt: HostRuntime) -> Result<(), Fail> {
     Ok(())
 }
 
+/// The design `top` with one wire at three corners.
+fn wire_at_three_corners(alloc: Global) -> Result<Rows<Triple>, OutOfMemory> {
+    let mut rows = Rows::new(alloc, Text::from_bytes(alloc, b"top")?);
+    let mut delay = Grid::<Triple, Femto>::with_rows(alloc, 1, Femto(200))?;
+    delay.set(0, Pick::Typ, Femto(-12_345));
+    delay.set(0, Pick::Max, Femto(400));
+    rows.add_wire(
+        Text::from_bytes(alloc, b"a")?,
+        Text::from_bytes(alloc, b"z")?,
+        &delay,
+    )?;
+    Ok(rows)
+}
+
 #[test]
 fn a_value_has_a_number_for_each_corner(rt: HostRuntime) -> Result<(), Fail> {
+    let rows = wire_at_three_corners(rt.alloc())?;
     let mut sink = MemSink::new(rt.alloc(), 1000, 1000)?;
-    let mut buffer = WaitingBytes::new();
-    let delay = [Femto(200), Femto(-12_345), Femto(400)];
-    assert_eq!(rt; write_value(&mut buffer, &mut sink, &delay), Ok(()));
-    assert_eq!(rt; buffer.flush(&mut sink), Ok(()));
-    assert_eq!(rt; sink.written(), b"(0.200:-12.345:0.400)".as_slice());
+    assert_eq!(rt; write(&rows, &mut sink), Ok(()));
+    let text = b"(DELAYFILE
+(SDFVERSION \"3.0\")
+(DESIGN \"top\")
+(PROGRAM \"gdc\")
+(VERSION \"1\")
+(DIVIDER /)
+(TIMESCALE 1ps)
+(CELL
+(CELLTYPE \"top\")
+(INSTANCE)
+(DELAY
+(ABSOLUTE
+(INTERCONNECT a z (0.200:-12.345:0.400))
+)
+)
+)
+)
+";
+    assert_eq!(rt; sink.written(), text.as_slice());
     Ok(())
 }
 
-/// One row with this time.
-fn row_of(alloc: Global, femtoseconds: i128) -> Result<Grid<Single, Femto>, OutOfMemory>
-    requires { unsigned_abs femtoseconds ≤ 10 ^ 27 }
-    ensures { IfOk result (λ grid. (length grid ≡ 1) × AreWithin grid) }
-{
-    Grid::<Single, Femto>::with_rows(alloc, 1, Femto(femtoseconds))
-}
+/// The path through an inverter.
+const INVERTER: PathNames = PathNames {
+    cell: b"INV",
+    instance: b"u1",
+    from: b"A",
+    to: b"Z",
+};
 
 /// The design `top`, with two wires and three paths, of which two are of one cell.
 fn wires_and_paths(alloc: Global) -> Result<Rows<Single>, OutOfMemory> {
     let mut rows = Rows::new(alloc, Text::from_bytes(alloc, b"top")?);
-    add(alloc, &mut rows, b"a", b"u1/A", 0)?;
-    add(alloc, &mut rows, b"u1/Z", b"z", 0)?;
+    add_wire(alloc, &mut rows, b"a", b"u1/A", 0)?;
+    add_wire(alloc, &mut rows, b"u1/Z", b"z", 0)?;
     let rise = row_of(alloc, 37_500)?;
     let fall = row_of(alloc, 19_500)?;
-    rows.add_path(
-        Text::from_bytes(alloc, b"INV")?,
-        Text::from_bytes(alloc, b"u1")?,
-        Text::from_bytes(alloc, b"A")?,
-        Text::from_bytes(alloc, b"Z")?,
-        Some(&rise),
-        Some(&fall),
-    )?;
+    add_path(alloc, &mut rows, &INVERTER, Some(&rise), Some(&fall))?;
     let fall = row_of(alloc, 12)?;
-    rows.add_path(
-        Text::from_bytes(alloc, b"N\"D\\2")?,
-        Text::from_bytes(alloc, b"b/u2")?,
-        Text::from_bytes(alloc, b"A")?,
-        Text::from_bytes(alloc, b"Z")?,
-        None,
-        Some(&fall),
-    )?;
+    add_path(alloc, &mut rows, &FROM_A, None, Some(&fall))?;
     let rise = row_of(alloc, -1_500)?;
-    rows.add_path(
-        Text::from_bytes(alloc, b"N\"D\\2")?,
-        Text::from_bytes(alloc, b"b/u2")?,
-        Text::from_bytes(alloc, b"B")?,
-        Text::from_bytes(alloc, b"Z")?,
-        Some(&rise),
-        None,
-    )?;
+    add_path(alloc, &mut rows, &FROM_B, Some(&rise), None)?;
     Ok(rows)
 }
 

@@ -1,5 +1,5 @@
 //! Small files that are refused, by the place of the grammar where no text goes on.
-use crate::ends::SdfCause;
+use sdf_reader::SdfCause;
 
 /// A file; the number of its dead token, and the cause.
 pub type Refusal<'a> = (&'a [u8], u64, SdfCause);

@@ -1,8 +1,8 @@
-//! Reads the files of all tables.
+//! Small files and what is answered to them. The expected answers are another reader's of the same grammar.
 use super::accepted_files::{ACCEPTED, MORE_ACCEPTED};
 use super::refused_files::{REFUSED_IN_ENTRIES, REFUSED_IN_HEADS};
-use crate::{SdfEnd, print_rows, print_summary, read};
 use edge_io::MemSink;
+use sdf_reader::{SdfEnd, print_rows, print_summary, read};
 use std::test::Fail;
 
 #[test]

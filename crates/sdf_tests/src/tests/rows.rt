@@ -1,0 +1,76 @@
+//! Rows of wires and of paths.
+ghost use Rattle.std.specs.Prelude.{◌≡◌, ◌≤◌, ◌^◌, unsigned_abs, length, option_copied, IfOk};
+ghost use Rattle.sdf_writer.specs.Bounds.{AreWithin};
+ghost use Rattle.sdf_writer.specs.PathRows.{IsEdge};
+
+use corner_set::{Grid, Single};
+use delay_units::Femto;
+use edge_io::{OutOfMemory, Text};
+use sdf_writer::Rows;
+use std::alloc::Global;
+
+/// One row with this time.
+pub fn row_of(alloc: Global, femtoseconds: i128) -> Result<Grid<Single, Femto>, OutOfMemory>
+    requires { unsigned_abs femtoseconds ≤ 10 ^ 27 }
+    ensures { IfOk result (λ grid. (length grid ≡ 1) × AreWithin grid) }
+{
+    Grid::<Single, Femto>::with_rows(alloc, 1, Femto(femtoseconds))
+}
+
+/// Adds a wire of one corner.
+pub fn add_wire(
+    alloc: Global,
+    rows: &mut Rows<Single>,
+    from: &[u8],
+    to: &[u8],
+    femtoseconds: i128,
+) -> Result<(), OutOfMemory>
+    requires { unsigned_abs femtoseconds ≤ 10 ^ 27 }
+{
+    let delay = row_of(alloc, femtoseconds)?;
+    let from = Text::from_bytes(alloc, from)?;
+    let to = Text::from_bytes(alloc, to)?;
+    rows.add_wire(from, to, &delay)
+}
+
+/// The names of a path: of its cell, of its instance, and of its pins.
+pub struct PathNames {
+    pub cell: &'static [u8],
+    pub instance: &'static [u8],
+    pub from: &'static [u8],
+    pub to: &'static [u8],
+}
+
+/// A path through a cell of two inputs, from the first.
+pub const FROM_A: PathNames = PathNames {
+    cell: b"N\"D\\2",
+    instance: b"b/u2",
+    from: b"A",
+    to: b"Z",
+};
+
+/// The other path through that cell.
+pub const FROM_B: PathNames = PathNames {
+    cell: b"N\"D\\2",
+    instance: b"b/u2",
+    from: b"B",
+    to: b"Z",
+};
+
+/// Adds a path of one corner.
+pub fn add_path(
+    alloc: Global,
+    rows: &mut Rows<Single>,
+    names: &PathNames,
+    rise: Option<&Grid<Single, Femto>>,
+    fall: Option<&Grid<Single, Femto>>,
+) -> Result<(), OutOfMemory>
+    requires rise { IsEdge 1 (option_copied rise) }
+    requires fall { IsEdge 1 (option_copied fall) }
+{
+    let cell = Text::from_bytes(alloc, names.cell)?;
+    let instance = Text::from_bytes(alloc, names.instance)?;
+    let from = Text::from_bytes(alloc, names.from)?;
+    let to = Text::from_bytes(alloc, names.to)?;
+    rows.add_path(cell, instance, from, to, rise, fall)
+}
