@@ -1,5 +1,5 @@
 -- The tokens so far, and the state that the reader is in behind them.
-use Rattle.std.proofs.Common.{◌≡◌, ℕ, zero, suc, ◌+◌, ◌-◌, ◌<◌, ◌≤◌, List, [], ◌∷◌, ◌++◌, length, get_or, take, drop, length-drop, None, Some, Result, Ok, Err, refl, sym, ap, ◌∙◌, subst, arith, append_assoc, append-nil}
+use Rattle.std.proofs.Common.{◌≡◌, ℕ, zero, suc, ◌+◌, ◌-◌, ◌<◌, ◌≤◌, List, [], ◌∷◌, ◌++◌, length, get_or, take, drop, length-drop, length-append, None, Some, Result, Ok, Err, refl, sym, ap, ◌∙◌, subst, arith, append_assoc, append-nil}
 use Rattle.std.specs.Prelude.{⊤, slice_get}
 use Rattle.std.proofs.lemmas.List.{take_all}
 use Rattle.token_fronts.specs.Machine.{Stop, go_on, outcome}
@@ -8,12 +8,16 @@ use Rattle.verilog_netlist.specs.Tokens.{Lexeme, span_of, cut_at, AreTokensFrom,
 use Rattle.verilog_netlist.specs.Cuts.{IsWithin}
 use Rattle.verilog_netlist.specs.Grammar.{IsNetlist}
 use Rattle.verilog_netlist.specs.Steps.{step_in}
-use Rattle.verilog_netlist.specs.Modes.{State, first_state, state_after, next, finish}
+use Rattle.verilog_netlist.specs.Modes.{State, first_state, state_after, next, finish_in, finish}
 use Rattle.verilog_netlist.specs.Netlists.{SaysNetlist, LeavesNetlist, IsDead, IsRefusalAt, HasWord}
 use Rattle.verilog_netlist.specs.ReaderStates.{IsRefusalOf}
 use Rattle.verilog_netlist.specs.declared.spans.Span.{Span}
 use Rattle.verilog_netlist.specs.declared.kinds.Kind.{Kind}
 use Rattle.verilog_netlist.specs.declared.entries.Entry.{Entry}
+use Rattle.verilog_netlist.specs.declared.modes.Mode.{Mode}
+use Rattle.verilog_netlist.specs.declared.modes.Mode.TheVariants.{Modules}
+use Rattle.verilog_netlist.specs.declared.modes.Step.{Step}
+use Rattle.verilog_netlist.specs.declared.modes.Step.TheVariants.{Refuse, Go, Put}
 use Rattle.verilog_netlist.specs.declared.scan.Cut.{Cut}
 use Rattle.verilog_netlist.specs.declared.scan.Cut.TheVariants.{Skip, Take}
 use Rattle.verilog_netlist.specs.declared.reading.ReadEnd.{ReadEnd}
@@ -31,11 +35,12 @@ pub record ReadTo (bytes rest : List ℕ) (start number : ℕ) (state : State) :
   pub count : number ≡ length before + 1
   pub bound : number ≤ start + 1
   pub place : start + length rest ≡ length bytes
+  pub few : length state.entries < number
   pub so_far : (tokens : List Lexeme) → AreTokensFrom start rest tokens → AreTokens bytes (before ++ tokens)
   pub leads : (tokens : List Lexeme) → made (before ++ tokens) ≡ outcome next finish state number tokens
 
 pub nothing_read : (bytes : List ℕ) → ReadTo bytes bytes 0 1 first_state
-nothing_read bytes = record { before = []; count = refl; bound = omega arith; place = omega arith; so_far = λ tokens are. are; leads = λ tokens. refl }
+nothing_read bytes = record { before = []; count = refl; bound = omega arith; place = omega arith; few = omega arith; so_far = λ tokens are. are; leads = λ tokens. refl }
 
 skipped : {bytes : List ℕ} {start number : ℕ} {state : State} (first : ℕ) (after : List ℕ) (n : ℕ)
     → ReadTo bytes (first ∷ after) start number state → cut_at first after ≡ Skip n → n ≤ length after + 1 → ReadTo bytes (drop n (first ∷ after)) (start + n) number state
@@ -48,6 +53,7 @@ skipped first after n h cut le =
       count = h.count;
       bound = omega arith;
       place = omega arith;
+      few = h.few;
       so_far = λ tokens are. h.so_far tokens (skip n cut are);
       leads = h.leads;
     }
@@ -58,6 +64,17 @@ token_here kind first start n = record { kind = kind; at = span_of first start n
 one_longer : (tokens : List Lexeme) (token : Lexeme) → length (tokens ++ token ∷ []) ≡ length tokens + 1
 one_longer [] token = refl
 one_longer (t ∷ tokens) token = let rest = one_longer tokens token in omega arith
+
+-- a token adds one entry at most
+one_entry : (step : Step) (entries : List Entry) (now : State) → state_after step entries ≡ Ok now → length now.entries ≤ length entries + 1
+one_entry Refuse entries now e = absurd (cc)
+one_entry (Go mode) entries now e =
+    let same : record { mode = mode; entries = entries } ≡ now = cc in
+    subst (λ (s : State). length s.entries ≤ length entries + 1) same (omega arith)
+one_entry (Put mode said) entries now e =
+    let same : record { mode = mode; entries = entries ++ said ∷ [] } ≡ now = cc in
+    let longer : length (entries ++ said ∷ []) ≡ length entries + 1 = length-append entries (said ∷ []) in
+    subst (λ (s : State). length s.entries ≤ length entries + 1) same (omega arith)
 
 one_token : {bytes : List ℕ} {start number : ℕ} {state : State} (first : ℕ) (after : List ℕ) (n : ℕ) (kind : Kind) (now : State)
     → ReadTo bytes (first ∷ after) start number state → cut_at first after ≡ Take n kind → 0 < n → n ≤ length after + 1
@@ -74,6 +91,7 @@ one_token {bytes} {start} {number} {state} first after n kind now h cut some le 
       count = omega arith;
       bound = omega arith;
       place = omega arith;
+      few = let few = h.few in let more = one_entry (step_in state.mode kind (span_of first start n)) state.entries now moves in omega arith;
       so_far = λ tokens are. subst (AreTokens bytes) (sym (append_assoc h.before (token ∷ []) tokens)) (h.so_far (token ∷ tokens) (take_one n kind cut are));
       leads = λ tokens. ap made (append_assoc h.before (token ∷ []) tokens) ∙ h.leads (token ∷ tokens) ∙ ap (go_on number state (λ (s : State). outcome next finish s (number + 1) tokens)) moves;
     }
@@ -174,6 +192,11 @@ saying {bytes} {start} {number} {state} entries h e =
     says_made AreTokens IsToken IsNetlist next finish first_state fits one_parting bytes h.before entries (whole_parted h)
     (whole_made h ∙ ap (go_on number state (λ (entries : List Entry). Ok entries)) e)
 
+-- what is said at the end has been said before
+finished : (mode : Mode) (said entries : List Entry) → finish_in mode said ≡ Ok entries → said ≡ entries
+finished Modules said entries e = cc
+finished _ said entries e = absurd (cc)
+
 -- the same of bytes that are known to begin so
 pub first_and_rest : (l : List ℕ) → 1 ≤ length l → l ≡ get_or l 0 0 ∷ take (length l - 1) (drop 1 l)
 first_and_rest [] some = absurd (omega arith)
@@ -207,6 +230,15 @@ module _ {bytes : List ℕ} {start number : ℕ} {state : State} (rest : List �
 
   pub lacks : rest ≡ [] → finish state ≡ Err tt → IsRefused bytes (Syntax number)
   lacks none e = lacking (subst (λ (l : List ℕ). ReadTo bytes l start number state) none h) e
+
+  pub few_said : (entries : List Entry) → finish state ≡ Ok entries → length entries ≤ length bytes
+  few_said entries e =
+      let same = finished state.mode state.entries entries e in
+      let few = h.few in
+      let bound = h.bound in
+      let place = h.place in
+      let size : length state.entries ≡ length entries = ap length same in
+      omega arith
 
   pub says : rest ≡ [] → (entries : List Entry) → finish state ≡ Ok entries → SaysNetlist bytes entries
   says none entries e = saying entries (subst (λ (l : List ℕ). ReadTo bytes l start number state) none h) e

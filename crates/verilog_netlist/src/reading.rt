@@ -71,6 +71,8 @@ pub fn read_entries(alloc: Global, bytes: &[u8]) -> Result<Vec<Entry>, ReadEnd>
     requires { length bytes.now < 2 ^ 30 }
     // What is answered is what the bytes say.
     ensures ok { IfOk result (λ entries. SaysNetlist bytes.now entries.items) }
+    // There are no more entries than bytes.
+    ensures few { IfOk result (λ entries. length entries.items ≤ length bytes.now) }
     // A refusal's token is the one with which the bytes leave the grammar, and they say nothing.
     ensures dead { IfErr result (IsDead bytes.now) }
     // It is `NotStructural`, with the word, exactly where that token is a reserved word that the grammar has nowhere.

@@ -3,7 +3,7 @@ use Rattle.std.proofs.Common.{Bool, sym, subst}
 use Rattle.verilog_netlist.specs.Steps.{step_in}
 use Rattle.verilog_netlist.specs.Modes.{State, state_after}
 use Rattle.verilog_netlist.specs.ReaderStates.{state_of, Steps}
-use Rattle.verilog_netlist.proofs.SoFar.{skips, takes, refuses, lacks, says, one_netlist, first_and_rest, no_bytes}
+use Rattle.verilog_netlist.proofs.SoFar.{skips, takes, refuses, lacks, says, few_said, one_netlist, first_and_rest, no_bytes}
 use Rattle.verilog_netlist.proofs.reading.read_entries.Goals as goal
 
 pub loop-rest-preserved-in-Skip : goal.loop-rest-preserved-in-Skip
@@ -54,3 +54,6 @@ returns-in-None-clause-word c = (lacks c.loop-rest.rest.now c.loop-rest.invarian
 
 pub returns-in-None-clause-only : goal.returns-in-None-clause-only
 returns-in-None-clause-only c entries said = absurd ((lacks c.loop-rest.rest.now c.loop-rest.invariant (no_bytes c.loop-rest.rest.now c.in_default.len_below) c.in-None.ensures).nothing entries said)
+
+pub returns-in-Some-clause-few : goal.returns-in-Some-clause-few
+returns-in-Some-clause-few c = few_said c.loop-rest.rest.now c.loop-rest.invariant _ c.in-Some.ensures
