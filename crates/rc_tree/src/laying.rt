@@ -1,9 +1,9 @@
 //! Where the nodes of a section and the sinks stand in the order of a search.
 ghost use Rattle.std.specs.Prelude.{◌≡◌, ℕ, ◌+◌, ◌-◌, ◌<◌, ◌≤◌, length, slice_index, slice_index_or, MatchOption, IfOk, OnOk};
 
-use crate::lists::{empty, push};
 use crate::node_ids::NodeId;
 use edge_io::OutOfMemory;
+use edge_io::lists::{empty, push};
 use std::alloc::Global;
 
 /// The place of the first zero, if there is one.

@@ -11,7 +11,6 @@ mod laying;
 mod layout;
 mod listed;
 mod listed_pins;
-mod lists;
 mod lone;
 mod marking;
 mod names;

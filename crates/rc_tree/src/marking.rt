@@ -8,10 +8,10 @@ ghost use Rattle.rc_tree.specs.Marking.{Marks, Marked};
 ghost use Rattle.rc_tree.specs.Searched.{IsNumbered};
 
 use crate::listed_pins::ListedPins;
-use crate::lists::refill;
 use crate::numbered::Numbered;
 use corner_set::CornerSet;
 use edge_io::OutOfMemory;
+use edge_io::lists::refill;
 use spef_nets::Net;
 
 /// It stands for the number of a node that has none yet.

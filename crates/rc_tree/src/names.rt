@@ -3,23 +3,10 @@ ghost use Rattle.std.specs.Prelude.{◌≡◌, ℕ, length, slice_get, slice_ind
 
 use crate::numbered::Numbered;
 use corner_set::CornerSet;
-use edge_io::{OutOfMemory, Text};
+use edge_io::OutOfMemory;
 use name_table::NodeName;
 use spef_nets::Net;
 use std::alloc::Global;
-
-/// A copy of a name.
-pub fn copy_name(alloc: Global, name: &NodeName) -> Result<NodeName, OutOfMemory>
-    ensures { IfOk result (λ copy. copy ≡ name.now) }
-{
-    let head = Text::from_bytes(alloc, name.head.bytes())?;
-    let tail = match &name.tail {
-        Some(tail) => Some(Text::from_bytes(alloc, tail.bytes())?),
-        None => None,
-    };
-    let sdf = Text::from_bytes(alloc, name.sdf.bytes())?;
-    Ok(NodeName { head, tail, sdf })
-}
 
 /// A name of the node of a number, as the section has it.
 pub fn section_name<C: CornerSet>(

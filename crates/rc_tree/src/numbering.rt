@@ -5,10 +5,10 @@ ghost use Rattle.rc_tree.specs.Pins.{pin_nodes};
 ghost use Rattle.rc_tree.specs.Numbering.{AreSpots, AreEnds};
 ghost use Rattle.rc_tree.specs.SectionNets.{AreListed, IsFirstStrange};
 
-use crate::lists::{empty, kept, push};
 use crate::node_table::NodeTable;
 use crate::pins::PinLoads;
 use corner_set::CornerSet;
+use edge_io::lists::{empty, push, to_u32};
 use edge_io::{OutOfMemory, Steps};
 use name_table::NodeName;
 use spef_nets::Net;
@@ -76,7 +76,7 @@ pub fn number_section<C: CornerSet>(
     for node in 0..section.node_count() {
         let name = section.node_name(alloc, node)?;
         let number = table.intern(&name)?;
-        push(spots, kept(number)?)?;
+        push(spots, to_u32(number)?)?;
     }
     Ok(())
 }

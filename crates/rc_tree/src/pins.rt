@@ -7,13 +7,13 @@ ghost use Rattle.rc_tree.specs.Pins.{pin_nodes, row_of};
 ghost use Rattle.rc_tree.specs.Searched.{IsNumbered, IsNameAt, AreSinks};
 
 use crate::laying::sinks_of;
-use crate::names::{copy_name, section_name};
+use crate::names::section_name;
 use crate::node_ids::NodeId;
 use crate::numbered::Numbered;
 use corner_set::{CornerSet, Grid};
 use delay_units::Farads;
 use edge_io::OutOfMemory;
-use name_table::NodeName;
+use name_table::{NodeName, copy_name};
 use spef_nets::Net;
 use std::alloc::Global;
 use std::marker::{Model, PhantomData};

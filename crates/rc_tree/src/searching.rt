@@ -1,16 +1,16 @@
-//! The breadth first search from the driver's node.
+//! The search from the driver's node.
 ghost use Rattle.std.specs.Prelude.{◌≡◌, ◌<◌, ◌≤◌, [], ◌∷◌, length, slice_index, slice_set, replicate, All, OnOk};
 ghost use Rattle.rc_tree.specs.Threads.{IsThreaded};
 ghost use Rattle.rc_tree.specs.Searches.{Search, IsSearch, IsClosed, Grown, IsVisited, reached};
 ghost use Rattle.rc_tree.specs.FoundSearch.{search_of};
 
 use crate::found::Found;
-use crate::lists::{empty, kept, push, refill};
 use crate::threads::{Threads, thread};
 use edge_io::OutOfMemory;
+use edge_io::lists::{empty, push, refill, to_u32};
 
-/// Finds all nodes that walks over the resistors reach from node 0, in breadth first order. The resistor at a place has its
-/// ends at the nodes of that place in both lists.
+/// Finds all nodes that walks over the resistors reach from node 0, a parent before its children. The resistor at a place has
+/// its ends at the nodes of that place in both lists.
 pub fn search(
     froms: &[u32],
     tos: &[u32],
@@ -120,13 +120,13 @@ fn reach(resistor: usize, node: u32, place: usize, found: &mut Found) -> Result<
     if found.numbers[node as usize] != 0 {
         return Ok(());
     }
-    let next = kept(found.order.len())?;
+    let next = to_u32(found.order.len())?;
     let Some(number) = next.checked_add(1) else {
         return Err(OutOfMemory);
     };
     push(&mut found.order, node)?;
-    push(&mut found.parents, kept(place)?)?;
-    push(&mut found.vias, kept(resistor)?)?;
+    push(&mut found.parents, to_u32(place)?)?;
+    push(&mut found.vias, to_u32(resistor)?)?;
     found.numbers[node as usize] = number;
     found.links[resistor] = next;
     Ok(())

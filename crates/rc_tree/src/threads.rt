@@ -2,8 +2,8 @@
 ghost use Rattle.std.specs.Prelude.{◌<◌, All, OnOk};
 ghost use Rattle.rc_tree.specs.Threads.{IsThreaded};
 
-use crate::lists::{empty, kept, push, refill};
 use edge_io::OutOfMemory;
+use edge_io::lists::{empty, push, refill, to_u32};
 
 /// For each node one more than the last resistor at it, and for each resistor one more than the one before it at the same
 /// node; 0 for none.
@@ -23,7 +23,7 @@ pub fn thread(near: &[u32], nodes: usize, threads: &mut Threads) -> Result<(), O
     for place in 0..near.len() {
         let node = near[place] as usize;
         push(&mut threads.nexts, threads.heads[node])?;
-        threads.heads[node] = kept(place + 1)?;
+        threads.heads[node] = to_u32(place + 1)?;
     }
     Ok(())
 }

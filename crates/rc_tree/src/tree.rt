@@ -11,8 +11,8 @@ use edge_io::Steps;
 use std::marker::Model;
 use std::sync::ledger::Ledger;
 
-/// The nodes of a net in breadth first order: node 0 is the driver's, and each other node has a parent before it, to which
-/// one resistor links it. At each corner a node has the resistance of its link and a capacitance. Contracts see these.
+/// The nodes of a net, a parent before its children: node 0 is the driver's, and each other node has a parent, to which one
+/// resistor links it. At each corner a node has the resistance of its link and a capacitance. Contracts see these.
 ///
 /// There are at most 2^19 + 1 nodes. A resistance is at most 10^14, and at each corner the capacitances are at most
 /// 2^20 * 10^12 together.
