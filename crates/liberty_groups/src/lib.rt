@@ -13,8 +13,6 @@ mod parsing;
 pub mod reader;
 pub mod rows;
 pub mod scan;
-#[cfg(test)]
-mod tests;
 mod texts;
 pub mod tree;
 

@@ -8,8 +8,6 @@ mod faults;
 mod grain;
 mod laws;
 mod table;
-#[cfg(test)]
-mod tests;
 
 pub use axis::Axis;
 pub use faults::{AxisFault, Outside, TableFault, Which};

@@ -26,4 +26,3 @@ pub mod Sizes
 pub mod TableModel
 pub mod TemplateIndex
 pub mod Templates
-pub mod Triples

@@ -14,28 +14,16 @@ mod delay_groups;
 mod faults;
 mod groups;
 mod joining;
-#[cfg(test)]
-mod joining_tests;
 mod laws;
 mod library_units;
-#[cfg(test)]
-mod naming_tests;
 mod number_lists;
 mod pins;
 mod related_pins;
 mod shape;
 mod table_axes;
-#[cfg(test)]
-mod table_tests;
 mod tables;
 mod templates;
-#[cfg(test)]
-mod tests;
-#[cfg(test)]
-mod triple_tests;
 mod units;
-#[cfg(test)]
-mod worked_cells;
 
 pub use building::build_cell;
 pub use cell::{Arc, ArcKind, Cell, Direction, EdgeTables, Pin};

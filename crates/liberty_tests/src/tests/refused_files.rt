@@ -1,5 +1,5 @@
 //! Small files that are refused.
-use crate::faults::Cause;
+use liberty_groups::Cause;
 
 /// A file; the number of its dead token, its line, and the cause.
 pub type Refusal<'a> = (&'a [u8], u64, u64, Cause);

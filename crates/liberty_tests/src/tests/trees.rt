@@ -1,13 +1,10 @@
-//! Reads the files of both tables.
+//! Groups of small files. The expected answers are another reader's of the same grammar.
 ghost use Rattle.std.specs.Prelude.{◌<◌, length};
 ghost use Rattle.liberty_groups.specs.Tables.{IsGroup};
 
 use super::refused_files::REFUSED;
 use super::tree_tables::{KEYS, TREES};
-use crate::faults::{ParseEnd, SyntaxFault};
-use crate::parsing::parse;
-use crate::rows::GroupId;
-use crate::tree::GroupTree;
+use liberty_groups::{GroupId, GroupTree, ParseEnd, SyntaxFault, parse};
 use std::alloc::AllocError;
 use std::test::Fail;
 

@@ -3,9 +3,9 @@ ghost use Rattle.std.specs.Prelude.{◌≡◌, ◌<◌, ◌≤◌, ◌≤ℤ◌,
 ghost use Rattle.nldm_lookup.specs.Axes.{most};
 ghost use Rattle.nldm_lookup.specs.Tables.{IsSmall};
 
-use crate::{Axis, AxisFault, Grain, Order, Outside, Table, TableFault, Which};
 use delay_units::{Atto, Farads};
 use edge_io::Steps;
+use nldm_lookup::{Axis, AxisFault, Grain, Order, Outside, Table, TableFault, Which};
 use std::alloc::Global;
 use std::marker::Brand;
 use std::sync::ledger::{Blank, Ledger};
@@ -26,8 +26,8 @@ fn table(alloc: Global, order: Order, values: &[i64]) -> Option<Result<Table, Ta
     Some(Table::new(alloc, slew, load, order, values))
 }
 
-/// What a table says.
-fn looked<L: Ledger>(
+/// What a table says, with a counter of its own.
+fn looked_by<L: Ledger>(
     table: &Table,
     slew: i64,
     load: u64,
@@ -44,68 +44,59 @@ fn looked<L: Ledger>(
     table.lookup(Atto(slew), Farads(load), grain, &mut steps)
 }
 
-fn rise(alloc: Global, slew: i64, load: u64, grain: Grain) -> Option<Result<i64, Outside>>
+/// What a table says at a slew and a load.
+pub fn looked(table: &Table, slew: i64, load: u64, grain: Grain) -> Result<i64, Outside>
     requires not_negative { pos 0 ≤ℤ slew }
     requires small { slew ≤ℤ pos most }
 {
-    let table = table(alloc, Order::SlewFirst, &RISE)?.ok()?;
-    Some(looked::<Brand>(&table, slew, load, grain, Blank::new(1)))
+    looked_by::<Brand>(table, slew, load, grain, Blank::new(1))
 }
 
-fn rise_by_load(alloc: Global, slew: i64, load: u64) -> Option<Result<i64, Outside>>
-    requires not_negative { pos 0 ≤ℤ slew }
-    requires small { slew ≤ℤ pos most }
-{
-    let table = table(alloc, Order::LoadFirst, &RISE_BY_LOAD)?.ok()?;
-    Some(looked::<Brand>(&table, slew, load, Grain::Femto, Blank::new(1)))
-}
+/// A slew in attoseconds, a load in grains of 10^-21 F, in which grain the answer comes, and what the rise says there.
+type Row = (i64, u64, Grain, Result<i64, Outside>);
 
-fn outside(axis: Which, value: u64) -> Option<Result<i64, Outside>> {
-    Some(Err(Outside { axis, value }))
-}
-
-fn three_values(alloc: Global) -> Option<TableFault> {
-    let values = [20_000_000, 40_000_000, 30_000_000];
-    table(alloc, Order::SlewFirst, &values)?.err()
-}
+const ROWS: [Row; 6] = [
+    (20_000_000, 2_000_000, Grain::Femto, Ok(37_500)),
+    (20_000_000, 2_000_000, Grain::Atto, Ok(37_500_000)),
+    (30_000_000, 3_000_000, Grain::Femto, Ok(60_000)),
+    (15_000_000, 2_000_000, Grain::Femto, Ok(33_750)),
+    // Past the axes: the load, and of both the slew.
+    (
+        30_000_000,
+        3_000_001,
+        Grain::Femto,
+        Err(Outside {
+            axis: Which::Load,
+            value: 3_000_001,
+        }),
+    ),
+    (
+        9_999_999,
+        3_000_001,
+        Grain::Femto,
+        Err(Outside {
+            axis: Which::Slew,
+            value: 9_999_999,
+        }),
+    ),
+];
 
 #[test]
 fn worked_values(rt: HostRuntime) -> Result<(), Fail> {
     let alloc = rt.alloc();
-    assert_eq!(rt;
-        rise(alloc, 20_000_000, 2_000_000, Grain::Femto),
-        Some(Ok(37_500))
-    );
-    assert_eq!(rt;
-        rise(alloc, 20_000_000, 2_000_000, Grain::Atto),
-        Some(Ok(37_500_000))
-    );
-    assert_eq!(rt;
-        rise(alloc, 30_000_000, 3_000_000, Grain::Femto),
-        Some(Ok(60_000))
-    );
-    assert_eq!(rt;
-        rise(alloc, 15_000_000, 2_000_000, Grain::Femto),
-        Some(Ok(33_750))
-    );
-    assert_eq!(rt;
-        rise_by_load(alloc, 15_000_000, 2_000_000),
-        Some(Ok(33_750))
-    );
-    Ok(())
-}
-
-#[test]
-fn past_the_axes(rt: HostRuntime) -> Result<(), Fail> {
-    let alloc = rt.alloc();
-    assert_eq!(rt;
-        rise(alloc, 30_000_000, 3_000_001, Grain::Femto),
-        outside(Which::Load, 3_000_001)
-    );
-    assert_eq!(rt;
-        rise(alloc, 9_999_999, 3_000_001, Grain::Femto),
-        outside(Which::Slew, 9_999_999)
-    );
+    let Some(Ok(by_slew)) = table(alloc, Order::SlewFirst, &RISE) else {
+        assert!(rt; false);
+        return Ok(());
+    };
+    let Some(Ok(by_load)) = table(alloc, Order::LoadFirst, &RISE_BY_LOAD) else {
+        assert!(rt; false);
+        return Ok(());
+    };
+    for (slew, load, grain, wanted) in ROWS {
+        assert!(rt; 0 <= slew && slew <= 1_000_000_000_000);
+        assert_eq!(rt; looked(&by_slew, slew, load, grain), wanted);
+        assert_eq!(rt; looked(&by_load, slew, load, grain), wanted);
+    }
     Ok(())
 }
 
@@ -118,7 +109,9 @@ fn faults(rt: HostRuntime) -> Result<(), Fail> {
         Some(AxisFault::NotRising(2))
     );
     assert_eq!(rt; Axis::new(alloc, &[0; 257]).err(), Some(AxisFault::TooLong));
+    let three = [20_000_000, 40_000_000, 30_000_000];
     let want = TableFault::ValueCount { want: 4, got: 3 };
-    assert_eq!(rt; three_values(alloc), Some(want));
+    let found = table(alloc, Order::SlewFirst, &three);
+    assert_eq!(rt; found.and_then(Result::err), Some(want));
     Ok(())
 }

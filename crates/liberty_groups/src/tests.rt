@@ -1,4 +1,0 @@
-//! Files and what is answered to them. The expected answers are another reader's of the same grammar.
-mod reading;
-mod refused_files;
-mod tree_tables;

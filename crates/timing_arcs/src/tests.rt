@@ -1,3 +1,0 @@
-//! Tests over small libraries.
-mod building;
-mod small_libraries;
