@@ -7,3 +7,4 @@ pub mod Living
 pub mod Fitting
 pub mod Parting
 pub mod SoFar
+pub mod Repeating

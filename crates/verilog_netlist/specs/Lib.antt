@@ -3,8 +3,10 @@ pub mod Words
 pub mod Tokens
 pub mod Grammar
 pub mod Netlists
+pub mod Namespaces
 pub mod Cuts
 pub mod WordFilter
 pub mod Steps
 pub mod Modes
 pub mod ReaderStates
+pub mod NameKeys

@@ -1,17 +1,22 @@
 //! Structural Verilog (IEEE 1364-2005): its tokens, and what a netlist says, or the one token that cannot stand where it stands.
 //! `read_entries` answers the entries, which are what the file says in its order: modules, ports, wires, instances, connections.
+//! `first_repeated` finds the first name that stands twice where names must differ.
 #![tactic(auto)]
 
 mod entries;
 mod kinds;
 mod laws;
 mod modes;
+mod namespaces;
 mod reader;
 mod reading;
+mod repeats;
 mod scan;
 mod spans;
 mod words;
 
 pub use entries::{Decl, Entry, Range, Way};
+pub use namespaces::Names;
 pub use reading::{ReadEnd, read_entries};
+pub use repeats::first_repeated;
 pub use spans::Span;

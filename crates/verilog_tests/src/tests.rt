@@ -2,3 +2,4 @@
 mod accepted;
 mod reading;
 mod refused;
+mod repeated;

@@ -3,10 +3,11 @@ ghost use Rattle.std.specs.Prelude.{◌<◌, ◌^◌, length};
 
 use super::accepted::ACCEPTED;
 use super::refused::{NOT_STRUCTURAL, REFUSED};
+use super::repeated::REPEATED;
 use edge_io::Text;
 use std::alloc::Global;
 use std::test::Fail;
-use verilog_netlist::{Decl, Entry, Range, ReadEnd, Way, read_entries};
+use verilog_netlist::{Decl, Entry, Range, ReadEnd, Way, first_repeated, read_entries};
 
 /// Adds a line of words, each but the first with a space before it.
 fn tell(text: &mut Text, first: &[u8], words: &[&[u8]]) -> Result<(), Fail> {
@@ -136,6 +137,34 @@ fn names_each_word_that_is_not_structural(rt: HostRuntime) -> Result<(), Fail> {
         text.push_all(b" u (); endmodule")?;
         assert!(rt; text.bytes().len() < 1 << 20);
         assert!(rt; is_refused(rt.alloc(), text.bytes(), 4, word));
+    }
+    Ok(())
+}
+
+/// The first name that is repeated, or nothing; where nothing is read it is `-`.
+fn repeated_name(alloc: Global, bytes: &[u8]) -> Result<Text, Fail>
+    requires { length bytes.now < 2 ^ 20 }
+{
+    let mut text = Text::new(alloc);
+    match read_entries(alloc, bytes) {
+        Ok(entries) => {
+            if let Some(place) = first_repeated(alloc, bytes, entries.as_slice())? {
+                if place < entries.len() {
+                    text.push_all(entries[place].name().of(bytes))?;
+                }
+            }
+        }
+        Err(_) => text.push_all(b"-")?,
+    }
+    Ok(text)
+}
+
+#[test]
+fn finds_the_first_name_that_is_repeated(rt: HostRuntime) -> Result<(), Fail> {
+    for file in REPEATED.as_slice() {
+        assert!(rt; file.0.len() < 1 << 20);
+        let name = repeated_name(rt.alloc(), file.0)?;
+        assert_eq!(rt; name.bytes(), file.1);
     }
     Ok(())
 }

@@ -1,0 +1,127 @@
+//! Looks for a name that stands twice where names must differ.
+ghost use Rattle.std.specs.Prelude.{◌≡◌, ℕ, ◌+◌, ◌^◌, ◌<◌, List, length, count_by, map, IfOk, OnOk};
+ghost use Rattle.verilog_netlist.specs.Namespaces.{IsFirstRepeated, begins_module, begins_instance};
+ghost use Rattle.verilog_netlist.specs.NameKeys.{code_of, keys_in, scope_in, is_held, with_name, counted};
+
+use crate::entries::Entry;
+use crate::namespaces::Names;
+use edge_io::OutOfMemory;
+use indexmap::IndexSet;
+use std::alloc::Global;
+
+/// What makes a name the one that it is: among which names it is, by their number, in which scope, and its text.
+#[derive(Clone, Copy, PartialEq, Eq, Hash)]
+pub struct NameKey<'a> {
+    pub code: u8,
+    pub scope: u32,
+    pub name: &'a [u8],
+}
+
+/// How many modules and instances have begun.
+#[derive(Clone, Copy)]
+pub struct Scopes {
+    pub modules: u32,
+    pub instances: u32,
+}
+
+fn code_of(among: Names) -> u8
+    ensures { result ≡ code_of among }
+{
+    match among {
+        Names::Modules => 0,
+        Names::Headers => 1,
+        Names::Directions => 2,
+        Names::Wires => 3,
+        Names::Instances => 4,
+        Names::Ports => 5,
+    }
+}
+
+impl Scopes {
+    /// The scope in which such a name must be new.
+    #[inline]
+    fn of(self, among: Names) -> u32
+        ensures { result ≡ scope_in among self }
+    {
+        match among {
+            Names::Modules => 0,
+            Names::Ports => self.instances,
+            _ => self.modules,
+        }
+    }
+
+    /// The scopes from this entry on.
+    #[inline]
+    fn from(self, entry: Entry) -> Scopes
+        requires modules { self.modules + 1 < 2 ^ 32 }
+        requires instances { self.instances + 1 < 2 ^ 32 }
+        ensures { result ≡ counted self entry }
+    {
+        Scopes {
+            modules: if entry.begins_module() {
+                self.modules + 1
+            } else {
+                self.modules
+            },
+            instances: if entry.begins_instance() {
+                self.instances + 1
+            } else {
+                self.instances
+            },
+        }
+    }
+}
+
+/// Adds a name, if it is among names that must differ, and tells whether it was there.
+fn add_name<'a>(
+    keys: &mut IndexSet<NameKey<'a>>,
+    among: Option<Names>,
+    scopes: Scopes,
+    name: &'a [u8],
+) -> Result<bool, OutOfMemory>
+    ensures held { IfOk result (λ held. held ≡ is_held among scopes name.now (keys_in keys.old.keys)) }
+    ensures keys { OnOk result (keys_in keys.new.keys ≡ with_name among scopes name.now (keys_in keys.old.keys)) }
+{
+    let Some(among) = among else {
+        return Ok(false);
+    };
+    let key = NameKey {
+        code: code_of(among),
+        scope: scopes.of(among),
+        name,
+    };
+    match keys.insert_full(key) {
+        Ok((_, is_new)) => Ok(!is_new),
+        Err(_) => Err(OutOfMemory),
+    }
+}
+
+/// The place of the first entry whose name is repeated, if there is one: it stands before among the same names, in the same
+/// file, module or instance. It takes time in proportion to the bytes of the names.
+pub fn first_repeated(
+    alloc: Global,
+    bytes: &[u8],
+    entries: &[Entry],
+) -> Result<Option<usize>, OutOfMemory>
+    requires { length entries.now < 2 ^ 30 }
+    ensures { IfOk result (IsFirstRepeated bytes.now entries.now) }
+{
+    let mut keys = IndexSet::new(alloc);
+    let mut scopes = Scopes {
+        modules: 0,
+        instances: 0,
+    };
+    for (place, entry) in entries.iter().enumerate() {
+        scopes = scopes.from(*entry);
+        let name = entry.name().of(bytes);
+        let in_header = add_name(&mut keys, entry.header_names(), scopes, name)?;
+        if in_header {
+            return Ok(Some(place));
+        }
+        let by_own = add_name(&mut keys, entry.own_names(), scopes, name)?;
+        if by_own {
+            return Ok(Some(place));
+        }
+    }
+    Ok(None)
+}
