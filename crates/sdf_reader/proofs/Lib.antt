@@ -21,6 +21,5 @@ pub mod Fitting
 pub mod Refusing
 pub mod Loosening
 pub mod Causing
-pub mod Within
 pub mod SoFar
 pub mod OneFault

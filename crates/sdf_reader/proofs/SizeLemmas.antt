@@ -5,7 +5,8 @@ use Rattle.sdf_reader.specs.Numbers.{IsMember, member, IsValue, single, triple}
 use Rattle.sdf_reader.specs.Timescales.{power_of}
 use Rattle.sdf_reader.specs.Rows.{no_value, row_in, rows_in}
 use Rattle.sdf_reader.specs.Modes.{State, Entry, with_value, kept, numbered_by, rows_behind, shallower, applied, Decides}
-use Rattle.sdf_reader.specs.ReaderStates.{Steps, OnTaken}
+use Rattle.token_texts.specs.Readings.{OnTaken}
+use Rattle.sdf_reader.specs.ReaderStates.{Steps}
 use Rattle.sdf_reader.specs.Sizes.{IsTimeWithin, IsValueWithin, IsRowWithin}
 use Rattle.sdf_reader.specs.declared.modes.Site.{Site}
 use Rattle.sdf_reader.specs.declared.modes.Step.{Step}

@@ -1,23 +1,28 @@
--- The tokens so far, and the state that the reader is in behind them.
-use Rattle.std.proofs.Common.{◌≡◌, ℕ, ◌+◌, ◌<◌, List, [], ◌∷◌, take, drop, None, Option, Result, Ok, Err, subst}
-use Rattle.std.specs.Prelude.{⊤}
+-- What the reader makes of the tokens, the bytes say.
+use Rattle.std.proofs.Common.{◌≡◌, ℕ, ◌+◌, List, length, Some, None, Option, Result, Ok, Err, IfOk, subst}
+use Rattle.edge_io.specs.declared.failures.OutOfMemory.{OutOfMemory}
 use Rattle.token_fronts.specs.Machine.{Stop, outcome}
 use Rattle.token_fronts.specs.ReadingLaw.{says_made, leaves_where_stopped, one_reading}
 use Rattle.token_fronts.specs.FrontLaw.{Fits, dead_token}
-use Rattle.token_texts.specs.SoFar as so_far
-use Rattle.token_texts.specs.declared.cuts.Cut.TheVariants.{Skip, Take}
+use Rattle.token_texts.specs.Readings.{Follows, MakesTokens, StopsTokens, IfRefused}
+use Rattle.token_texts.specs.declared.reading.ReadEnd.{ReadEnd}
+use Rattle.token_texts.specs.declared.reading.ReadEnd.TheVariants.{Refused}
+use Rattle.token_texts.specs.Leading.{leads_on, leads_to_stop}
 use Rattle.sdf_reader.specs.Tokens.{Lexeme, cut_at, AreTokens, IsToken}
 use Rattle.sdf_reader.specs.Grammar.{IsSdf}
 use Rattle.sdf_reader.specs.Numbers.{IsValue}
 use Rattle.sdf_reader.specs.Steps.{does}
-use Rattle.sdf_reader.specs.Modes.{State, first_state, applied, next, finish}
+use Rattle.sdf_reader.specs.Modes.{State, first_state, applied, next, finish, Decides}
 use Rattle.sdf_reader.specs.Causes.{IsFault}
-use Rattle.sdf_reader.specs.ReaderStates.{OnTaken}
+use Rattle.sdf_reader.specs.ReaderStates.{state_of, Steps}
+use Rattle.sdf_reader.specs.Leading.{Leads, Stops, Makes}
+use Rattle.sdf_reader.specs.declared.reader.Reader.{Reader}
+use Rattle.sdf_reader.specs.declared.rows.Value.{Value}
+use Rattle.sdf_reader.specs.declared.timescales.Timescale.{Timescale}
 use Rattle.sdf_reader.specs.Answers.{SaysRows}
 use Rattle.sdf_reader.specs.declared.scan.Kind.{Kind}
 use Rattle.sdf_reader.specs.declared.ends.SdfCause.{SdfCause}
 use Rattle.sdf_reader.specs.declared.rows.SdfRow.{SdfRow}
-use Rattle.sdf_reader.proofs.Within.{cut_within}
 use Rattle.sdf_reader.proofs.Parting.{one_parting}
 use Rattle.sdf_reader.proofs.Deciding.{deciding, decides}
 use Rattle.sdf_reader.proofs.Fitting.{fits}
@@ -45,53 +50,33 @@ fault_of bytes tokens stop parted e =
       nothing = leaves.nothing;
     }
 
-abbrev pub Made : List ℕ → Result (List SdfRow) (Stop State SdfCause) → Type 0
-Made bytes answer = so_far.Made cut_at (next deciding) finish first_state bytes answer
+-- what the loop over the tokens answers
+pub says : {bytes : List ℕ} {rows : List SdfRow} → MakesTokens cut_at Makes bytes rows → SaysRows bytes rows
+says {bytes} {rows} h = says_rows bytes h.tokens rows h.parted (h.made deciding decides)
 
-abbrev pub ReadTo : List ℕ → List ℕ → ℕ → State → Type 0
-ReadTo bytes rest number state = so_far.ReadTo cut_at (next deciding) finish first_state bytes rest number state
+is_fault : {bytes : List ℕ} {number : ℕ} {cause : SdfCause} → StopsTokens cut_at Stops bytes number cause → IsFault bytes number cause
+is_fault {bytes} {number} {cause} h =
+    let stop = h.stops deciding decides in
+    fault_of bytes h.tokens (record { number = number; state = stop.0; cause = cause }) h.parted stop.1
 
-says_made_rows : {bytes : List ℕ} {rows : List SdfRow} → Made bytes (Ok rows) → SaysRows bytes rows
-says_made_rows {bytes} {rows} made = says_rows bytes made.tokens rows made.parted made.made
-
-fault_made : {bytes : List ℕ} (stop : Stop State SdfCause) → Made bytes (Err stop) → IsFault bytes stop.number stop.cause
-fault_made {bytes} stop made = fault_of bytes made.tokens stop made.parted made.made
-
-pub nothing_read : (bytes : List ℕ) → ReadTo bytes bytes 1 first_state
-nothing_read bytes = so_far.nothing_read cut_at (next deciding) finish first_state bytes
-
-pub skips : {bytes others : List ℕ} {number : ℕ} {state : State} (rest : List ℕ) (first : ℕ) (after : List ℕ) (n : ℕ)
-    → ReadTo bytes rest number state → rest ≡ first ∷ after → cut_at first after ≡ Skip n → others ≡ drop n rest → ReadTo bytes others number state
-skips rest first after n h split cut back = so_far.skips cut_at (next deciding) finish first_state rest first after n h split cut back
-
--- what a token of these bytes does, in a state
-abbrev pub Does : State → Kind → List ℕ → Result State SdfCause → Type 0
-Does state kind token answer = applied deciding (does state.mode kind token) state token ≡ answer
-
-pub takes : {bytes others token : List ℕ} {number : ℕ} {state : State} (rest : List ℕ) (first : ℕ) (after : List ℕ) (n : ℕ) (kind : Kind) (now : State)
-    → ReadTo bytes rest number state → rest ≡ first ∷ after → cut_at first after ≡ Take n kind → 0 < n → token ≡ take n rest → others ≡ drop n rest
-    → Does state kind token (Ok now) → ReadTo bytes others (number + 1) now
-takes rest first after n kind now h split cut some raw back moves = so_far.takes cut_at (next deciding) finish first_state rest first after n kind now h split cut some raw back moves
-
-pub refuses : {bytes token : List ℕ} {number : ℕ} {state : State} (rest : List ℕ) (first : ℕ) (after : List ℕ) (n : ℕ) (kind : Kind) (cause : SdfCause)
-    → ReadTo bytes rest number state → rest ≡ first ∷ after → cut_at first after ≡ Take n kind → token ≡ take n rest
-    → Does state kind token (Err cause) → IsFault bytes number cause
-refuses {number = number} {state = state} rest first after n kind cause h split cut raw refusal =
-    fault_made (record { number = number; state = state; cause = cause })
-    (so_far.refuses cut_at (next deciding) finish first_state cut_within rest first after n kind cause h split cut raw refusal)
-
--- where no bytes are left
-pub says : {bytes : List ℕ} {number : ℕ} {state : State} (rest : List ℕ) (rows : List SdfRow) → ReadTo bytes rest number state → rest ≡ [] → finish state ≡ Ok rows → SaysRows bytes rows
-says rest rows h none e = says_made_rows (so_far.ends cut_at (next deciding) finish first_state rest (Ok rows) h none e)
-
-pub lacks : {bytes : List ℕ} {number : ℕ} {state : State} (rest : List ℕ) (cause : SdfCause) → ReadTo bytes rest number state → rest ≡ [] → finish state ≡ Err cause → IsFault bytes number cause
-lacks {number = number} {state = state} rest cause h none e =
-    fault_made (record { number = number; state = state; cause = cause }) (so_far.ends cut_at (next deciding) finish first_state rest (Err cause) h none e)
+pub refused : {bytes : List ℕ} {number : ℕ} {cause : SdfCause} (end : ReadEnd SdfCause) → end ≡ Refused number cause → IfRefused {A = List SdfRow} (Err end) (StopsTokens cut_at Stops bytes) → IsFault bytes number cause
+refused {bytes} end is h = is_fault (subst (λ (e : ReadEnd SdfCause). IfRefused {A = List SdfRow} (Err e) (StopsTokens cut_at Stops bytes)) is h)
 
 -- bytes say one list of rows at most
 pub one_rows : (bytes : List ℕ) (some other : List SdfRow) → SaysRows bytes some → SaysRows bytes other → some ≡ other
 one_rows bytes some other says others = one_reading AreTokens IsToken IsSdf (next deciding) finish first_state fitting one_parting bytes some other says others
 
--- what is so where a token is taken, which is
-pub where_taken : (fact : Type 0) (refusal : Option SdfCause) → refusal ≡ None → OnTaken {E = ⊤} (Ok refusal) fact → fact
-where_taken fact refusal is holds = subst (λ (o : Option SdfCause). OnTaken {E = ⊤} (Ok o) fact) is holds
+-- a token of these bytes is taken, or refused, behind those before it
+follows : (before : List Lexeme) (number : ℕ) (k : Kind) (bytes : List ℕ) (reader after : Reader) (refusal : Option SdfCause)
+    → ((find : Timescale → List ℕ → Option Value) → Decides IsValue find → Steps (applied find (does reader.mode k bytes) (state_of reader) bytes) (state_of after) refusal)
+    → number ≡ length before + 1 → Leads before reader → Follows Leads Stops before number k bytes after refusal
+follows before number k bytes reader after None steps count leads =
+    λ find decides. leads_on (next find) finish first_state before number (state_of reader) (state_of after) (record { kind = k; bytes = bytes }) count (leads find decides) (steps find decides)
+follows before number k bytes reader after (Some cause) steps count leads =
+    λ more find decides. leads_to_stop (next find) finish first_state before more number (state_of reader) (record { kind = k; bytes = bytes }) cause count (leads find decides) (steps find decides)
+
+pub taken : (before : List Lexeme) (number : ℕ) (k : Kind) (bytes : List ℕ) (reader after : Reader) (answer : Result (Option SdfCause) OutOfMemory)
+    → ((find : Timescale → List ℕ → Option Value) → Decides IsValue find → IfOk answer (Steps (applied find (does reader.mode k bytes) (state_of reader) bytes) (state_of after)))
+    → number ≡ length before + 1 → Leads before reader → IfOk answer (Follows Leads Stops before number k bytes after)
+taken before number k bytes reader after (Ok refusal) steps count leads = follows before number k bytes reader after refusal steps count leads
+taken before number k bytes reader after (Err end) steps count leads = tt

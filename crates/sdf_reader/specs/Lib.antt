@@ -13,3 +13,5 @@ pub mod ScalePlaces
 pub mod Steps
 pub mod Modes
 pub mod ReaderStates
+pub mod Leading
+pub mod Within

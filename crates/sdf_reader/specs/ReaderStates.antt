@@ -1,5 +1,5 @@
 -- What the reader stands for.
-use Rattle.std.specs.Prelude.{◌≡◌, List, Option, Some, None, Result, Ok, Err, ⊤}
+use Rattle.std.specs.Prelude.{◌≡◌, List, Option, Some, None, Result, Ok, Err}
 use Rattle.sdf_reader.specs.Modes.{State}
 use Rattle.sdf_reader.specs.declared.rows.SdfRow.{SdfRow}
 use Rattle.sdf_reader.specs.declared.ends.SdfCause.{SdfCause}
@@ -27,9 +27,3 @@ Steps answer after (Some cause) = answer ≡ Err cause
 abbrev pub Finishes : Result (List SdfRow) SdfCause → Option (List SdfRow) → Type 0
 Finishes answer (Some rows) = answer ≡ Ok rows
 Finishes answer None = answer ≡ Err EndInside
-
--- where the token is taken, it is so
-abbrev pub OnTaken : {E : Type 0} → Result (Option SdfCause) E → Type 0 → Type 0
-OnTaken (Ok None) fact = fact
-OnTaken (Ok (Some cause)) fact = ⊤
-OnTaken (Err end) fact = ⊤

@@ -6,7 +6,11 @@ ghost use Rattle.sdf_reader.specs.Sizes.{IsValueWithin};
 ghost use Rattle.sdf_reader.specs.Grammar.{instance_of};
 ghost use Rattle.sdf_reader.specs.Steps.{does};
 ghost use Rattle.sdf_reader.specs.Modes.{first_state, in_instance, begun, with_entry, with_value, with_rows, shallower, numbered_by, applied, finish, Decides};
-ghost use Rattle.sdf_reader.specs.ReaderStates.{state_of, Steps, Finishes, OnTaken};
+ghost use Rattle.sdf_reader.specs.ReaderStates.{state_of, Steps};
+ghost use Rattle.token_texts.specs.Readings.{OnTaken};
+ghost use Rattle.sdf_reader.specs.Tokens.{cut_at};
+ghost use Rattle.sdf_reader.specs.Leading.{Leads, Stops, Makes, IsSound};
+ghost use Rattle.sdf_reader.specs.Within.{cut_within};
 ghost use Rattle.sdf_reader.specs.declared.rows.Value.{Value};
 ghost use Rattle.sdf_reader.specs.declared.timescales.Timescale.{Timescale};
 
@@ -14,13 +18,14 @@ use crate::ends::SdfCause;
 use crate::modes::{Mode, Shape, Site, Step};
 use crate::numbers::value_of;
 use crate::rows::{SdfRow, SdfRows, Value};
-use crate::scan::Kind;
+use crate::scan::{Kind, cut_at};
 use crate::texts::meaning;
 use crate::timescales::Timescale;
 use edge_io::{OutOfMemory, Text};
 use name_table::canonical_sdf;
 use std::alloc::Global;
 use std::mem;
+use token_texts::{Cut, TokenReader};
 
 /// A value without a number.
 const NO_VALUE: Value = Value {
@@ -263,7 +268,7 @@ impl Reader {
     }
 
     /// Takes the token of this kind and of these bytes, or says why it cannot stand here.
-    pub(crate) fn take(&mut self, kind: Kind, bytes: &[u8]) -> Result<Option<SdfCause>, OutOfMemory>
+    fn take_token(&mut self, kind: Kind, bytes: &[u8]) -> Result<Option<SdfCause>, OutOfMemory>
         requires depth { self.old.depth < 2 ^ 42 }
         requires room { length self.old.rows + 1 < 2 ^ 32 }
         requires rise { IsValueWithin self.old.rise }
@@ -277,16 +282,47 @@ impl Reader {
         let step = self.mode.next(kind, bytes);
         self.step(step, bytes)
     }
+}
 
-    /// What has been read, where the file may end.
-    pub(crate) fn finish(self) -> Option<SdfRows>
-        ensures { Finishes (finish (state_of self)) result }
-    {
+impl TokenReader for Reader {
+    type Kind = Kind;
+
+    type Value = SdfRows;
+
+    type Cause = SdfCause;
+
+    ghost cut_at = { cut_at };
+
+    ghost IsSound = { IsSound };
+
+    ghost Leads = { Leads };
+
+    ghost Stops = { Stops };
+
+    ghost Makes = { Makes };
+
+    #[inline]
+    fn cut(bytes: &[u8], first: u8, rest: &[u8]) -> Cut<Kind> {
+        cut_at(bytes, first, rest)
+    }
+
+    fn take(
+        &mut self,
+        _number: u64,
+        kind: Kind,
+        bytes: &[u8],
+    ) -> Result<Option<SdfCause>, OutOfMemory> {
+        self.take_token(kind, bytes)
+    }
+
+    fn finish(self) -> Result<SdfRows, SdfCause> {
         match self.mode {
-            Mode::End => Some(self.rows),
-            _ => None,
+            Mode::End => Ok(self.rows),
+            _ => Err(SdfCause::EndInside),
         }
     }
+
+    ghost within = { cut_within };
 }
 
 /// A name in an instance: the instance, `/` and the name, or the name alone where the instance is empty.

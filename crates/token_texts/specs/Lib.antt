@@ -4,10 +4,11 @@ pub mod Comments
 pub mod Quoted
 pub mod Runs
 pub mod Cuts
+pub mod Readings
 pub mod ByteLemmas
 pub mod Searching
 pub mod CommentLemmas
 pub mod QuotedLemmas
 pub mod RunLemmas
 pub mod CutLemmas
-pub mod SoFar
+pub mod Leading

@@ -2,7 +2,7 @@
 use Rattle.sdf_reader.specs.ReaderStates.{state_of}
 use Rattle.sdf_reader.proofs.Deciding.{deciding, decides}
 use Rattle.sdf_reader.proofs.SizeLemmas.{taken_fits}
-use Rattle.sdf_reader.proofs.reader.Reader.take.Goals as goal
+use Rattle.sdf_reader.proofs.reader.Reader.take_token.Goals as goal
 
 pub returns-clause-rise : goal.returns-clause-rise
 returns-clause-rise c =

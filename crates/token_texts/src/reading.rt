@@ -1,0 +1,95 @@
+//! One loop over the tokens of a text.
+ghost use Rattle.std.specs.Prelude.{◌≡◌, ℕ, ◌+◌, ◌<◌, ◌^◌, ◌∷◌, [], List, length, IfOk};
+ghost use Rattle.token_texts.specs.Cuts.{Lexeme, IsWithin};
+ghost use Rattle.token_texts.specs.Readings.{Follows, OnTaken, Finishes, MakesTokens, StopsTokens, IfRefused};
+ghost use Rattle.token_texts.specs.declared.cuts.Cut.{Cut};
+
+use crate::cuts::Cut;
+use edge_io::OutOfMemory;
+
+/// Why a text is not read.
+#[derive(Drop)]
+pub enum ReadEnd<C> {
+    /// The token of this number, from 1, cannot stand where it stands; one past the last, the text cannot end there.
+    Refused(u64, C),
+    OutOfMemory,
+}
+
+/// A grammar over tokens, as a machine that takes one at a time.
+pub trait TokenReader: Drop {
+    type Kind: Copy;
+
+    type Value;
+
+    type Cause: Drop;
+
+    /// What stands at the front of a first byte and those behind it.
+    ghost cut_at: { ℕ → List ℕ → Cut Self.Kind };
+
+    /// What is so of the machine where the next token has this number.
+    ghost IsSound: { ℕ → Self → Type 0 };
+
+    /// These tokens lead to the machine.
+    ghost Leads: { List (Lexeme Self.Kind) → Self → Type 0 };
+
+    /// These tokens are refused at the token of this number.
+    ghost Stops: { List (Lexeme Self.Kind) → ℕ → Self.Cause → Type 0 };
+
+    /// These tokens say the value.
+    ghost Makes: { List (Lexeme Self.Kind) → Self.Value → Type 0 };
+
+    fn cut(bytes: &[u8], first: u8, rest: &[u8]) -> Cut<Self::Kind>
+        requires parts { bytes.now ≡ first ∷ rest.now }
+        requires bytes { length bytes.now < 2 ^ 32 }
+        ensures value { result ≡ cut_at first rest.now }
+        ensures within { IsWithin (length bytes.now) result };
+
+    fn take(
+        &mut self,
+        number: u64,
+        kind: Self::Kind,
+        bytes: &[u8],
+    ) -> Result<Option<Self::Cause>, OutOfMemory>
+        requires number { number < 2 ^ 32 }
+        requires sound { IsSound number self.old }
+        ensures sound { OnTaken result (IsSound (number + 1) self.new) }
+        ensures state { (before : List (Lexeme Self.Kind)) → number ≡ length before + 1 → Leads before self.old → IfOk result (Follows Leads Stops before number kind bytes.now self.new) };
+
+    fn finish(self) -> Result<Self::Value, Self::Cause>
+        ensures state { (before : List (Lexeme Self.Kind)) → Leads before self → Finishes Makes Stops before result };
+
+    /// Each cut takes a byte, and none past the end.
+    ghost within: { (first : ℕ) (rest : List ℕ) → IsWithin (length rest + 1) (cut_at first rest) };
+}
+
+/// Reads a text.
+pub fn read_tokens<R: TokenReader>(first: R, bytes: &[u8]) -> Result<R::Value, ReadEnd<R::Cause>>
+    requires bytes { length bytes.now < 2 ^ 32 }
+    requires sound { R.IsSound 1 first }
+    requires leads { R.Leads [] first }
+    ensures ok { IfOk result (λ value. MakesTokens R.cut_at R.Makes bytes.now value) }
+    ensures fault { IfRefused result (StopsTokens R.cut_at R.Stops bytes.now) }
+{
+    let mut reader = first;
+    let mut number = 1;
+    let mut rest = bytes;
+    while let [byte, behind @ ..] = rest {
+        match R::cut(rest, *byte, behind) {
+            Cut::Skip(count) => rest = rest.split_at(count).1,
+            Cut::Take(count, kind) => {
+                let (token, others) = rest.split_at(count);
+                match reader.take(number, kind, token) {
+                    Ok(None) => {}
+                    Ok(Some(cause)) => return Err(ReadEnd::Refused(number, cause)),
+                    Err(_) => return Err(ReadEnd::OutOfMemory),
+                }
+                number += 1;
+                rest = others;
+            }
+        }
+    }
+    match reader.finish() {
+        Ok(value) => Ok(value),
+        Err(cause) => Err(ReadEnd::Refused(number, cause)),
+    }
+}
