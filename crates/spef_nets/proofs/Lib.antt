@@ -16,7 +16,6 @@ pub mod Referring
 pub mod ResStepping
 pub mod RowLemmas
 pub mod Samples
-pub mod ShortLemmas
 pub mod Stepping
 pub mod ValuePoints
 pub mod NodeNameLemmas

@@ -10,7 +10,6 @@ pub mod NodeKeys
 pub mod RefsOf
 pub mod Drafts
 pub mod DraftOf
-pub mod ShortLiterals
 pub mod Reading
 pub mod NodeNames
 pub mod ElementsOf

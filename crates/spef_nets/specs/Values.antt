@@ -3,7 +3,7 @@ use Rattle.std.specs.Prelude.{ℕ, ℤ, pos, ◌+◌, ◌≤◌, ◌<ℤ◌, Lis
 use Rattle.corner_set.specs.declared.pick.Pick.{Pick}
 use Rattle.corner_set.specs.declared.pick.Pick.TheVariants.{Min, Typ, Max}
 use Rattle.delay_units.specs.Literal.{IsNumber}
-use Rattle.delay_units.specs.Reading.{IsReading}
+use Rattle.delay_units.specs.Reading.{ReadsAs}
 use Rattle.delay_units.specs.declared.numbers.Decimal.{Decimal}
 use Rattle.delay_units.specs.declared.numbers.Unit.{Unit}
 use Rattle.spef_text.specs.Classes.{is_colon}
@@ -38,12 +38,6 @@ abbrev pub picked : Pick → Triple → List ℕ
 picked Min triple = triple.min
 picked Typ triple = triple.typ
 picked Max triple = triple.max
-
--- the text is a number that is read, and v its rounded reading in the unit
-pub record ReadsAs (unit : Unit) (text : List ℕ) (v : ℤ) : Type 0 where
-  pub number : Decimal
-  pub reads : IsNumber text number
-  pub rounded : IsReading number unit v
 
 -- a member that is good: it has so many grains, and no more than are taken
 pub record IsAmount (unit : Unit) (most : ℕ) (text : List ℕ) (grains : ℕ) : Type 0 where

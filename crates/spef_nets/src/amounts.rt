@@ -1,12 +1,11 @@
 //! A value of a SPEF file: its members, and how many grains each of them is.
-ghost use Rattle.std.specs.Prelude.{◌≡◌, ◌+◌, ℕ, ◌≤◌, ◌<◌, ◌^◌, ℤ, pos, ◌≤ℤ◌, ◌<ℤ◌, unsigned_abs, length, position, IfOk, IfErr, IfSome, IfNone};
+ghost use Rattle.std.specs.Prelude.{◌≡◌, ◌+◌, ℕ, ◌<◌, length, position, IfOk, IfErr, IfSome};
 ghost use Rattle.spef_text.specs.Classes.{is_colon};
 ghost use Rattle.delay_units.specs.declared.numbers.Unit.{Unit};
-ghost use Rattle.spef_nets.specs.Values.{Triple, single, triple_of, triple_behind, triple_at, picked, ReadsAs, IsAmount, IsAmountFault, is_bad, IsTripleFault, IsValueFault, AreGrains, grains_at};
+ghost use Rattle.spef_nets.specs.Values.{Triple, single, triple_of, triple_behind, triple_at, picked, IsAmount, IsAmountFault, is_bad, IsTripleFault, IsValueFault, AreGrains, grains_at};
 
-use crate::short_literals::read_short;
 use corner_set::Pick;
-use delay_units::{Decimal, Unit, read_decimal, scale};
+use delay_units::{Amount, Unit, read_amount};
 use std::marker::Model;
 
 /// Why a member of a value is refused.
@@ -58,105 +57,18 @@ fn members_behind<'a>(min: &'a [u8], rest: &'a [u8]) -> Members<'a>
     }
 }
 
-// The most grains, as a number with a sign.
-fn limit(most: u64) -> i128
-    ensures { result ≡ pos most }
-{
-    most as i128
-}
-
-// A number of grains that is not below 0.
-fn natural(grains: i128) -> Option<u64>
-    requires { unsigned_abs grains < 2 ^ 64 }
-    ensures some { IfSome result (λ natural. pos natural ≡ grains) }
-    ensures none { IfNone result (grains <ℤ pos 0) }
-{
-    if grains < 0 {
-        None
-    } else {
-        Some(grains as u64)
-    }
-}
-
-// What a number is refused for whose reading is past the bound in size.
-fn fault_past(number: &Decimal) -> AmountFault
-    ensures below { number.now.digits <ℤ pos 0 → result ≡ AmountFault.BadNumber }
-    ensures above { pos 0 ≤ℤ number.now.digits → result ≡ AmountFault.ValueTooLarge }
-{
-    if number.digits < 0 {
-        AmountFault::BadNumber
-    } else {
-        AmountFault::ValueTooLarge
-    }
-}
-
-// A unit's exponent, if it is not below 0.
-fn exponent_of(unit: &Unit) -> Option<u32>
-    ensures { IfSome result (λ exponent. unit.now.exponent ≡ pos exponent) }
-{
-    if unit.exponent < 0 {
-        None
-    } else {
-        Some(unit.exponent as u32)
-    }
-}
-
-// By which power of ten digits count in the unit of which so many stand behind the point, if they leave no fraction.
-fn power_behind(unit: &Unit, places: u32) -> Option<u32>
-    ensures exact { IfSome result (λ power. unit.now.exponent ≡ pos (places + power)) }
-    ensures small { IfSome result (λ power. power ≤ 18) }
-{
-    let power = exponent_of(unit)?.checked_sub(places)?;
-    if power > 18 { None } else { Some(power) }
-}
-
-// The reading of a short literal, where it needs no rounding: nothing for other texts. Most values are such, and this takes a
-// third of the time.
-fn short_reading(unit: &Unit, text: &[u8]) -> Option<u64>
-    ensures { IfSome result (λ grains. ReadsAs unit.now text.now (pos grains)) }
-{
-    let short = read_short(text)?;
-    let power = power_behind(unit, short.places)?;
-    let product = short.digits.checked_mul(unit.mantissa as u64)?;
-    product.checked_mul(10u64.pow(power))
-}
-
-fn at_most(most: u64, grains: u64) -> Result<u64, AmountFault>
-    ensures ok { IfOk result (λ value. (value ≡ grains) × (grains ≤ most)) }
-    ensures err { IfErr result (λ fault. (fault ≡ AmountFault.ValueTooLarge) × (most < grains)) }
-{
-    if grains <= most {
-        Ok(grains)
-    } else {
-        Err(AmountFault::ValueTooLarge)
-    }
-}
-
 /// The rounded reading of one member, from 0 to `most` grains.
+#[inline]
+#[tactic(auto, using(crate::proofs::AmountLemmas::good, crate::proofs::AmountLemmas::large))]
 pub fn amount(unit: &Unit, most: u64, text: &[u8]) -> Result<u64, AmountFault>
     ensures ok { IfOk result (IsAmount unit.now most text.now) }
     ensures err { IfErr result (IsAmountFault unit.now most text.now) }
 {
-    match short_reading(unit, text) {
-        Some(grains) => at_most(most, grains),
-        None => any_amount(unit, most, text),
-    }
-}
-
-// The same, for each literal.
-fn any_amount(unit: &Unit, most: u64, text: &[u8]) -> Result<u64, AmountFault>
-    ensures ok { IfOk result (IsAmount unit.now most text.now) }
-    ensures err { IfErr result (IsAmountFault unit.now most text.now) }
-{
-    let Ok(number) = read_decimal(text) else {
-        return Err(AmountFault::BadNumber);
-    };
-    match scale(&number, unit, limit(most)) {
-        Some(grains) => match natural(grains) {
-            Some(grains) => Ok(grains),
-            None => Err(AmountFault::BadNumber),
-        },
-        None => Err(fault_past(&number)),
+    match read_amount(unit, most, text) {
+        Amount::Unread => Err(AmountFault::BadNumber),
+        Amount::Below => Err(AmountFault::BadNumber),
+        Amount::Within(grains) => Ok(grains),
+        Amount::Past => Err(AmountFault::ValueTooLarge),
     }
 }
 

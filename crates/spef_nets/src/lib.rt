@@ -21,7 +21,6 @@ mod section_lists;
 mod section_reader;
 mod section_reading;
 mod sections;
-mod short_literals;
 mod source;
 mod spelled_section;
 mod spellings;

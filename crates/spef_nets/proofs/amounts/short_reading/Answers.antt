@@ -1,9 +1,0 @@
--- The product that fits is the reading.
-use Rattle.std.proofs.Common.{◌≡◌, ◌*◌, rules}
-use Rattle.spef_nets.proofs.ShortLemmas.{short_product}
-use Rattle.spef_nets.proofs.amounts.short_reading.Goals as goal
-
-pub returns : goal.returns
-returns c =
-    let product : c.in_ok-product.product ≡ c.in_ok-short.short.digits * c.args.unit.now.mantissa = search rules in
-    short_product c.args.unit.now c.args.text.now c.in_ok-short.short c.in_ok-power.power c.in_ok-product.product c.pow.result c.checked_mul-2.result _ c.in_ok-short.ensures c.in_ok-power.ensures.exact product c.pow.ensures c.checked_mul-2.ensures
