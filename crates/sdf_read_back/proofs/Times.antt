@@ -12,7 +12,7 @@ use Rattle.delay_units.specs.declared.numbers.Decimal.{Decimal}
 use Rattle.delay_units.specs.declared.quantities.Femto.{Femto}
 use Rattle.delay_units.proofs.PowerLemmas.{ten_le}
 use Rattle.sdf_reader.specs.Numbers.{IsTime}
-use Rattle.sdf_reader.proofs.OneDecimal.{neg_times}
+use Rattle.delay_units.proofs.AnswerLemmas.{neg-product}
 use Rattle.sdf_read_back.proofs.Digits.{Writes, decimal_writes, last_write, last_are_digits, last_length, decimal_length, significant_fewer, strip}
 
 -- ---- signs
@@ -37,7 +37,7 @@ text_is time = by time.0
 signed_times : (s : Sign) (n q : ℕ) → signed s n *ℤ pos q ≡ signed s (n * q)
 signed_times unsigned n q = pos-*ℤ-pos n q
 signed_times plus n q = pos-*ℤ-pos n q
-signed_times minus n q = neg_times n q
+signed_times minus n q = neg-product n q
 
 signed_size : (s : Sign) (n : ℕ) → unsigned_abs (signed s n) ≡ n
 signed_size unsigned n = refl

@@ -13,8 +13,8 @@ use Rattle.sdf_reader.specs.Numbers.{IsTime, IsMember, left_out, member, AreMemb
 use Rattle.sdf_reader.specs.Modes.{Decides}
 use Rattle.sdf_reader.specs.declared.rows.Value.{Value}
 use Rattle.sdf_reader.specs.declared.timescales.Timescale.{Timescale}
-use Rattle.sdf_reader.proofs.NormalNumbers.{Decision, found, none, decide_number}
-use Rattle.sdf_reader.proofs.OneDecimal.{one_decimal}
+use Rattle.delay_units.proofs.NormalNumbers.{Decision, found, none, decide_number}
+use Rattle.delay_units.proofs.OneDecimal.{one_decimal}
 use Rattle.sdf_reader.proofs.OneValue.{one_power, one_word_value}
 use Rattle.sdf_reader.proofs.ValueLemmas.{no_triple, no_member, none_single, none_behind, none_triple, triple_made}
 

@@ -3,9 +3,6 @@ pub mod Saying
 pub mod ScaleWords
 pub mod ScaleTexts
 pub mod Finding
-pub mod OneDecimal
-pub mod LiteralShape
-pub mod NormalNumbers
 pub mod NumberLemmas
 pub mod ValueLemmas
 pub mod Living

@@ -10,7 +10,7 @@ use Rattle.delay_units.specs.declared.numbers.NumberFault.{NumberFault}
 use Rattle.delay_units.specs.declared.numbers.NumberFault.TheVariants.{NotANumber, TooManyDigits, ExponentTooLarge}
 use Rattle.delay_units.specs.declared.quantities.Femto.{Femto}
 use Rattle.sdf_reader.specs.Numbers.{IsTime}
-use Rattle.sdf_reader.proofs.OneDecimal.{one_decimal}
+use Rattle.delay_units.proofs.OneDecimal.{one_decimal}
 
 times_one : (n : ℤ) → n *ℤ pos 1 ≡ n
 times_one n = omega (arith, ints)

@@ -9,7 +9,7 @@ use Rattle.sdf_reader.specs.Timescales.{power_of}
 use Rattle.sdf_reader.specs.Numbers.{IsTime, IsMember, left_out, member, AreMembers, single_value, IsValue, single, triple, HasNoColon}
 use Rattle.sdf_reader.specs.declared.rows.Value.{Value}
 use Rattle.sdf_reader.specs.declared.timescales.Timescale.{Timescale}
-use Rattle.sdf_reader.proofs.OneDecimal.{one_decimal}
+use Rattle.delay_units.proofs.OneDecimal.{one_decimal}
 use Rattle.sdf_reader.proofs.ValueLemmas.{member_has_none, one_split, colon_inside, no_time}
 
 pub one_power : (n power v w : ℤ) → IsRoundedPower n power v → IsRoundedPower n power w → v ≡ w
