@@ -2,7 +2,5 @@
 #![tactic(auto)]
 
 mod laws;
-#[cfg(test)]
-mod tests;
 
 pub use laws::{nodes_settle, read_back, settled_read_back, well_spelled_nodes};
