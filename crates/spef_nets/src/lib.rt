@@ -24,8 +24,6 @@ mod sections;
 mod source;
 mod spelled_section;
 mod spellings;
-#[cfg(test)]
-mod tests;
 
 pub use ends::SectionEnd;
 pub use laws::{computed_names, first_is_least, one_section_end};

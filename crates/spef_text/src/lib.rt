@@ -32,6 +32,3 @@ pub use head_laws::{map_in_order, one_head_end};
 pub use laws::{one_dead_token, one_spef, one_tokens, sections_in_order, token_texts};
 pub use parsing::{SpefEnd, parse};
 pub use references::ResolveEnd;
-
-#[cfg(test)]
-mod tests;

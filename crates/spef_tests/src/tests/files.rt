@@ -4,9 +4,9 @@ ghost use Rattle.std.specs.Prelude.{◌<◌, ◌^◌, length};
 use super::accepted_files::ACCEPTED;
 use super::refused_files::{
     REFUSED_IN_A_NET, REFUSED_IN_CONNECTIONS, REFUSED_IN_ENTRIES, REFUSED_IN_MARKS,
-    REFUSED_IN_THE_HEAD, Refusal,
+    REFUSED_IN_THE_HEAD,
 };
-use crate::{Cap, Conn, Res, SpefEnd, parse};
+use spef_text::{Cap, Conn, Res, SpefEnd, parse};
 use std::alloc::Global;
 use std::test::Fail;
 
@@ -30,43 +30,20 @@ fn refuses(alloc: Global, bytes: &[u8], at: u64, by: &[u8]) -> bool
     }
 }
 
-/// The first row that is answered in another way.
-fn first_wrong<'a>(alloc: Global, rows: &'a [Refusal<'a>]) -> Option<&'a [u8]> {
-    for row in rows {
-        if row.0.len() >= 1 << 20 || !refuses(alloc, row.0, row.1, row.2) {
-            return Some(row.0);
+#[test]
+fn files_are_refused(rt: HostRuntime) -> Result<(), Fail> {
+    for rows in [
+        REFUSED_IN_MARKS.as_slice(),
+        REFUSED_IN_THE_HEAD.as_slice(),
+        REFUSED_IN_A_NET.as_slice(),
+        REFUSED_IN_CONNECTIONS.as_slice(),
+        REFUSED_IN_ENTRIES.as_slice(),
+    ] {
+        for (bytes, token, word) in rows {
+            assert!(rt; bytes.len() < 1 << 20);
+            assert!(rt; refuses(rt.alloc(), bytes, *token, word), "{bytes:?}");
         }
     }
-    None
-}
-
-#[test]
-fn refuses_in_marks(rt: HostRuntime) -> Result<(), Fail> {
-    assert!(rt; first_wrong(rt.alloc(), &REFUSED_IN_MARKS).is_none());
-    Ok(())
-}
-
-#[test]
-fn refuses_in_the_head(rt: HostRuntime) -> Result<(), Fail> {
-    assert!(rt; first_wrong(rt.alloc(), &REFUSED_IN_THE_HEAD).is_none());
-    Ok(())
-}
-
-#[test]
-fn refuses_in_a_net(rt: HostRuntime) -> Result<(), Fail> {
-    assert!(rt; first_wrong(rt.alloc(), &REFUSED_IN_A_NET).is_none());
-    Ok(())
-}
-
-#[test]
-fn refuses_in_connections(rt: HostRuntime) -> Result<(), Fail> {
-    assert!(rt; first_wrong(rt.alloc(), &REFUSED_IN_CONNECTIONS).is_none());
-    Ok(())
-}
-
-#[test]
-fn refuses_in_entries(rt: HostRuntime) -> Result<(), Fail> {
-    assert!(rt; first_wrong(rt.alloc(), &REFUSED_IN_ENTRIES).is_none());
     Ok(())
 }
 

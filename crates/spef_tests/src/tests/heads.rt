@@ -2,10 +2,10 @@
 //! and those that surprise were worked by hand.
 ghost use Rattle.std.specs.Prelude.{◌<◌, ◌^◌, length};
 
-use crate::{HeadEnd, ResolveEnd, parse, read_head};
 use delay_units::Unit;
 use edge_io::Text;
 use name_table::NodeName;
+use spef_text::{HeadEnd, ResolveEnd, parse, read_head};
 use std::alloc::Global;
 use std::test::Fail;
 
