@@ -5,12 +5,6 @@
 mod corners;
 mod passes;
 mod rounded;
-#[cfg(test)]
-mod tests;
-#[cfg(test)]
-mod tree_tests;
-#[cfg(test)]
-mod triple_tests;
 
 pub use corners::elmore_into;
 pub use rounded::{sink_atto, sink_femto};

@@ -24,8 +24,6 @@ mod pins;
 mod planting;
 mod scratch;
 mod searching;
-#[cfg(test)]
-mod tests;
 mod threads;
 mod tree;
 mod workspace;

@@ -1,65 +1,15 @@
-//! Nets of small files. The expected answers were worked by hand.
-ghost use Rattle.std.specs.Prelude.{◌≡◌, ◌<◌, ◌^◌, length, None, IfSome};
+//! How nets of small files become trees, or why they do not. The expected answers were worked by hand.
+ghost use Rattle.std.specs.Prelude.{◌≡◌, ◌<◌};
 
-use crate::{PinLoads, RcTree, TreeEnd, Workspace, build, build_listed};
-use corner_set::{Grid, Pick, Single};
-use delay_units::Farads;
-use edge_io::{Steps, Text};
-use name_table::NodeName;
-use spef_nets::{Section, Sections, read_sections};
-use spef_text::{parse, read_head};
+use super::nets::{nets_of, pins};
+use corner_set::Single;
+use edge_io::Steps;
+use rc_tree::{RcTree, TreeEnd, Workspace, build, build_listed};
+use spef_nets::Section;
 use std::alloc::Global;
 use std::marker::Brand;
 use std::sync::ledger::{Blank, Ledger};
 use std::test::Fail;
-
-/// The nets of a file.
-fn sections(alloc: Global, bytes: &[u8]) -> Option<Sections<Single>>
-    requires { length bytes.now < 2 ^ 30 }
-{
-    let Ok(file) = parse(alloc, bytes) else {
-        return None;
-    };
-    let Ok(head) = read_head(alloc, &file) else {
-        return None;
-    };
-    let Ok(sections) = read_sections::<Single>(alloc, &file, &head, Pick::Typ) else {
-        return None;
-    };
-    Some(sections)
-}
-
-/// A node without a tail.
-fn name(alloc: Global, word: &[u8]) -> Option<NodeName>
-    ensures head { IfSome result (λ name. name.head ≡ word.now) }
-    ensures tail { IfSome result (λ name. name.tail ≡ None) }
-{
-    Some(NodeName {
-        head: Text::from_bytes(alloc, word).ok()?,
-        tail: None,
-        sdf: Text::from_bytes(alloc, word).ok()?,
-    })
-}
-
-/// The driver `d`, and the sinks `s` and `t` with loads of 2 and 3 fF.
-fn pins(alloc: Global) -> Option<PinLoads<Single>>
-    ensures { IfSome result (λ pins. length pins.sinks ≡ 2) }
-{
-    let Ok(two) = Grid::<Single, Farads>::with_rows(alloc, 1, Farads(2_000_000)) else {
-        return None;
-    };
-    let Ok(three) = Grid::<Single, Farads>::with_rows(alloc, 1, Farads(3_000_000)) else {
-        return None;
-    };
-    let mut pins = PinLoads::<Single>::new(alloc, name(alloc, b"d")?);
-    let Ok(()) = pins.add(name(alloc, b"s")?, &two, 0) else {
-        return None;
-    };
-    let Ok(()) = pins.add(name(alloc, b"t")?, &three, 0) else {
-        return None;
-    };
-    Some(pins)
-}
 
 /// How the building of a net ends: 0 a tree, 1 a strange pin, 2 too large, 3 unreached, 4 a mesh, 5 no memory; and a number: of
 /// nodes, of the bytes of the name's head, or of the resistor.
@@ -107,10 +57,8 @@ fn listed_ending<L: Ledger>(
 }
 
 /// How the building of the first net of a file ends; 6 where there is none.
-fn end_of(alloc: Global, bytes: &[u8]) -> (u8, usize)
-    requires { length bytes.now < 2 ^ 30 }
-{
-    let Some(sections) = sections(alloc, bytes) else {
+fn end_of(alloc: Global, bytes: &[u8]) -> (u8, usize) {
+    let Some(sections) = nets_of::<Single>(alloc, bytes) else {
         return (6, 0);
     };
     if sections.len() == 0 {
@@ -119,10 +67,8 @@ fn end_of(alloc: Global, bytes: &[u8]) -> (u8, usize)
     ending::<Brand>(alloc, sections.get(0), Blank::new(1))
 }
 
-fn listed_end_of(alloc: Global, bytes: &[u8], driver: usize) -> (u8, usize)
-    requires { length bytes.now < 2 ^ 30 }
-{
-    let Some(sections) = sections(alloc, bytes) else {
+fn listed_end_of(alloc: Global, bytes: &[u8], driver: usize) -> (u8, usize) {
+    let Some(sections) = nets_of::<Single>(alloc, bytes) else {
         return (6, 0);
     };
     if sections.len() == 0 {

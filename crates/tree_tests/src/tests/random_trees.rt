@@ -2,31 +2,17 @@
 ghost use Rattle.std.specs.Prelude.{◌≡◌, ◌<◌};
 ghost use Rattle.corner_set.specs.Places.{HasRow};
 
-use crate::elmore_into;
-use crate::triple_tests::Triple;
-use corner_set::Pick;
+use super::nets::nets_of;
+use super::plain_sums::{Branch, Values, plain};
+use corner_set::{Pick, Triple};
 use edge_io::Steps;
+use elmore_pass::elmore_into;
 use rc_tree::{NodeId, Scratch, Workspace, build_listed};
-use spef_nets::{Section, Sections, read_sections};
-use spef_text::{parse, read_head};
+use spef_nets::Section;
 use std::alloc::{AllocError, Global};
 use std::marker::Brand;
 use std::sync::ledger::{Blank, Ledger};
 use std::test::Fail;
-
-/// One value a corner.
-type Values = [u64; 3];
-
-/// A node of a random tree: its parent, which comes before it, the resistance to it, its capacitance, and its load where it is
-/// a sink.
-#[derive(Clone, Copy)]
-struct Branch {
-    parent: usize,
-    ohms: Values,
-    farads: Values,
-    load: Values,
-    sink: bool,
-}
 
 /// Numbers that look random (a linear congruential generator; D. Knuth's multiplier for 64 bits).
 #[derive(Drop)]
@@ -98,7 +84,7 @@ fn caps(alloc: Global, text: &mut String, tree: &[Branch]) -> Result<(), AllocEr
 }
 
 /// The lines of the resistors, the last first, every other one from the node to its parent.
-fn ress(alloc: Global, text: &mut String, tree: &[Branch]) -> Result<(), AllocError> {
+fn resistors(alloc: Global, text: &mut String, tree: &[Branch]) -> Result<(), AllocError> {
     text.push_str("*RES\n")?;
     for place in 1..tree.len() {
         let node = tree.len() - place;
@@ -119,78 +105,9 @@ fn spef(alloc: Global, tree: &[Branch]) -> Result<String, AllocError> {
     let mut text = String::from_str(alloc, "*SPEF *C_UNIT 1 FF *R_UNIT 1 OHM *D_NET n 1\n")?;
     conns(alloc, &mut text, tree)?;
     caps(alloc, &mut text, tree)?;
-    ress(alloc, &mut text, tree)?;
+    resistors(alloc, &mut text, tree)?;
     text.push_str("*END\n")?;
     Ok(text)
-}
-
-/// The nets of a file at three corners.
-fn sections(alloc: Global, bytes: &[u8]) -> Option<Sections<Triple>> {
-    if bytes.len() >= 1 << 30 {
-        return None;
-    }
-    let Ok(file) = parse(alloc, bytes) else {
-        return None;
-    };
-    let Ok(head) = read_head(alloc, &file) else {
-        return None;
-    };
-    let Ok(sections) = read_sections::<Triple>(alloc, &file, &head, Pick::Typ) else {
-        return None;
-    };
-    Some(sections)
-}
-
-/// The parent of a node.
-fn up(tree: &[Branch], node: usize) -> usize {
-    match tree.get(node) {
-        Some(branch) => branch.parent,
-        None => 0,
-    }
-}
-
-/// Whether a node is on the way up from another.
-fn is_above(tree: &[Branch], node: usize, from: usize) -> bool {
-    let mut at = from;
-    for _ in 0..tree.len() {
-        if at == node {
-            return true;
-        }
-        at = up(tree, at);
-    }
-    false
-}
-
-/// The resistance that two nodes share, at a corner: that of each resistor on both ways up.
-fn shared(tree: &[Branch], one: usize, other: usize, corner: Pick) -> u128 {
-    let mut sum: u128 = 0;
-    for node in 1..tree.len() {
-        if is_above(tree, node, one) && is_above(tree, node, other) {
-            sum = sum.wrapping_add(at(tree[node].ohms, corner));
-        }
-    }
-    sum
-}
-
-fn at(values: Values, corner: Pick) -> u128 {
-    let [min, typ, max] = values;
-    match corner {
-        Pick::Min => min as u128,
-        Pick::Typ => typ as u128,
-        Pick::Max => max as u128,
-    }
-}
-
-/// The Elmore delay of a node at a corner, in units of 10^-27 s: the sum over all nodes of shared resistance times capacitance. An
-/// ohm times a femtofarad is 10^-15 s.
-fn plain(tree: &[Branch], node: usize, corner: Pick) -> u128 {
-    let mut sum: u128 = 0;
-    for other in 0..tree.len() {
-        let Branch { farads, load, .. } = tree[other];
-        let held = at(farads, corner).wrapping_add(at(load, corner));
-        sum = sum.wrapping_add(shared(tree, node, other, corner).wrapping_mul(held));
-    }
-    sum.wrapping_mul(1_000_000_000_000)
 }
 
 /// Whether a node has its plain delay at each corner, where it is a sink.
@@ -251,7 +168,7 @@ fn is_right(alloc: Global, tree: &[Branch]) -> bool {
     let Ok(text) = spef(alloc, tree) else {
         return false;
     };
-    let Some(sections) = sections(alloc, text.as_bytes()) else {
+    let Some(sections) = nets_of::<Triple>(alloc, text.as_bytes()) else {
         return false;
     };
     sections.len() == 1 && agrees::<Brand>(alloc, sections.get(0), tree, Blank::new(1))

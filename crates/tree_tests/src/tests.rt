@@ -1,0 +1,6 @@
+//! One module a subject.
+mod delays;
+mod endings;
+mod nets;
+mod plain_sums;
+mod random_trees;
