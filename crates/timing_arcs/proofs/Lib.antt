@@ -11,7 +11,6 @@ pub mod KeptLemmas
 pub mod ModelLemmas
 pub mod NameLemmas
 pub mod OneAnswer
-pub mod OneDecimal
 mod OneFault
 pub mod OneTable
 pub mod OneUnits

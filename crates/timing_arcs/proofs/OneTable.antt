@@ -17,7 +17,7 @@ use Rattle.timing_arcs.specs.declared.library_units.LibraryUnits.{LibraryUnits}
 use Rattle.timing_arcs.specs.declared.templates.Variables.{Variables}
 use Rattle.timing_arcs.specs.declared.faults.CellFault.{CellFault}
 use Rattle.timing_arcs.specs.declared.faults.CellFault.TheVariants.{UnknownTemplate, UnknownVariable, OutOfMemory}
-use Rattle.timing_arcs.proofs.OneDecimal.{one_decimal}
+use Rattle.delay_units.proofs.OneDecimal.{one_decimal}
 
 -- one reading of a piece, and of a list of them
 one_piece : (unit : Unit) (piece : List ℕ) (v w : ℤ) → IsReadingOf unit piece v → IsReadingOf unit piece w → v ≡ w

@@ -7,7 +7,7 @@ use Rattle.liberty_groups.specs.Groups.{Group}
 use Rattle.timing_arcs.specs.LibraryUnits.{IsTimeUnit, IsUnitOf, IsLoadUnit, AreUnits}
 use Rattle.timing_arcs.specs.declared.library_units.LibraryUnits.{LibraryUnits}
 use Rattle.timing_arcs.proofs.Fronts.{some_is}
-use Rattle.timing_arcs.proofs.OneDecimal.{one_decimal}
+use Rattle.delay_units.proofs.OneDecimal.{one_decimal}
 
 -- units are one where their numbers are
 unit_same : (u w : Unit) → u.mantissa ≡ w.mantissa → u.exponent ≡ w.exponent → u ≡ w

@@ -8,7 +8,7 @@ use Rattle.liberty_groups.specs.Groups.{Group}
 use Rattle.timing_arcs.specs.Library.{values_in}
 use Rattle.timing_arcs.specs.LibraryUnits.{load_power, IsUnitOf, IsLoadUnit}
 use Rattle.timing_arcs.proofs.Fronts.{some_is}
-use Rattle.timing_arcs.proofs.OneDecimal.{one_decimal}
+use Rattle.delay_units.proofs.OneDecimal.{one_decimal}
 
 pub unit_from : (number word : List ℕ) (power : ℤ) (value : Decimal) (r : Option Unit) → load_power word ≡ Some power → IsNumber number value
     → IfSome r (λ u. pos u.mantissa ≡ value.digits) → IfSome r (λ u. u.exponent ≡ value.exponent +ℤ power) → IfSome r (IsUnitOf number word)

@@ -1,9 +1,7 @@
 -- The pins of a cell (Liberty, pin): their names, directions and capacitances.
 use Rattle.std.specs.Prelude.{◌≡◌, ℕ, ◌≤◌, ℤ, pos, ◌≤ℤ◌, Bool, true, false, if◌then◌else◌, List, [], ◌∷◌, ◌++◌, map, flat_map, fold, Option, Some, None, option_to_list, option_and_then, bytes_eq, codes}
 use Rattle.std.specs.List.{list_any}
-use Rattle.delay_units.specs.Literal.{IsNumber}
-use Rattle.delay_units.specs.Reading.{IsReading}
-use Rattle.delay_units.specs.declared.numbers.Decimal.{Decimal}
+use Rattle.delay_units.specs.Reading.{ReadsAs}
 use Rattle.delay_units.specs.declared.numbers.Unit.{Unit}
 use Rattle.nldm_lookup.specs.Axes.{most}
 use Rattle.liberty_groups.specs.Groups.{Group, args_of}
@@ -65,12 +63,6 @@ edges_texts library pin = or_else (option_to_list (value_in (codes "rise_capacit
 
 abbrev pub capacitance_texts : Group → Group → List (List ℕ)
 capacitance_texts library pin = or_else (option_to_list (value_in (codes "capacitance") pin)) (edges_texts library pin)
-
--- the text is a number that is read, and v its rounded reading in the unit
-pub record ReadsAs (unit : Unit) (text : List ℕ) (v : ℤ) : Type 0 where
-  pub number : Decimal
-  pub reads : IsNumber text number
-  pub rounded : IsReading number unit v
 
 -- the largest reading of the texts, or 0 where there is none
 pub data IsLargest (unit : Unit) : List (List ℕ) → ℤ → Type 0 where

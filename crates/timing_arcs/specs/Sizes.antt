@@ -1,19 +1,10 @@
--- What a text reads as, as a capacitance.
-use Rattle.std.specs.Prelude.{ℕ, ◌≤◌, max, ℤ, pos, ◌<ℤ◌, List, Option, Some, None}
-use Rattle.delay_units.specs.declared.numbers.Unit.{Unit}
-use Rattle.nldm_lookup.specs.Axes.{most}
-use Rattle.timing_arcs.specs.declared.capacitances.Size.{Size}
-use Rattle.timing_arcs.specs.declared.capacitances.Size.TheVariants.{Unread, Below, Within, Past}
-use Rattle.timing_arcs.specs.PinModel.{ReadsAs}
-
-pub data IsSizeOf (unit : Unit) (text : List ℕ) : Size → Type 0 where
-  unread : ((v : ℤ) → ¬ ReadsAs unit text v) → IsSizeOf unit text Unread
-  below : {v : ℤ} → ReadsAs unit text v → v <ℤ pos 0 → IsSizeOf unit text Below
-  within : {grains : ℕ} → ReadsAs unit text (pos grains) → grains ≤ most → IsSizeOf unit text (Within grains)
-  past : {v : ℤ} → ReadsAs unit text v → pos most <ℤ v → IsSizeOf unit text Past
+-- The larger of two capacitances.
+use Rattle.std.specs.Prelude.{ℕ, max, Option, Some, None}
+use Rattle.delay_units.specs.declared.amounts.Amount.{Amount}
+use Rattle.delay_units.specs.declared.amounts.Amount.TheVariants.{Unread, Below, Within, Past}
 
 -- the larger of two
-abbrev pub larger_size : Size → Size → Size
+abbrev pub larger_size : Amount → Amount → Amount
 larger_size Unread other = Unread
 larger_size Below other = other
 larger_size (Within one) Unread = Unread
@@ -25,7 +16,7 @@ larger_size Past Below = Past
 larger_size Past (Within two) = Past
 larger_size Past Past = Past
 
-abbrev pub grains_within : Size → Option ℕ
+abbrev pub grains_within : Amount → Option ℕ
 grains_within Unread = None
 grains_within Below = None
 grains_within (Within grains) = Some grains

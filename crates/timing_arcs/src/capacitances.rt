@@ -1,109 +1,51 @@
 //! The capacitance of an input pin (Liberty, `capacitance`, `rise_capacitance`, `fall_capacitance`, `default_input_pin_cap`).
-ghost use Rattle.std.specs.Prelude.{◌≡◌, ℕ, ◌<◌, ◌≤◌, ◌^◌, ℤ, pos, ◌<ℤ◌, ◌≤ℤ◌, unsigned_abs, length, [], ◌∷◌, List, IfSome, IfNone};
-ghost use Rattle.delay_units.specs.declared.numbers.Unit.{Unit};
-ghost use Rattle.timing_arcs.specs.declared.capacitances.Size.TheVariants.{Below, Within, Past};
-ghost use Rattle.nldm_lookup.specs.Axes.{most};
+ghost use Rattle.std.specs.Prelude.{◌≡◌, ℕ, ◌<◌, length, [], ◌∷◌, IfSome, IfNone};
+ghost use Rattle.delay_units.specs.declared.amounts.Amount.TheVariants.{Within, Past};
 ghost use Rattle.liberty_groups.specs.Tables.{tree_of, group_at, IsGroup};
-ghost use Rattle.timing_arcs.specs.PinModel.{capacitance_texts, default_texts, edges_texts, ReadsAs, IsCapacitance};
-ghost use Rattle.timing_arcs.specs.Sizes.{IsSizeOf, larger_size, grains_within};
+ghost use Rattle.timing_arcs.specs.PinModel.{capacitance_texts, default_texts, edges_texts, IsCapacitance};
+ghost use Rattle.timing_arcs.specs.Sizes.{larger_size, grains_within};
 
 use crate::groups::value_in;
-use delay_units::{Decimal, Farads, Unit, read_decimal, scale};
+use delay_units::{Amount, Farads, Unit, read_amount};
 use liberty_groups::{GroupId, GroupTree};
 
-/// What a text reads as, in grains of 10^-21 F.
-#[derive(Clone, Copy, Debug)]
-pub(crate) enum Size {
-    /// No number that is read.
-    Unread,
-
-    /// Less than 0.
-    Below,
-
-    /// From 0 to a nanofarad.
-    Within(u64),
-
-    /// More.
-    Past,
-}
-
-// A reading that is not past the bound in size.
-#[tactic(auto, using(crate::proofs::SizeLemmas::size_below, crate::proofs::SizeLemmas::size_within))]
-fn size_of(grains: i128) -> Size
-    requires { unsigned_abs grains ≤ most }
-    ensures { (unit : Unit) (text : List ℕ) → ReadsAs unit text grains → IsSizeOf unit text result }
+// The larger of two. A number that is not read counts as the larger, as one past the bound does.
+fn larger_amount(one: Amount, other: Amount) -> Amount
+    ensures { result ≡ larger_size one other }
 {
-    if grains < 0 {
-        Size::Below
-    } else {
-        Size::Within(grains as u64)
+    match one {
+        Amount::Unread => Amount::Unread,
+        Amount::Below => other,
+        Amount::Within(grains) => larger_than(grains, other),
+        Amount::Past => beside_past(other),
     }
 }
 
-// What a number is whose reading is past the bound in size.
-fn size_past(number: &Decimal) -> Size
-    ensures below { number.now.digits <ℤ pos 0 → result ≡ Below }
-    ensures above { pos 0 ≤ℤ number.now.digits → result ≡ Past }
+fn larger_than(grains: u64, other: Amount) -> Amount
+    ensures { result ≡ larger_size (Within grains) other }
 {
-    if number.digits < 0 {
-        Size::Below
-    } else {
-        Size::Past
+    match other {
+        Amount::Below => Amount::Within(grains),
+        Amount::Within(others) => Amount::Within(grains.max(others)),
+        _ => other,
     }
 }
 
-#[tactic(auto, using(crate::proofs::SizeLemmas::reads_as, crate::proofs::SizeLemmas::size_unread))]
-fn read_size(unit: &Unit, text: &[u8]) -> Size
-    ensures { IsSizeOf unit.now text.now result }
+fn beside_past(other: Amount) -> Amount
+    ensures { result ≡ larger_size Past other }
 {
-    let Ok(number) = read_decimal(text) else {
-        return Size::Unread;
-    };
-    match scale(&number, unit, Farads::MOST as i128) {
-        Some(grains) => size_of(grains),
-        None => size_past(&number),
+    match other {
+        Amount::Unread => Amount::Unread,
+        _ => Amount::Past,
     }
 }
 
-impl Size {
-    // A number that is not read counts as the larger, as one past the bound does.
-    fn larger(self, other: Size) -> Size
-        ensures { result ≡ larger_size self other }
-    {
-        match self {
-            Size::Unread => Size::Unread,
-            Size::Below => other,
-            Size::Within(grains) => other.larger_than(grains),
-            Size::Past => other.past(),
-        }
-    }
-
-    fn larger_than(self, grains: u64) -> Size
-        ensures { result ≡ larger_size (Within grains) self }
-    {
-        match self {
-            Size::Below => Size::Within(grains),
-            Size::Within(others) => Size::Within(grains.max(others)),
-            _ => self,
-        }
-    }
-
-    fn past(self) -> Size
-        ensures { result ≡ larger_size Past self }
-    {
-        match self {
-            Size::Unread => Size::Unread,
-            _ => Size::Past,
-        }
-    }
-
-    fn within(self) -> Option<u64>
-        ensures { result ≡ grains_within self }
-    {
-        match self {
-            Size::Within(grains) => Some(grains),
-            _ => None,
-        }
+fn grains_within(amount: Amount) -> Option<u64>
+    ensures { result ≡ grains_within amount }
+{
+    match amount {
+        Amount::Within(grains) => Some(grains),
+        _ => None,
     }
 }
 
@@ -113,7 +55,7 @@ fn sole(unit: &Unit, text: &[u8]) -> Option<u64>
     ensures some { IfSome result (IsCapacitance unit.now (text.now ∷ [])) }
     ensures none { IfNone result ((grains : ℕ) → ¬ IsCapacitance unit.now (text.now ∷ []) grains) }
 {
-    read_size(unit, text).within()
+    grains_within(read_amount(unit, Farads::MOST, text))
 }
 
 // The larger of two.
@@ -122,9 +64,9 @@ fn larger(unit: &Unit, text: &[u8], other: &[u8]) -> Option<u64>
     ensures some { IfSome result (IsCapacitance unit.now (text.now ∷ other.now ∷ [])) }
     ensures none { IfNone result ((grains : ℕ) → ¬ IsCapacitance unit.now (text.now ∷ other.now ∷ []) grains) }
 {
-    let one = read_size(unit, text);
-    let two = read_size(unit, other);
-    one.larger(two).within()
+    let one = read_amount(unit, Farads::MOST, text);
+    let two = read_amount(unit, Farads::MOST, other);
+    grains_within(larger_amount(one, two))
 }
 
 /// The capacitance of an input pin that has none of its own: the library's default, else 0. `None` where that is no number, or is below 0 or more than a
