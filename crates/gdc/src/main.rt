@@ -1,35 +1,16 @@
 //! gdc: delays for chip sign-off: of wires, from SPEF to SDF, and of cells of a Liberty library; and the rows of SDF files.
 //!
-//! `main` is the edge of the program: it collects the words, makes the shelf and the streams of the
-//! system, and ends with the status of what `top::run` answers, in whose contract the theorem of the
-//! program stands.
+//! This crate is the edge of the program. It collects the words, makes the shelf and the streams of the system, and ends with the
+//! status of what `gdc_run::run` answers. The theorem of the program is the contract of that call.
 #![tactic(auto)]
 
 ghost use Rattle.std.specs.Prelude.{◌≡◌, ◌<◌};
 
-mod arc_rows;
 mod command_line;
-mod laws;
-mod library_phases;
-mod lines;
-mod lookup;
-mod net_pins;
-mod net_rows;
-mod outcome;
-mod output;
-mod performing;
-mod refusal;
-mod show;
-mod spef_phases;
-#[cfg(test)]
-mod tests;
-mod top;
-mod wires;
 
 use crate::command_line::read_command_line;
-use crate::outcome::Outcome;
-use crate::top::run;
 use edge_io::{FileShelf, StdErr, StdOut, Steps};
+use gdc_run::{Outcome, run};
 use std::marker::Brand;
 use std::process::ExitCode;
 use std::sync::ledger::{Blank, Ledger};

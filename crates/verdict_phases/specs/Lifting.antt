@@ -2,10 +2,10 @@
 use Rattle.std.specs.Prelude.{◌≡◌}
 use Rattle.verdict_phases.specs.declared.ends.PhaseEnd.{PhaseEnd}
 use Rattle.verdict_phases.specs.declared.ends.PhaseEnd.TheVariants.{Refused, OutOfMemory}
-use Rattle.verdict_phases.specs.declared.ends.PureEnd.{PureEnd}
-use Rattle.verdict_phases.specs.declared.ends.PureEnd.TheVariants as pure
+use Rattle.verdict_phases.specs.declared.ends.NoFileEnd.{NoFileEnd}
+use Rattle.verdict_phases.specs.declared.ends.NoFileEnd.TheVariants as no_file
 
 -- the same refusal, or want of memory still
-abbrev pub IsLifted : {R K : Type 0} → PureEnd R → PhaseEnd R K → Type 0
-IsLifted (pure.Refused refusal) end = end ≡ Refused refusal
-IsLifted pure.OutOfMemory end = end ≡ OutOfMemory
+abbrev pub IsLifted : {R K : Type 0} → NoFileEnd R → PhaseEnd R K → Type 0
+IsLifted (no_file.Refused refusal) end = end ≡ Refused refusal
+IsLifted no_file.OutOfMemory end = end ≡ OutOfMemory

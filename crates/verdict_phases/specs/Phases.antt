@@ -5,8 +5,8 @@
 use Rattle.std.specs.Prelude.{Result, Ok, Err}
 use Rattle.verdict_phases.specs.declared.ends.PhaseEnd.{PhaseEnd}
 use Rattle.verdict_phases.specs.declared.ends.PhaseEnd.TheVariants.{Refused, ReadFault, OutOfMemory}
-use Rattle.verdict_phases.specs.declared.ends.PureEnd.{PureEnd}
-use Rattle.verdict_phases.specs.declared.ends.PureEnd.TheVariants as pure
+use Rattle.verdict_phases.specs.declared.ends.NoFileEnd.{NoFileEnd}
+use Rattle.verdict_phases.specs.declared.ends.NoFileEnd.TheVariants as no_file
 
 -- why the phases stop: by a refusal, at a file that is needed and not held, or at the reading of a file, where a fault of
 -- the outside may come
@@ -28,10 +28,10 @@ Follows phase (Err (ReadFault key)) = phase (Halt (Reads key))
 Follows phase (Err OutOfMemory) = Unit {0}
 
 -- the code's answer follows a phase that reads no file
-abbrev pub Passes : {R A : Type 0} → (Result A R → Type 0) → Result A (PureEnd R) → Type 0
-Passes phase (Ok value) = phase (Ok value)
-Passes phase (Err (pure.Refused refusal)) = phase (Err refusal)
-Passes phase (Err pure.OutOfMemory) = Unit {0}
+abbrev pub FollowsNoFile : {R A : Type 0} → (Result A R → Type 0) → Result A (NoFileEnd R) → Type 0
+FollowsNoFile phase (Ok value) = phase (Ok value)
+FollowsNoFile phase (Err (no_file.Refused refusal)) = phase (Err refusal)
+FollowsNoFile phase (Err no_file.OutOfMemory) = Unit {0}
 
 -- a fact that holds where the answer is a read fault
 abbrev pub OnReadFault : {R K A : Type 0} → Result A (PhaseEnd R K) → Type 0 → Type 0

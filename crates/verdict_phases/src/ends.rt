@@ -11,7 +11,7 @@ pub enum PhaseEnd<R, K> {
 
 /// Why a phase that reads no file gives no value: a refusal, or want of memory.
 #[derive(Debug, Drop)]
-pub enum PureEnd<R> {
+pub enum NoFileEnd<R> {
     Refused(R),
     OutOfMemory,
 }
@@ -27,26 +27,26 @@ impl<R, K> From<OutOfMemory> for PhaseEnd<R, K> {
     }
 }
 
-impl<R> From<OutOfMemory> for PureEnd<R> {
+impl<R> From<OutOfMemory> for NoFileEnd<R> {
     ghost use Rattle.std.specs.Prelude.{◌≡◌};
-    ghost use Rattle.verdict_phases.specs.declared.ends.PureEnd.TheVariants.{OutOfMemory};
+    ghost use Rattle.verdict_phases.specs.declared.ends.NoFileEnd.TheVariants.{OutOfMemory};
 
     ghost from_gives = { λ _ end. end ≡ OutOfMemory };
 
-    fn from(_error: OutOfMemory) -> PureEnd<R> {
-        PureEnd::OutOfMemory
+    fn from(_error: OutOfMemory) -> NoFileEnd<R> {
+        NoFileEnd::OutOfMemory
     }
 }
 
-impl<R, K> From<PureEnd<R>> for PhaseEnd<R, K> {
+impl<R, K> From<NoFileEnd<R>> for PhaseEnd<R, K> {
     ghost use Rattle.verdict_phases.specs.Lifting.{IsLifted};
 
-    ghost from_gives = { λ pure end. IsLifted pure end };
+    ghost from_gives = { λ lower end. IsLifted lower end };
 
-    fn from(end: PureEnd<R>) -> PhaseEnd<R, K> {
+    fn from(end: NoFileEnd<R>) -> PhaseEnd<R, K> {
         match end {
-            PureEnd::Refused(refusal) => PhaseEnd::Refused(refusal),
-            PureEnd::OutOfMemory => PhaseEnd::OutOfMemory,
+            NoFileEnd::Refused(refusal) => PhaseEnd::Refused(refusal),
+            NoFileEnd::OutOfMemory => PhaseEnd::OutOfMemory,
         }
     }
 }

@@ -6,5 +6,5 @@
 mod ends;
 mod file_reading;
 
-pub use ends::{PhaseEnd, PureEnd};
+pub use ends::{NoFileEnd, PhaseEnd};
 pub use file_reading::read_phase;

@@ -1,9 +1,0 @@
-pub mod ArcLemmas
-pub mod Completing
-pub mod Drawing
-pub mod NetRows
-pub mod PinLists
-pub mod Places
-pub mod ReadBack
-pub mod TreeRows
-pub mod Work

@@ -1,0 +1,233 @@
+-- Rows of arcs, edge after edge.
+use Rattle.std.proofs.Common.{◌≡◌, ℕ, ◌+◌, ◌<◌, ◌≤◌, Option, List, [], ◌∷◌, ◌++◌, length, append_assoc, take, drop, get_or, ℤ, Result, Ok, Err, refl, sym, ap, ◌∙◌, subst, arith, length-append}
+use Rattle.std.specs.Prelude.{IsErrAnd, IsTrue}
+use Rattle.std.specs.List.{AllZip}
+use Rattle.std.proofs.lemmas.List.{append-nil, take_more, take-append-drop, take_all}
+use Rattle.std.proofs.lemmas.List.Elements.{All-from_recursion, All-append}
+use Rattle.std.proofs.lemmas.Grind.{flat_map-append}
+use Rattle.std.proofs.lemmas.Option.{slice_get_within, slice_get_read}
+use Rattle.delay_units.specs.declared.quantities.Atto.{Atto as AttoSeconds}
+use Rattle.nldm_lookup.specs.Interpolant.{IsInterpolant}
+use Rattle.nldm_lookup.specs.declared.faults.Outside.{Outside}
+use Rattle.nldm_lookup.specs.declared.grain.Grain.TheVariants.{Atto, Femto}
+use Rattle.edge_io.specs.Holding.{Held}
+use Rattle.liberty_groups.specs.Groups.{Group}
+use Rattle.timing_arcs.specs.Cells.{TimedCell, IsCell, HasDirection}
+use Rattle.timing_arcs.specs.declared.cell.Arc.{Arc}
+use Rattle.timing_arcs.specs.declared.cell.Direction.{Direction}
+use Rattle.timing_arcs.specs.declared.cell.Direction.TheVariants.{Input, Output}
+use Rattle.timing_arcs.specs.declared.cell.EdgeTables.{EdgeTables}
+use Rattle.timing_arcs.specs.declared.cell.Pin.{Pin}
+use Rattle.verdict_phases.specs.Lifting.{IsLifted}
+use Rattle.verdict_phases.specs.Phases.{FollowsNoFile, Follows, Go}
+use Rattle.verdict_phases.specs.declared.ends.PhaseEnd.{PhaseEnd}
+use Rattle.verdict_phases.specs.declared.ends.NoFileEnd.{NoFileEnd}
+use Rattle.verdict_phases.specs.declared.ends.NoFileEnd.TheVariants as no_file
+use Rattle.gdc_run.specs.declared.arc_rows.ArcRow.{ArcRow}
+use Rattle.gdc_run.specs.declared.arc_rows.Looked.{Looked}
+use Rattle.gdc_run.specs.declared.refusal.Edge.{Edge}
+use Rattle.gdc_run.specs.declared.refusal.Part.{Part}
+use Rattle.gdc_run.specs.declared.refusal.FileKey.{FileKey}
+use Rattle.gdc_run.specs.declared.refusal.Refusal.{Refusal}
+use Rattle.gdc_run.specs.declared.refusal.Refusal.TheVariants as refusal
+use Rattle.gdc_run.specs.ArcRows.{ArcEdge, IsNamed, edges_of, arc_edges, IsArcRow, IsInside, IsEdgeOutside, IsEdgeRefusal, IsFirstOutside, AddsEdges, CellGives, all_inside, some_outside, outside_at}
+use Rattle.gdc_run.specs.LibraryPhases.{ParsesLibrary, ModelsCell}
+use Rattle.gdc_run.specs.Verdict.{ReadsLib, LookupGives, at_lookups}
+use Rattle.gdc_run.specs.Work.{is_early, OnEarly}
+use Rattle.gdc_run.specs.Looking.{IsLooked, IsRowOf}
+use Rattle.gdc_run.specs.NetRows.{OnRefusal}
+
+zip_append : {X Y : Type 0} (R : X → Y → Type 0) (xs more : List X) (ys others : List Y) → AllZip R xs ys → AllZip R more others → AllZip R (xs ++ more) (ys ++ others)
+zip_append R [] more [] others are then = then
+zip_append R [] more (y ∷ ys) others are then = absurd are
+zip_append R (x ∷ xs) more [] others are then = absurd are
+zip_append R (x ∷ xs) more (y ∷ ys) others are then = (are.0, zip_append R xs more ys others are.1 then)
+
+module _ (pins : List Pin) (slew load : ℕ) where
+  abbrev pub Inside : ArcEdge → Type 0
+  Inside edge = IsInside slew load edge.tables
+
+  -- no edge adds no row
+  pub adds_none : (rows : List ArcRow) → AddsEdges pins slew load [] rows rows
+  adds_none rows = record { added = []; is = sym (append-nil rows); each = tt; inside = All-from_recursion Inside [] tt }
+
+  -- some edges after others
+  pub adds_then : (edges more : List ArcEdge) (before middle after : List ArcRow) → AddsEdges pins slew load edges before middle → AddsEdges pins slew load more middle after → AddsEdges pins slew load (edges ++ more) before after
+  adds_then edges more before middle after one other = record {
+    added = one.added ++ other.added;
+    is = other.is ∙ ap (λ rows. rows ++ other.added) one.is ∙ append_assoc before one.added other.added;
+    each = zip_append (IsArcRow pins slew load) edges more one.added other.added one.each other.each;
+    inside = All-append Inside edges more one.inside other.inside;
+  }
+
+  -- an edge that is outside among the first of some edges, and behind some that are not
+  pub outside_front : (cell : List ℕ) (edges more : List ArcEdge) (refusal : Refusal) → IsFirstOutside cell pins slew load edges refusal → IsFirstOutside cell pins slew load (edges ++ more) refusal
+  outside_front cell edges more refusal is = record {
+    before = is.before;
+    here = is.here;
+    behind = is.behind ++ more;
+    split = ap (λ l. l ++ more) is.split ∙ append_assoc is.before (is.here ∷ is.behind) more;
+    inside = is.inside;
+    part = is.part;
+    outside = is.outside;
+    is_outside = is.is_outside;
+    refused = is.refused;
+  }
+
+  pub outside_then : (cell : List ℕ) (edges more : List ArcEdge) (before after : List ArcRow) (refusal : Refusal) → AddsEdges pins slew load edges before after → IsFirstOutside cell pins slew load more refusal → IsFirstOutside cell pins slew load (edges ++ more) refusal
+  outside_then cell edges more before after refusal adds is = record {
+    before = edges ++ is.before;
+    here = is.here;
+    behind = is.behind;
+    split = ap (λ l. edges ++ l) is.split ∙ sym (append_assoc edges is.before (is.here ∷ is.behind));
+    inside = All-append Inside edges is.before adds.inside is.inside;
+    part = is.part;
+    outside = is.outside;
+    is_outside = is.is_outside;
+    refused = is.refused;
+  }
+
+  -- the row of one edge
+  pub adds_one : (arc : Arc) (edge : Edge) (tables : EdgeTables) (looked : Looked) (rows after : List ArcRow) (row : ArcRow) → IsLooked slew load tables looked → IsRowOf pins arc edge looked row → IsInside slew load tables → after ≡ rows ++ row ∷ []
+      → AddsEdges pins slew load (record { arc = arc; edge = edge; tables = tables } ∷ []) rows after
+  adds_one arc edge tables looked rows after row says is inside e = record {
+    added = row ∷ [];
+    is = e;
+    each = (
+      record {
+        from = is.from;
+        to = is.to;
+        edge = is.same_edge;
+        delay = subst (λ (v : ℤ). IsInterpolant tables.delay slew load Femto v) (sym is.delay) says.delay;
+        transition = subst (λ (v : AttoSeconds). IsInterpolant tables.slew slew load Atto v.0) (sym is.slew) says.transition;
+      },
+      tt,
+    );
+    inside = All-from_recursion Inside (record { arc = arc; edge = edge; tables = tables } ∷ []) (inside, tt);
+  }
+
+  -- one edge that is outside
+  pub outside_one : (cell : List ℕ) (arc : Arc) (edge : Edge) (tables : EdgeTables) (part : Part) (outside : Outside) (refusal : Refusal) → IsEdgeOutside slew load tables part outside → IsEdgeRefusal cell pins arc edge part outside refusal
+      → IsFirstOutside cell pins slew load (record { arc = arc; edge = edge; tables = tables } ∷ []) refusal
+  outside_one cell arc edge tables part outside refusal is refused = record {
+    before = [];
+    here = record { arc = arc; edge = edge; tables = tables };
+    behind = [];
+    split = refl;
+    inside = All-from_recursion Inside [] tt;
+    part = part;
+    outside = outside;
+    is_outside = is;
+    refused = refused;
+  }
+
+-- the edges of one arc more
+pub edges_more : (arcs : List Arc) (i : ℕ) (arc : Arc) → i < length arcs → arc ≡ get_or arcs i arc → arc_edges (take (i + 1) arcs) ≡ arc_edges (take i arcs) ++ edges_of arc
+edges_more arcs i arc below here =
+    ap arc_edges (take_more arcs i arc below) ∙ flat_map-append edges_of (take i arcs) (get_or arcs i arc ∷ [])
+    ∙ ap (λ edges. arc_edges (take i arcs) ++ edges) (append-nil (edges_of (get_or arcs i arc)))
+    ∙ ap (λ (a : Arc). arc_edges (take i arcs) ++ edges_of a) (sym here)
+
+pub edges_front : (arcs : List Arc) (i : ℕ) → arc_edges arcs ≡ arc_edges (take i arcs) ++ arc_edges (drop i arcs)
+edges_front arcs i = ap arc_edges (sym (take-append-drop i arcs)) ∙ flat_map-append edges_of (take i arcs) (drop i arcs)
+
+pub count_more : (arcs : List Arc) (i : ℕ) (arc : Arc) → i < length arcs → arc ≡ get_or arcs i arc → length (arc_edges (take (i + 1) arcs)) ≡ length (arc_edges (take i arcs)) + length (edges_of arc)
+count_more arcs i arc below here = ap length (edges_more arcs i arc below here) ∙ length-append (arc_edges (take i arcs)) (edges_of arc)
+
+-- the pins of an arc stand among those of its cell
+pin_within : (pins : List Pin) (place : ℕ) (direction : Direction) → HasDirection pins place direction → place < length pins
+pin_within pins place direction is = slice_get_within pins place is.pin is.here
+
+pub from_within : (cell : TimedCell) (i : ℕ) (arc : Arc) → IsCell cell → i < length cell.arcs → arc ≡ get_or cell.arcs i arc → arc.from < length cell.pins
+from_within cell i arc is below here = subst (λ (a : Arc). a.from < length cell.pins) (sym here) (pin_within cell.pins _ Input (is.arcs i arc below).from)
+
+pub to_within : (cell : TimedCell) (i : ℕ) (arc : Arc) → IsCell cell → i < length cell.arcs → arc ≡ get_or cell.arcs i arc → arc.to < length cell.pins
+to_within cell i arc is below here = subst (λ (a : Arc). a.to < length cell.pins) (sym here) (pin_within cell.pins _ Output (is.arcs i arc below).to)
+
+-- a refusal that is handed on
+on_refusal : (A B : Type 0) (end : NoFileEnd Refusal) (P Q : Refusal → Type 0) → OnRefusal {A = A} (Err end) P → ((refusal : Refusal) → P refusal → Q refusal) → OnRefusal {A = B} (Err end) Q
+on_refusal A B (no_file.Refused refusal) P Q holds more = more refusal holds
+on_refusal A B no_file.OutOfMemory P Q holds more = tt
+
+pub refusal_on : (A B : Type 0) (result : Result B (NoFileEnd Refusal)) (end : NoFileEnd Refusal) (P Q : Refusal → Type 0) → IsErrAnd result (λ other. other ≡ end) → OnRefusal {A = A} (Err end) P → ((refusal : Refusal) → P refusal → Q refusal) → OnRefusal result Q
+refusal_on A B (Ok value) end P Q is holds more = tt
+refusal_on A B (Err other) end P Q is holds more = on_refusal A B other P Q (subst (λ (e : NoFileEnd Refusal). OnRefusal {A = A} (Err e) P) (sym is) holds) more
+
+on_outside : (name : List ℕ) (cell : TimedCell) (slew load : ℕ) (end : NoFileEnd Refusal) → OnRefusal {A = List ArcRow} (Err end) (IsFirstOutside name cell.pins slew load (arc_edges cell.arcs)) → FollowsNoFile (CellGives name cell slew load) (Err end)
+on_outside name cell slew load (no_file.Refused refusal) is = some_outside refusal is
+on_outside name cell slew load no_file.OutOfMemory is = tt
+
+pub refusal_passes : (A : Type 0) (name : List ℕ) (cell : TimedCell) (slew load : ℕ) (result : Result (List ArcRow) (NoFileEnd Refusal)) (end : NoFileEnd Refusal) (P : Refusal → Type 0) → IsErrAnd result (λ other. other ≡ end) → OnRefusal {A = A} (Err end) P
+    → ((refusal : Refusal) → P refusal → IsFirstOutside name cell.pins slew load (arc_edges cell.arcs) refusal) → FollowsNoFile (CellGives name cell slew load) result
+refusal_passes A name cell slew load (Ok value) end P is holds more = absurd is
+refusal_passes A name cell slew load (Err other) end P is holds more =
+    on_outside name cell slew load other
+    (on_refusal A (List ArcRow) other P (IsFirstOutside name cell.pins slew load (arc_edges cell.arcs)) (subst (λ (e : NoFileEnd Refusal). OnRefusal {A = A} (Err e) P) (sym is) holds) more)
+
+-- an arc with an edge that is outside, behind arcs that have none
+pub outside_in : (name : List ℕ) (cell : TimedCell) (slew load : ℕ) (pins : List Pin) (arcs : List Arc) (i : ℕ) (arc : Arc) (rows : List ArcRow) (refusal : Refusal) → pins ≡ cell.pins → arcs ≡ cell.arcs → i < length arcs → arc ≡ get_or arcs i arc
+    → AddsEdges pins slew load (arc_edges (take i arcs)) [] rows → IsFirstOutside name pins slew load (edges_of arc) refusal → IsFirstOutside name cell.pins slew load (arc_edges cell.arcs) refusal
+outside_in name cell slew load pins arcs i arc rows refusal pins_are arcs_are below here adds is =
+    let front = arc_edges (take i arcs) in
+    let whole : arc_edges arcs ≡ (front ++ edges_of arc) ++ arc_edges (drop (i + 1) arcs) =
+    edges_front arcs (i + 1) ∙ ap (λ edges. edges ++ arc_edges (drop (i + 1) arcs)) (edges_more arcs i arc below here) in
+    let first : IsFirstOutside name pins slew load (arc_edges arcs) refusal =
+    subst (λ (edges : List ArcEdge). IsFirstOutside name pins slew load edges refusal) (sym whole)
+    (outside_front pins slew load name (front ++ edges_of arc) (arc_edges (drop (i + 1) arcs)) refusal (outside_then pins slew load name front (edges_of arc) [] rows refusal adds is)) in
+    subst (λ (p : List Pin). IsFirstOutside name p slew load (arc_edges cell.arcs) refusal) pins_are
+    (subst (λ (a : List Arc). IsFirstOutside name pins slew load (arc_edges a) refusal) arcs_are first)
+
+-- the edges up to an arc are no more than all
+pub count_within : (arcs : List Arc) (i : ℕ) (arc : Arc) → i < length arcs → arc ≡ get_or arcs i arc → length (arc_edges (take i arcs)) + length (edges_of arc) ≤ length (arc_edges arcs)
+count_within arcs i arc below here =
+    let front = ap length (edges_front arcs (i + 1)) ∙ length-append (arc_edges (take (i + 1) arcs)) (arc_edges (drop (i + 1) arcs)) in
+    let more = count_more arcs i arc below here in
+    omega (arith, front, more)
+
+-- the rows of one arc more
+pub adds_more : (pins : List Pin) (slew load : ℕ) (arcs : List Arc) (i : ℕ) (arc : Arc) (rows after : List ArcRow) → i < length arcs → arc ≡ get_or arcs i arc → AddsEdges pins slew load (arc_edges (take i arcs)) [] rows → AddsEdges pins slew load (edges_of arc) rows after
+    → AddsEdges pins slew load (arc_edges (take (i + 1) arcs)) [] after
+adds_more pins slew load arcs i arc rows after below here front more =
+    subst (λ (edges : List ArcEdge). AddsEdges pins slew load edges [] after) (sym (edges_more arcs i arc below here)) (adds_then pins slew load (arc_edges (take i arcs)) (edges_of arc) [] rows after front more)
+
+-- the rows of all arcs
+pub gives_all : (name : List ℕ) (cell : TimedCell) (slew load : ℕ) (pins : List Pin) (arcs : List Arc) (i : ℕ) (rows : List ArcRow) → pins ≡ cell.pins → arcs ≡ cell.arcs → length arcs ≤ i → AddsEdges pins slew load (arc_edges (take i arcs)) [] rows
+    → CellGives name cell slew load (Ok rows)
+gives_all name cell slew load pins arcs i rows pins_are arcs_are all adds =
+    all_inside rows
+    (subst (λ (p : List Pin). AddsEdges p slew load (arc_edges cell.arcs) [] rows) pins_are
+    (subst (λ (a : List Arc). AddsEdges pins slew load (arc_edges a) [] rows) (take_all i arcs all ∙ arcs_are) adds))
+
+-- that an edge is outside comes after the tables are read
+pub rows_late : (name : List ℕ) (cell : TimedCell) (slew load : ℕ) (refusal : Refusal) → CellGives name cell slew load (Err refusal) → IsTrue (is_early refusal) → ⊥
+rows_late name cell slew load refusal (some_outside same is) early = late name cell.pins is.here.arc is.here.edge is.part is.outside refusal is.refused early
+  where
+    late : (name : List ℕ) (pins : List Pin) (arc : Arc) (edge : Edge) (part : Part) (outside : Outside) (refusal : Refusal) → IsEdgeRefusal name pins arc edge part outside refusal → IsTrue (is_early refusal) → ⊥
+    late name pins arc edge part outside refusal (outside_at from to) early = cc
+
+-- the look-ups of a cell that end without rows
+pub rows_end : (held : Option Held) (file name bytes : List ℕ) (library : Group) (cell : TimedCell) (slew load : ℕ) (end : NoFileEnd Refusal) (result : Result (List ArcRow) (PhaseEnd Refusal FileKey))
+    → IsErrAnd result (λ lifted. IsLifted end lifted) → ReadsLib held file (Go bytes) → ParsesLibrary bytes (Ok library) → ModelsCell library name (Ok cell) → FollowsNoFile (CellGives name cell slew load) (Err end)
+    → Follows (LookupGives held file name slew load) result
+rows_end held file name bytes library cell slew load end (Ok rows) is reads parses models passes = absurd is
+rows_end held file name bytes library cell slew load (no_file.Refused refusal) (Err lifted) is reads parses models passes =
+    subst (λ (e : PhaseEnd Refusal FileKey). Follows (LookupGives held file name slew load) (Err e)) (sym is) (at_lookups bytes library cell refusal reads parses models passes)
+rows_end held file name bytes library cell slew load no_file.OutOfMemory (Err lifted) is reads parses models passes =
+    subst (λ (e : PhaseEnd Refusal FileKey). Follows (LookupGives held file name slew load) (Err e)) (sym is) tt
+
+pub rows_no_steps : (name : List ℕ) (cell : TimedCell) (slew load : ℕ) (end : NoFileEnd Refusal) (result : Result (List ArcRow) (PhaseEnd Refusal FileKey)) (P : Type 0)
+    → IsErrAnd result (λ lifted. IsLifted end lifted) → FollowsNoFile (CellGives name cell slew load) (Err end) → OnEarly result P
+rows_no_steps name cell slew load end (Ok rows) P is passes = absurd is
+rows_no_steps name cell slew load (no_file.Refused refusal) (Err lifted) P is passes =
+    subst (λ (e : PhaseEnd Refusal FileKey). OnEarly {A = List ArcRow} (Err e) P) (sym is) (λ early. absurd (rows_late name cell slew load refusal passes early))
+rows_no_steps name cell slew load no_file.OutOfMemory (Err lifted) P is passes =
+    subst (λ (e : PhaseEnd Refusal FileKey). OnEarly {A = List ArcRow} (Err e) P) (sym is) tt
+
+-- the pin at a place has its name
+pub is_named : (pins : List Pin) (place : ℕ) (pin : Pin) (name : List ℕ) → place < length pins → pin ≡ get_or pins place pin → name ≡ (get_or pins place pin).name → IsNamed pins place name
+is_named pins place pin name below is named = record { pin = pin; here = slice_get_read pins (length pins) place pin refl below is; named = named ∙ ap (λ (p : Pin). p.name) (sym is) }
+
+pub outside_so : (cell : List ℕ) (pins : List Pin) (arc : Arc) (edge : Edge) (part : Part) (outside : Outside) (instance from to : List ℕ) → instance ≡ cell → IsNamed pins arc.from from → IsNamed pins arc.to to
+    → IsEdgeRefusal cell pins arc edge part outside (refusal.Outside instance from to edge 0 part outside.axis outside.value)
+outside_so cell pins arc edge part outside instance from to same from_named to_named =
+    subst (λ (i : List ℕ). IsEdgeRefusal cell pins arc edge part outside (refusal.Outside i from to edge 0 part outside.axis outside.value)) (sym same) (outside_at from_named to_named)

@@ -1,0 +1,9 @@
+pub mod ArcLemmas
+pub mod Completing
+pub mod NetRows
+pub mod PinLists
+pub mod Places
+pub mod ReadBack
+pub mod TreeRows
+pub mod WireRows
+pub mod Work

@@ -1,0 +1,10 @@
+use Rattle.std.proofs.Common.{subst}
+use Rattle.rc_tree.specs.Builds.{IsTreeEnd}
+use Rattle.rc_tree.specs.ListedPins.{listed_pins}
+use Rattle.gdc_run.proofs.NetRows.{none_strange}
+use Rattle.gdc_run.proofs.net_rows.tree_of.Goals as goal
+
+pub unreachable-requires : goal.unreachable-requires
+unreachable-requires g c =
+    none_strange c.args.net.now (listed_pins 1 c.args.net.now c.args.driver) c.in-Err-StrangePin.field-0-0 c.build_listed.ensures.listed
+    (subst (IsTreeEnd 1 c.args.net.now (listed_pins 1 c.args.net.now c.args.driver)) c.in-Err-StrangePin.field-0-is c.in-Err-StrangePin.ensures.refused)

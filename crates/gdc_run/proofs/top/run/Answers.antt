@@ -1,0 +1,12 @@
+use Rattle.gdc_run.proofs.Completing.{complete_of, usage_of}
+use Rattle.gdc_run.proofs.top.run.Goals as goal
+
+pub returns-clause-complete : goal.returns-clause-complete
+returns-clause-complete g c =
+    let a = c.answer-outcome.ensures in
+    complete_of _ _ _ _ _ _ _ _ _ _ _ a.done a.refused a.usage a.read_fault a.write_fault
+
+pub returns-clause-usage_first : goal.returns-clause-usage_first
+returns-clause-usage_first g c =
+    let a = c.answer-outcome.ensures in
+    usage_of _ _ _ _ _ _ _ _ _ _ _ a.done a.refused a.usage a.read_fault a.write_fault

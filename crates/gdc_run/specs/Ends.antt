@@ -1,0 +1,45 @@
+-- The ends of the deciding part of a run.
+use Rattle.std.specs.Prelude.{ℕ, List, Option, Result, Ok, Err}
+use Rattle.edge_io.specs.Holding.{Held}
+use Rattle.verdict_phases.specs.Phases.{RefusedBy, Reads, Go, Halt}
+use Rattle.verdict_phases.specs.declared.ends.PhaseEnd.{PhaseEnd}
+use Rattle.verdict_phases.specs.declared.ends.PhaseEnd.TheVariants as phase
+use Rattle.gdc_run.specs.declared.refusal.FileKey.{FileKey}
+use Rattle.gdc_run.specs.declared.refusal.Refusal.{Refusal}
+use Rattle.gdc_words.specs.declared.faults.WordsEnd.{WordsEnd}
+use Rattle.gdc_words.specs.declared.faults.WordsEnd.TheVariants as words
+use Rattle.gdc_run.specs.declared.top.End.{End}
+use Rattle.gdc_run.specs.declared.top.End.TheVariants.{Usage, Phase, OutOfMemory}
+use Rattle.gdc_run.specs.declared.output.Output.{Output}
+use Rattle.gdc_run.specs.Verdict.{Gives, Faulty, Answers}
+use Rattle.gdc_run.specs.Outcomes.{HasReadFault}
+
+-- a fact of the key where a file could not be read
+abbrev pub AtReadFault : {A : Type 0} → Result A (PhaseEnd Refusal FileKey) → (FileKey → Type 0) → Type 0
+AtReadFault (Ok value) fact = Unit {0}
+AtReadFault (Err (phase.Refused refusal)) fact = Unit {0}
+AtReadFault (Err (phase.ReadFault key)) fact = fact key
+AtReadFault (Err phase.OutOfMemory) fact = Unit {0}
+
+-- the end of the words, as one of the run
+abbrev pub end_of_words : WordsEnd → End
+end_of_words (words.Usage fault) = Usage fault
+end_of_words words.OutOfMemory = OutOfMemory
+
+-- what is to be written is the verdict's, and so is why there is nothing
+abbrev pub FollowsTop : List (List ℕ) → Option Held → Result Output End → Type 0
+FollowsTop words held (Ok output) = Gives words held (Answers (Go output))
+FollowsTop words held (Err (Usage fault)) = Gives words held (Faulty fault)
+FollowsTop words held (Err (Phase (phase.Refused refusal))) = Gives words held (Answers (Halt (RefusedBy refusal)))
+FollowsTop words held (Err (Phase (phase.ReadFault key))) = Gives words held (Answers (Halt (Reads key)))
+FollowsTop words held (Err (Phase phase.OutOfMemory)) = Unit {0}
+FollowsTop words held (Err OutOfMemory) = Unit {0}
+
+-- a read fault has its cause
+abbrev pub MeansEnd : List (List ℕ) → Option Held → ℕ → ℕ → ℕ → ℕ → Result Output End → Type 0
+MeansEnd words held faults faults' opens opens' (Ok output) = Unit {0}
+MeansEnd words held faults faults' opens opens' (Err (Usage fault)) = Unit {0}
+MeansEnd words held faults faults' opens opens' (Err (Phase (phase.Refused refusal))) = Unit {0}
+MeansEnd words held faults faults' opens opens' (Err (Phase (phase.ReadFault key))) = HasReadFault words held key faults faults' opens opens'
+MeansEnd words held faults faults' opens opens' (Err (Phase phase.OutOfMemory)) = Unit {0}
+MeansEnd words held faults faults' opens opens' (Err OutOfMemory) = Unit {0}

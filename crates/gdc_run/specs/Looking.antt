@@ -1,0 +1,24 @@
+-- One edge of an arc, looked up.
+use Rattle.std.specs.Prelude.{◌≡◌, ℕ, List}
+use Rattle.nldm_lookup.specs.Interpolant.{IsInterpolant}
+use Rattle.nldm_lookup.specs.declared.grain.Grain.TheVariants.{Atto, Femto}
+use Rattle.timing_arcs.specs.declared.cell.Arc.{Arc}
+use Rattle.timing_arcs.specs.declared.cell.EdgeTables.{EdgeTables}
+use Rattle.timing_arcs.specs.declared.cell.Pin.{Pin}
+use Rattle.gdc_run.specs.ArcRows.{IsNamed}
+use Rattle.gdc_run.specs.declared.arc_rows.ArcRow.{ArcRow}
+use Rattle.gdc_run.specs.declared.arc_rows.Looked.{Looked}
+use Rattle.gdc_run.specs.declared.refusal.Edge.{Edge}
+
+-- what both tables say
+pub record IsLooked (slew load : ℕ) (tables : EdgeTables) (looked : Looked) : Type 0 where
+  pub delay : IsInterpolant tables.delay slew load Femto looked.delay
+  pub transition : IsInterpolant tables.slew slew load Atto looked.slew.0
+
+-- the row of it
+pub record IsRowOf (pins : List Pin) (arc : Arc) (edge : Edge) (looked : Looked) (row : ArcRow) : Type 0 where
+  pub from : IsNamed pins arc.from row.from
+  pub to : IsNamed pins arc.to row.to
+  pub same_edge : row.edge ≡ edge
+  pub delay : row.delay ≡ looked.delay
+  pub slew : row.slew ≡ looked.slew

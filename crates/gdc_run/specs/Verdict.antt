@@ -1,0 +1,118 @@
+-- The verdict on the words and on what a shelf holds: what a run has to answer.
+--
+-- The phases are asked in order, and the first that stops decides. Each is a relation, named for what it relates.
+use Rattle.std.specs.Prelude.{◌≡◌, ℕ, ◌^◌, List, Option, Result, Ok, Err}
+use Rattle.edge_io.specs.Holding.{Held}
+use Rattle.sdf_writer.specs.SdfText.{SdfRows}
+use Rattle.sdf_reader.specs.Answers.{SaysRows}
+use Rattle.sdf_reader.specs.Causes.{IsFault}
+use Rattle.sdf_reader.specs.declared.ends.SdfCause.{SdfCause}
+use Rattle.sdf_reader.specs.declared.rows.SdfRow.{SdfRow}
+use Rattle.verdict_phases.specs.Phases.{Stop, RefusedBy, Step, Go, Halt}
+use Rattle.verdict_phases.specs.FileReading.{ReadsFile}
+use Rattle.gdc_words.specs.declared.commands.Command.{Command}
+use Rattle.gdc_words.specs.declared.commands.Command.TheVariants.{Wires, Show, Lookup, Help, Version}
+use Rattle.gdc_words.specs.declared.commands.Key.TheVariants as key
+use Rattle.gdc_words.specs.declared.faults.UsageFault.{UsageFault}
+use Rattle.gdc_run.specs.declared.refusal.FileKey.{FileKey}
+use Rattle.gdc_run.specs.declared.refusal.FileKey.TheVariants.{Spef, Sdf, Lib}
+use Rattle.gdc_run.specs.declared.refusal.LimitKind.TheVariants.{File}
+use Rattle.gdc_run.specs.declared.refusal.Refusal.{Refusal}
+use Rattle.gdc_run.specs.declared.refusal.Refusal.TheVariants.{Limit, SdfSyntax}
+use Rattle.gdc_words.specs.CommandLine.{Request, Asks, value_of, pick_from}
+use Rattle.corner_set.specs.declared.pick.Pick.{Pick}
+use Rattle.spef_text.specs.SpefFiles.{SpefText}
+use Rattle.spef_text.specs.Heads.{HeadText}
+use Rattle.spef_nets.specs.NetElements.{NetElements}
+use Rattle.gdc_run.specs.SpefPhases.{DesignNets, ParsesSpef, HeadsSpef, NetsSpef}
+use Rattle.gdc_words.specs.Decimals.{IsGrains}
+use Rattle.liberty_groups.specs.Groups.{Group}
+use Rattle.timing_arcs.specs.Cells.{TimedCell}
+use Rattle.gdc_run.specs.ArcRows.{CellGives}
+use Rattle.gdc_run.specs.LibraryPhases.{ParsesLibrary, ModelsCell}
+use Rattle.gdc_run.specs.declared.arc_rows.ArcRow.{ArcRow}
+use Rattle.gdc_run.specs.WireNets.{RowsOf}
+use Rattle.gdc_run.specs.declared.output.Output.{Output}
+use Rattle.gdc_run.specs.declared.output.Output.TheVariants as output
+
+-- how many bytes of a file are read at the most
+abbrev pub file_limit : ℕ
+file_limit = 2 ^ 28
+
+-- the phase that reads the SPEF file
+abbrev pub ReadsSpef : Option Held → List ℕ → Step Refusal FileKey (List ℕ) → Type 0
+ReadsSpef held name step = ReadsFile file_limit held Spef (Limit (File Spef)) name step
+
+-- the phase that reads the SDF file
+abbrev pub ReadsSdf : Option Held → List ℕ → Step Refusal FileKey (List ℕ) → Type 0
+ReadsSdf held name step = ReadsFile file_limit held Sdf (Limit (File Sdf)) name step
+
+-- what the bytes of a SPEF file say of their nets: its grammar, its head and its sections are read
+pub data ReadsNets (pick : Pick) (bytes : List ℕ) : Result DesignNets Refusal → Type 0 where
+  at_grammar : (refusal : Refusal) → ParsesSpef bytes (Err refusal) → ReadsNets pick bytes (Err refusal)
+  at_head : (file : SpefText) (refusal : Refusal) → ParsesSpef bytes (Ok file) → HeadsSpef file (Err refusal) → ReadsNets pick bytes (Err refusal)
+  at_sections : (file : SpefText) (head : HeadText) (refusal : Refusal) → ParsesSpef bytes (Ok file) → HeadsSpef file (Ok head) → NetsSpef pick file head (Err refusal) → ReadsNets pick bytes (Err refusal)
+  through : (file : SpefText) (head : HeadText) (nets : List NetElements) → ParsesSpef bytes (Ok file) → HeadsSpef file (Ok head) → NetsSpef pick file head (Ok nets) → ReadsNets pick bytes (Ok (record { design = head.design; nets = nets }))
+
+-- `wires`: the SPEF file is read, then its nets, in its order, and each gives its rows
+pub data WiresGives (held : Option Held) (pick : Pick) (name : List ℕ) : Step Refusal FileKey SdfRows → Type 0 where
+  at_reading : (why : Stop Refusal FileKey) → ReadsSpef held name (Halt why) → WiresGives held pick name (Halt why)
+  at_spef : (bytes : List ℕ) (refusal : Refusal) → ReadsSpef held name (Go bytes) → ReadsNets pick bytes (Err refusal) → WiresGives held pick name (Halt (RefusedBy refusal))
+  at_nets : (bytes : List ℕ) (design : DesignNets) (refusal : Refusal) → ReadsSpef held name (Go bytes) → ReadsNets pick bytes (Ok design) → RowsOf design (Err refusal) → WiresGives held pick name (Halt (RefusedBy refusal))
+  with_rows : (bytes : List ℕ) (design : DesignNets) (rows : SdfRows) → ReadsSpef held name (Go bytes) → ReadsNets pick bytes (Ok design) → RowsOf design (Ok rows) → WiresGives held pick name (Go rows)
+
+-- the bytes are an SDF file (IEEE 1497), which says these rows, or its dead token is this one
+pub data ParsesSdf (bytes : List ℕ) : Result (List SdfRow) Refusal → Type 0 where
+  is_sdf_file : (rows : List SdfRow) → SaysRows bytes rows → ParsesSdf bytes (Ok rows)
+  is_no_sdf_file : (token : ℕ) (cause : SdfCause) → IsFault bytes token cause → ParsesSdf bytes (Err (SdfSyntax token))
+
+-- `show`: the SDF file is read, and then its grammar
+pub data ShowGives (held : Option Held) (name : List ℕ) : Step Refusal FileKey (List SdfRow) → Type 0 where
+  at_sdf_reading : (why : Stop Refusal FileKey) → ReadsSdf held name (Halt why) → ShowGives held name (Halt why)
+  at_sdf : (bytes : List ℕ) (refusal : Refusal) → ReadsSdf held name (Go bytes) → ParsesSdf bytes (Err refusal) → ShowGives held name (Halt (RefusedBy refusal))
+  with_sdf_rows : (bytes : List ℕ) (rows : List SdfRow) → ReadsSdf held name (Go bytes) → ParsesSdf bytes (Ok rows) → ShowGives held name (Go rows)
+
+-- the phase that reads the library
+abbrev pub ReadsLib : Option Held → List ℕ → Step Refusal FileKey (List ℕ) → Type 0
+ReadsLib held name step = ReadsFile file_limit held Lib (Limit (File Lib)) name step
+
+-- `lookup`: the library is read, then its grammar, then the model of the cell, and then each of its tables at the slew and the load
+pub data LookupGives (held : Option Held) (file name : List ℕ) (slew load : ℕ) : Step Refusal FileKey (List ArcRow) → Type 0 where
+  at_library_reading : (why : Stop Refusal FileKey) → ReadsLib held file (Halt why) → LookupGives held file name slew load (Halt why)
+  at_library : (bytes : List ℕ) (refusal : Refusal) → ReadsLib held file (Go bytes) → ParsesLibrary bytes (Err refusal) → LookupGives held file name slew load (Halt (RefusedBy refusal))
+  at_cell : (bytes : List ℕ) (library : Group) (refusal : Refusal) → ReadsLib held file (Go bytes) → ParsesLibrary bytes (Ok library) → ModelsCell library name (Err refusal) → LookupGives held file name slew load (Halt (RefusedBy refusal))
+  at_lookups : (bytes : List ℕ) (library : Group) (cell : TimedCell) (refusal : Refusal) → ReadsLib held file (Go bytes) → ParsesLibrary bytes (Ok library) → ModelsCell library name (Ok cell) → CellGives name cell slew load (Err refusal)
+      → LookupGives held file name slew load (Halt (RefusedBy refusal))
+  with_arc_rows : (bytes : List ℕ) (library : Group) (cell : TimedCell) (rows : List ArcRow) → ReadsLib held file (Go bytes) → ParsesLibrary bytes (Ok library) → ModelsCell library name (Ok cell) → CellGives name cell slew load (Ok rows)
+      → LookupGives held file name slew load (Go rows)
+
+-- a fact of the slew and the load that are asked for, in grains
+pub record ReadsPoint (request : Request) (fact : ℕ → ℕ → Type 0) : Type 0 where
+  pub slew : ℕ
+  pub load : ℕ
+  pub slew_reads : IsGrains (value_of request.given key.Slew) slew
+  pub load_reads : IsGrains (value_of request.given key.Load) load
+  pub holds : fact slew load
+
+-- the phases of which the value is put into what is written
+abbrev pub As : {A : Type 0} → (A → Output) → (Step Refusal FileKey A → Type 0) → Step Refusal FileKey Output → Type 0
+As {A} put phase (Go output) = (value : A) × phase (Go value) × (output ≡ put value)
+As put phase (Halt why) = phase (Halt why)
+
+-- the phases of a command over its keys
+abbrev pub CommandGives : Option Held → Command → Request → Step Refusal FileKey Output → Type 0
+CommandGives held Wires request step = As output.Sdf (WiresGives held (pick_from request.given) (value_of request.given key.Spef)) step
+CommandGives held Show request step = As output.Listing (ShowGives held (value_of request.given key.Sdf)) step
+CommandGives held Lookup request step = ReadsPoint request (λ slew load. As output.Arcs (LookupGives held (value_of request.given key.Lib) (value_of request.given key.Cell) slew load) step)
+CommandGives held Help request step = step ≡ Go output.Help
+CommandGives held Version request step = step ≡ Go output.Version
+
+-- the words are faulty, or the phases of their command answer
+pub data Verdict : Type 0 where
+  Faulty : UsageFault → Verdict
+  Answers : Step Refusal FileKey Output → Verdict
+
+-- the verdict on these words and on what is held
+abbrev pub Gives : List (List ℕ) → Option Held → Verdict → Type 0
+Gives words held (Faulty fault) = Asks words (Err fault)
+Gives words held (Answers step) = (request : Request) × Asks words (Ok request) × CommandGives held request.command request step

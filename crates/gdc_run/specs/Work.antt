@@ -1,0 +1,121 @@
+-- How many steps a run takes at the most: the work that its input gives.
+use Rattle.std.specs.Prelude.{◌≡◌, ℕ, ◌+◌, ◌*◌, ◌≤◌, Bool, true, false, IsTrue, List, length, slice_get, Option, Some, Result, Ok, Err}
+use Rattle.std.specs.List.{sum_by}
+use Rattle.edge_io.specs.Holding.{Held}
+use Rattle.corner_set.specs.declared.pick.Pick.{Pick}
+use Rattle.spef_text.specs.Entries.{section_at}
+use Rattle.spef_text.specs.SpefFiles.{SpefText}
+use Rattle.spef_text.specs.Heads.{HeadText}
+use Rattle.spef_nets.specs.NetElements.{NetElements}
+use Rattle.spef_nets.specs.Reading.{AreFaultlessBefore}
+use Rattle.spef_nets.specs.Sections.{IsNet}
+use Rattle.verdict_phases.specs.Phases.{Go}
+use Rattle.verdict_phases.specs.declared.ends.PhaseEnd.{PhaseEnd}
+use Rattle.verdict_phases.specs.declared.ends.PhaseEnd.TheVariants as phase
+use Rattle.gdc_words.specs.declared.commands.Command.{Command}
+use Rattle.gdc_words.specs.declared.commands.Command.TheVariants.{Wires, Show, Lookup, Help, Version}
+use Rattle.gdc_words.specs.declared.commands.Key.TheVariants as key
+use Rattle.gdc_words.specs.CommandLine.{Request, Asks, value_of, pick_from}
+use Rattle.gdc_run.specs.declared.refusal.FileKey.{FileKey}
+use Rattle.gdc_run.specs.declared.refusal.IndexKind.TheVariants.{Repeated}
+use Rattle.gdc_run.specs.declared.refusal.LimitKind.TheVariants.{File}
+use Rattle.gdc_run.specs.declared.refusal.NumberKind.TheVariants.{BadUnit}
+use Rattle.gdc_run.specs.declared.refusal.Refusal.{Refusal}
+use Rattle.gdc_run.specs.declared.refusal.Refusal.TheVariants.{LibrarySyntax, SpefSyntax, SpefForm, UnknownCell, SpefNumber, NameIndex, SdfSyntax, Limit}
+use Rattle.gdc_run.specs.declared.refusal.Refusal.TheVariants as refusal
+use Rattle.gdc_run.specs.declared.outcome.Outcome.{Outcome}
+use Rattle.gdc_run.specs.declared.outcome.Outcome.TheVariants as outcome
+use Rattle.gdc_run.specs.declared.top.End.{End}
+use Rattle.gdc_run.specs.declared.top.End.TheVariants as end
+use Rattle.gdc_run.specs.SpefPhases.{sole_corner, ParsesSpef, HeadsSpef}
+use Rattle.gdc_run.specs.Verdict.{ReadsSpef, ReadsLib}
+use Rattle.liberty_groups.specs.Groups.{Group}
+use Rattle.timing_arcs.specs.Cells.{TimedCell}
+use Rattle.gdc_run.specs.ArcRows.{arc_edges}
+use Rattle.gdc_run.specs.LibraryPhases.{ParsesLibrary, ModelsCell}
+use Rattle.gdc_run.specs.NetRows.{most_steps}
+
+-- the most steps of these nets at one corner
+abbrev pub total_steps : List NetElements → ℕ
+total_steps nets = sum_by most_steps nets
+
+-- the nets of the first sections of a file, in its order, none of which has a fault
+pub record AreFrontNets (pick : Pick) (file : SpefText) (head : HeadText) (nets : List NetElements) : Type 0 where
+  pub few : length nets ≤ length file.reading.sections
+  pub each : (place : ℕ) (net : NetElements) → slice_get nets place ≡ Some net → IsNet (sole_corner pick) file head (section_at file.reading.sections place) net
+  pub faultless : AreFaultlessBefore file head (length nets)
+
+-- the work of the first sections of a file
+pub data SectionsWork (pick : Pick) (file : SpefText) (head : HeadText) : ℕ → Type 0 where
+  of_sections : (nets : List NetElements) → AreFrontNets pick file head nets → SectionsWork pick file head (total_steps nets)
+
+-- the work of a SPEF file's bytes: none before its head is read, and then that of its first sections
+pub data TextWork (pick : Pick) (bytes : List ℕ) : ℕ → Type 0 where
+  no_head : TextWork pick bytes 0
+  of_head : {work : ℕ} (file : SpefText) (head : HeadText) → ParsesSpef bytes (Ok file) → HeadsSpef file (Ok head) → SectionsWork pick file head work → TextWork pick bytes work
+
+-- the work of `wires`: none before the SPEF file is read, and then that of its bytes
+pub data WiresWork (held : Option Held) (pick : Pick) (name : List ℕ) : ℕ → Type 0 where
+  no_file : WiresWork held pick name 0
+  of_file : {work : ℕ} (bytes : List ℕ) → ReadsSpef held name (Go bytes) → TextWork pick bytes work → WiresWork held pick name work
+
+-- the work of `lookup`: none before the model of the cell is made, and then 64 steps at the most for each edge of its arcs
+pub data LookupWork (held : Option Held) (file name : List ℕ) : ℕ → Type 0 where
+  no_model_yet : LookupWork held file name 0
+  of_model : (bytes : List ℕ) (library : Group) (cell : TimedCell) → ReadsLib held file (Go bytes) → ParsesLibrary bytes (Ok library) → ModelsCell library name (Ok cell) → LookupWork held file name (64 * length (arc_edges cell.arcs))
+
+-- the work of a command: `wires` and `lookup` take steps, and no other
+abbrev pub CommandWork : Option Held → Command → Request → ℕ → Type 0
+CommandWork held Wires request work = WiresWork held (pick_from request.given) (value_of request.given key.Spef) work
+CommandWork held Show request work = work ≡ 0
+CommandWork held Lookup request work = LookupWork held (value_of request.given key.Lib) (value_of request.given key.Cell) work
+CommandWork held Help request work = work ≡ 0
+CommandWork held Version request work = work ≡ 0
+
+-- the work of these words and of what is held: none before the words are read, and then that of their command
+pub data WordsWork (words : List (List ℕ)) (held : Option Held) : ℕ → Type 0 where
+  no_words : WordsWork words held 0
+  of_words : {work : ℕ} (request : Request) → Asks words (Ok request) → CommandWork held request.command request work → WordsWork words held work
+
+-- a count rose by no more than a work
+pub record IsWithin (Work : ℕ → Type 0) (before after : ℕ) : Type 0 where
+  pub work : ℕ
+  pub given : Work work
+  pub bound : after ≤ before + work
+
+-- a refusal that comes before a section or a table is read: of a file's length, of a grammar, of the head, or of a cell
+abbrev pub is_early : Refusal → Bool
+is_early (SpefSyntax token) = true
+is_early (SpefForm word token) = true
+is_early (SpefNumber BadUnit token) = true
+is_early (NameIndex Repeated token) = true
+is_early (SdfSyntax token) = true
+is_early (Limit (File key)) = true
+is_early (LibrarySyntax corner token line cause) = true
+is_early (UnknownCell cell corner) = true
+is_early (refusal.CellFault cell corner fault) = true
+is_early _ = false
+
+-- a fact of an end that comes before a section is read
+abbrev pub OnEarly : {A : Type 0} → Result A (PhaseEnd Refusal FileKey) → Type 0 → Type 0
+OnEarly (Ok value) fact = Unit {0}
+OnEarly (Err (phase.Refused refusal)) fact = IsTrue (is_early refusal) → fact
+OnEarly (Err (phase.ReadFault key)) fact = fact
+OnEarly (Err phase.OutOfMemory) fact = Unit {0}
+
+abbrev pub OnEarlyEnd : {A : Type 0} → Result A End → Type 0 → Type 0
+OnEarlyEnd (Ok value) fact = Unit {0}
+OnEarlyEnd (Err (end.Usage fault)) fact = fact
+OnEarlyEnd (Err (end.Phase (phase.Refused refusal))) fact = IsTrue (is_early refusal) → fact
+OnEarlyEnd (Err (end.Phase (phase.ReadFault key))) fact = fact
+OnEarlyEnd (Err (end.Phase phase.OutOfMemory)) fact = Unit {0}
+OnEarlyEnd (Err end.OutOfMemory) fact = Unit {0}
+
+-- a fact of every answer that comes before a section is read
+abbrev pub BeforeSections : Outcome → Type 0 → Type 0
+BeforeSections outcome.Done fact = Unit {0}
+BeforeSections (outcome.Refused refusal) fact = IsTrue (is_early refusal) → fact
+BeforeSections (outcome.Usage fault) fact = fact
+BeforeSections (outcome.ReadFault key) fact = fact
+BeforeSections outcome.WriteFault fact = Unit {0}
+BeforeSections outcome.OutOfMemory fact = Unit {0}

@@ -1,0 +1,17 @@
+//! The law of what the program writes.
+ghost use Rattle.name_table.specs.WellSpelled.{IsWellSpelled};
+ghost use Rattle.sdf_read_back.specs.Names.{IsSettled};
+ghost use Rattle.gdc_run.specs.ReadBack.{WiresReadBack};
+
+use sdf_read_back::{read_back, settled_read_back};
+
+/// The law of reading back, which its contract states: of the rows that the verdict gives for `wires`, if their names are settled, as
+/// those of SPEF's nodes are that do not begin with `//`, or if they are well spelled, the SDF grammar relates the text that is
+/// written to the rows that are read back, and to no others. It does nothing when it is called.
+pub fn wires_read_back()
+    ensures settled { WiresReadBack IsSettled }
+    ensures well_spelled { WiresReadBack IsWellSpelled }
+{
+    settled_read_back();
+    read_back();
+}

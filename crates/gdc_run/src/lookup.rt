@@ -1,0 +1,43 @@
+//! The command `lookup`: the arcs of a library's cell at one slew and one load.
+ghost use Rattle.std.specs.Prelude.{◌≡◌, ◌⊎◌, unsigned_abs};
+ghost use Rattle.edge_io.specs.Counts.{Rose, RoseBy};
+ghost use Rattle.edge_io.specs.Holding.{TellsMissing};
+ghost use Rattle.verdict_phases.specs.Phases.{Follows};
+ghost use Rattle.gdc_run.specs.Ends.{AtReadFault};
+ghost use Rattle.gdc_run.specs.declared.refusal.FileKey.TheVariants.{Lib};
+ghost use Rattle.gdc_run.specs.Verdict.{LookupGives};
+ghost use Rattle.gdc_run.specs.Work.{LookupWork, IsWithin, OnEarly};
+
+use crate::arc_rows::{ArcRows, Point, arc_rows};
+use crate::library_phases::{model_cell, parse_library};
+use crate::refusal::{FileKey, LimitKind, Refusal};
+use crate::wires::FILE_LIMIT;
+use edge_io::{Shelf, Steps, Text};
+use std::alloc::Global;
+use std::sync::ledger::Ledger;
+use verdict_phases::{PhaseEnd, read_phase};
+
+/// The rows of the cell of that name in the library of that file, at a slew and a load.
+#[tactic(auto, using(crate::specs::Verdict::at_library_reading, crate::specs::Verdict::at_library, crate::specs::Verdict::at_cell, crate::specs::Verdict::at_lookups, crate::specs::Verdict::with_arc_rows, crate::proofs::Work::no_lookup_work, crate::proofs::Work::lookup_work))]
+pub fn lookup<H: Shelf, L: Ledger>(
+    alloc: Global,
+    shelf: &mut H,
+    library: &Text,
+    cell: &Text,
+    at: Point,
+    steps: &mut Steps<L>,
+) -> Result<ArcRows, PhaseEnd<Refusal, FileKey>>
+    ensures follows { Follows (LookupGives (H.held shelf.old) library.now cell.now (unsigned_abs at.slew.0) at.load.0) result }
+    ensures fault { AtReadFault result (λ key. (key ≡ Lib)
+        × (Rose (H.faults shelf.old) (H.faults shelf.new) ⊎ TellsMissing (H.held shelf.old) library.now)) }
+    ensures opens { RoseBy 1 (H.opens shelf.old) (H.opens shelf.new) }
+    ensures steps { IsWithin (LookupWork (H.held shelf.old) library.now cell.now) steps.old steps.new }
+    ensures no_steps { OnEarly result (steps.new ≡ steps.old) }
+{
+    let too_long = Refusal::Limit(LimitKind::File(FileKey::Lib));
+    let text = read_phase(alloc, shelf, library, FILE_LIMIT, FileKey::Lib, too_long)?;
+    let tree = parse_library(alloc, text.bytes())?;
+    let model = model_cell(alloc, &tree, cell)?;
+    let rows = arc_rows(alloc, cell, &model, at, steps)?;
+    Ok(rows)
+}

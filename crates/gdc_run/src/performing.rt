@@ -1,0 +1,61 @@
+//! What each command does.
+ghost use Rattle.std.specs.Prelude.{◌≡◌};
+ghost use Rattle.verdict_phases.specs.Phases.{Follows};
+ghost use Rattle.gdc_run.specs.Ends.{AtReadFault};
+ghost use Rattle.gdc_run.specs.Outcomes.{HasCause};
+ghost use Rattle.gdc_run.specs.Verdict.{CommandGives};
+ghost use Rattle.gdc_run.specs.Work.{CommandWork, IsWithin, OnEarly};
+
+use crate::arc_rows::Point;
+use crate::lookup::lookup;
+use crate::output::Output;
+use crate::refusal::{FileKey, Refusal};
+use crate::show::show;
+use crate::wires::wires;
+use edge_io::{Shelf, Steps};
+use gdc_words::{Asked, Command, Key};
+use std::alloc::Global;
+use std::sync::ledger::Ledger;
+use verdict_phases::PhaseEnd;
+
+/// What the command that is asked for has to write.
+#[tactic(auto, using(crate::proofs::Work::no_work_of_command))]
+pub fn perform<H: Shelf, L: Ledger>(
+    alloc: Global,
+    asked: &Asked,
+    shelf: &mut H,
+    steps: &mut Steps<L>,
+) -> Result<Output, PhaseEnd<Refusal, FileKey>>
+    ensures follows { Follows (CommandGives (H.held shelf.old) asked.now.command asked.now) result }
+    ensures fault { AtReadFault result (HasCause (H.held shelf.old) asked.now (H.faults shelf.old) (H.faults shelf.new) (H.opens shelf.old) (H.opens shelf.new)) }
+    ensures steps { IsWithin (CommandWork (H.held shelf.old) asked.now.command asked.now) steps.old steps.new }
+    ensures no_steps { OnEarly result (steps.new ≡ steps.old) }
+{
+    match asked.command() {
+        Command::Wires => {
+            let rows = wires(alloc, shelf, asked.needed(Key::Spef), asked.pick(), steps)?;
+            Ok(Output::Sdf(rows))
+        }
+        Command::Show => {
+            let rows = show(alloc, shelf, asked.needed(Key::Sdf))?;
+            Ok(Output::Listing(rows))
+        }
+        Command::Lookup => {
+            let at = Point::new(
+                asked.needed_grains(Key::Slew),
+                asked.needed_grains(Key::Load),
+            );
+            let rows = lookup(
+                alloc,
+                shelf,
+                asked.needed(Key::Lib),
+                asked.needed(Key::Cell),
+                at,
+                steps,
+            )?;
+            Ok(Output::Arcs(rows))
+        }
+        Command::Help => Ok(Output::Help),
+        Command::Version => Ok(Output::Version),
+    }
+}

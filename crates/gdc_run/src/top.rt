@@ -1,0 +1,171 @@
+//! The one call that the program makes.
+ghost use Rattle.std.specs.Prelude.{◌≡◌, Result, Err};
+ghost use Rattle.edge_io.specs.Counts.{Rose};
+ghost use Rattle.edge_io.specs.Told.{appended, AppendsFrontOf};
+ghost use Rattle.gdc_words.specs.CommandLine.{Asks};
+ghost use Rattle.gdc_run.specs.Verdict.{Gives, Answers};
+ghost use Rattle.gdc_run.specs.Outcomes.{OnDone, IfRefused, IfUsage, IfReadFault, OnWriteFault, UnlessWritten, GivesText, HasReadFault, AnswersUsage};
+ghost use Rattle.gdc_run.specs.ReadBack.{WiresReadBack};
+ghost use Rattle.gdc_run.specs.Saying.{Says};
+ghost use Rattle.sdf_read_back.specs.Names.{IsSettled};
+ghost use Rattle.gdc_run.specs.Completeness.{IsComplete};
+ghost use Rattle.gdc_run.specs.Ends.{MeansEnd, FollowsTop};
+ghost use Rattle.gdc_run.specs.Work.{WordsWork, IsWithin, OnEarlyEnd, BeforeSections};
+ghost use Rattle.verdict_phases.specs.Phases.{RefusedBy, Halt};
+
+use crate::laws::wires_read_back;
+use crate::lines::say;
+use crate::outcome::Outcome;
+use crate::output::{Output, write_output};
+use crate::performing::perform;
+use crate::refusal::{FileKey, Refusal};
+use edge_io::{Failed, Shelf, Sink, Steps};
+use gdc_words::{UsageFault, Words, WordsEnd, read_words};
+use std::alloc::Global;
+use std::sync::ledger::Ledger;
+use verdict_phases::PhaseEnd;
+
+/// Why there is nothing to write.
+#[derive(Drop)]
+enum End {
+    Usage(UsageFault),
+    Phase(PhaseEnd<Refusal, FileKey>),
+    OutOfMemory,
+}
+
+impl From<WordsEnd> for End {
+    ghost use Rattle.gdc_run.specs.Ends.{end_of_words};
+    ghost use Rattle.std.specs.Prelude.{◌≡◌};
+
+    ghost from_gives = { λ words end. end ≡ end_of_words words };
+
+    fn from(end: WordsEnd) -> End {
+        match end {
+            WordsEnd::Usage(fault) => End::Usage(fault),
+            WordsEnd::OutOfMemory => End::OutOfMemory,
+        }
+    }
+}
+
+impl From<PhaseEnd<Refusal, FileKey>> for End {
+    ghost use Rattle.std.specs.Prelude.{◌≡◌};
+    ghost use Rattle.gdc_run.specs.declared.top.End.TheVariants.{Phase};
+
+    ghost from_gives = { λ phase end. end ≡ Phase phase };
+
+    fn from(end: PhaseEnd<Refusal, FileKey>) -> End {
+        End::Phase(end)
+    }
+}
+
+/// What the words ask for, as it is to be written.
+#[tactic(auto, using(crate::proofs::Work::no_words_work, crate::proofs::Work::words_work))]
+fn decide<H: Shelf, L: Ledger>(
+    alloc: Global,
+    words: &Words,
+    shelf: &mut H,
+    steps: &mut Steps<L>,
+) -> Result<Output, End>
+    ensures follows { FollowsTop words.now (H.held shelf.old) result }
+    ensures fault { MeansEnd words.now (H.held shelf.old) (H.faults shelf.old) (H.faults shelf.new) (H.opens shelf.old) (H.opens shelf.new) result }
+    ensures steps { IsWithin (WordsWork words.now (H.held shelf.old)) steps.old steps.new }
+    ensures no_steps { OnEarlyEnd result (steps.new ≡ steps.old) }
+{
+    let asked = read_words(alloc, words)?;
+    let output = perform(alloc, &asked, shelf, steps)?;
+    Ok(output)
+}
+
+/// Decides, and writes what there is to write.
+fn answer<H: Shelf, O: Sink, L: Ledger>(
+    alloc: Global,
+    words: &Words,
+    shelf: &mut H,
+    out: &mut O,
+    steps: &mut Steps<L>,
+) -> Outcome
+    ensures done { OnDone result (GivesText words.now (H.held shelf.old)
+        (λ text. O.written out.new ≡ appended (O.written out.old) text)) }
+    ensures refused { IfRefused result
+        (λ refusal. Gives words.now (H.held shelf.old) (Answers (Halt (RefusedBy refusal)))) }
+    ensures usage { IfUsage result (λ fault. Asks words.now (Err fault)) }
+    ensures read_fault { IfReadFault result (λ key. HasReadFault words.now (H.held shelf.old) key
+        (H.faults shelf.old) (H.faults shelf.new) (H.opens shelf.old) (H.opens shelf.new)) }
+    ensures write_fault { OnWriteFault result (Rose (O.faults out.old) (O.faults out.new)
+        × GivesText words.now (H.held shelf.old)
+        (λ text. AppendsFrontOf text (O.written out.old) (O.written out.new))) }
+    ensures untouched { UnlessWritten result (O.written out.new ≡ O.written out.old) }
+    ensures steps { IsWithin (WordsWork words.now (H.held shelf.old)) steps.old steps.new }
+    ensures no_steps { BeforeSections result (steps.new ≡ steps.old) }
+{
+    match decide(alloc, words, shelf, steps) {
+        Err(End::Usage(fault)) => Outcome::Usage(fault),
+        Err(End::Phase(PhaseEnd::Refused(refusal))) => Outcome::Refused(refusal),
+        Err(End::Phase(PhaseEnd::ReadFault(key))) => Outcome::ReadFault(key),
+        Err(End::Phase(PhaseEnd::OutOfMemory)) => Outcome::OutOfMemory,
+        Err(End::OutOfMemory) => Outcome::OutOfMemory,
+        Ok(output) => match write_output(&output, out) {
+            Ok(()) => Outcome::Done,
+            Err(Failed) => Outcome::WriteFault,
+        },
+    }
+}
+
+/// Does what the words ask for: reads the files that they name from `shelf`, writes the text to `out`,
+/// and for every answer but `Done` one line to `err`.
+///
+/// Nothing is written to `out` before the verdict is reached. Where `err` fails, a front of the line is
+/// written and the answer stays. `steps` counts the reads of nets and trees.
+pub fn run<H: Shelf, O: Sink, E: Sink, L: Ledger>(
+    alloc: Global,
+    words: &Words,
+    shelf: &mut H,
+    out: &mut O,
+    err: &mut E,
+    steps: &mut Steps<L>,
+) -> Outcome
+    // Done: the verdict gives what is to be written, and its text stands behind what `out` held.
+    ensures done { OnDone result (GivesText words.now (H.held shelf.old)
+        (λ text. O.written out.new ≡ appended (O.written out.old) text)) }
+
+    // What is written for `wires` is read back: the text of the rows that the verdict gives says these rows, and no others.
+    ensures read_back { WiresReadBack IsSettled }
+
+    // A refusal is the verdict's.
+    ensures refused { IfRefused result
+        (λ refusal. Gives words.now (H.held shelf.old) (Answers (Halt (RefusedBy refusal)))) }
+
+    // A fault of the words is answered exactly where it is their first.
+    ensures usage { IfUsage result (λ fault. Asks words.now (Err fault)) }
+    ensures usage_first { AnswersUsage words.now result }
+
+    // A read fault has its cause, which both counts of the shelf show.
+    ensures read_fault { IfReadFault result (λ key. HasReadFault words.now (H.held shelf.old) key
+        (H.faults shelf.old) (H.faults shelf.new) (H.opens shelf.old) (H.opens shelf.new)) }
+
+    // Where the text could not be written whole, a front of it was, and the count of `out` rose.
+    ensures write_fault { OnWriteFault result (Rose (O.faults out.old) (O.faults out.new)
+        × GivesText words.now (H.held shelf.old)
+        (λ text. AppendsFrontOf text (O.written out.old) (O.written out.new))) }
+
+    // Every other answer leaves `out` as it was.
+    ensures untouched { UnlessWritten result (O.written out.new ≡ O.written out.old) }
+
+    // Where no count rises, the answer is the verdict's, or memory ran out.
+    ensures complete { IsComplete words.now (H.held shelf.old) (H.faults shelf.old) (H.faults shelf.new)
+        (O.faults out.old) (O.faults out.new) result }
+
+    // The answer's line stands behind what `err` held.
+    ensures said { Says result (E.written err.old) (E.written err.new) (E.faults err.old) (E.faults err.new) }
+
+    // No more steps than 16 for each resistor, capacitance to ground and connection of the sections that were read, and none
+    // before the first of them.
+    ensures steps { IsWithin (WordsWork words.now (H.held shelf.old)) steps.old steps.new }
+    ensures no_steps { BeforeSections result (steps.new ≡ steps.old) }
+{
+    wires_read_back();
+    let outcome = answer(alloc, words, shelf, out, steps);
+    // The answer stays where its line could not be written.
+    let _ = say(&outcome, err);
+    outcome
+}
