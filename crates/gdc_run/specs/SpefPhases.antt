@@ -7,7 +7,7 @@ use Rattle.spef_text.specs.declared.parsing.SpefEnd.TheVariants as grammar
 use Rattle.spef_text.specs.declared.head_ends.HeadEnd.TheVariants as head
 use Rattle.spef_nets.specs.NetElements.{NetElements}
 use Rattle.spef_nets.specs.Sections.{Corners, AreNets}
-use Rattle.spef_nets.specs.Faults.{IsSectionEnd}
+use Rattle.spef_nets.specs.Faults.{AreFaultless, IsSectionEnd}
 use Rattle.spef_nets.specs.declared.ends.SectionEnd.TheVariants as section
 use Rattle.gdc_run.specs.declared.refusal.NumberKind.TheVariants.{BadUnit, BadNumber, ValueTooLarge}
 use Rattle.gdc_run.specs.declared.refusal.IndexKind.TheVariants.{Unknown, Repeated}
@@ -35,9 +35,9 @@ pub record DesignNets : Type 0 where
   pub design : List ℕ
   pub nets : List NetElements
 
--- the sections say this of their nets, or have a first fault
+-- the sections have no fault and say this of their nets, or have a first fault
 pub data NetsSpef (pick : Pick) (file : SpefText) (head : HeadText) : Result (List NetElements) Refusal → Type 0 where
-  are_nets : (nets : List NetElements) → AreNets (sole_corner pick) file head nets → NetsSpef pick file head (Ok nets)
+  are_nets : (nets : List NetElements) → AreFaultless file head → AreNets (sole_corner pick) file head nets → NetsSpef pick file head (Ok nets)
   unknown_index : (token : ℕ) → IsSectionEnd file head (section.UnknownIndex token) → NetsSpef pick file head (Err (NameIndex Unknown token))
   bad_number : (token : ℕ) → IsSectionEnd file head (section.BadNumber token) → NetsSpef pick file head (Err (SpefNumber BadNumber token))
   value_too_large : (token : ℕ) → IsSectionEnd file head (section.ValueTooLarge token) → NetsSpef pick file head (Err (SpefNumber ValueTooLarge token))

@@ -41,7 +41,7 @@ returns-in-Ok-finish g c =
     let whole : c.loop.counter ≡ length c.args.file.now.reading.sections = omega arith in
     record {
       follows = subst (SectionsGive c.args.pick c.args.file.now c.args.head.now) (sym c.finish.ensures ∙ c.in-Ok-finish.is)
-          (all_nets_added c.args.pick c.args.file.now c.args.head.now c.loop.reader c.loop.invariant.0 c.loop.counter c.loop.rows c.loop.invariant.1 whole c.loop.invariant.2);
+          (all_nets_added c.args.pick c.args.file.now c.args.head.now c.loop.reader c.loop.invariant.0 c.loop.counter c.loop.rows c.loop.invariant.1 whole c.loop.invariant.3 c.loop.invariant.2);
       steps = front_read c.args.pick c.args.file.now c.args.head.now c.loop.reader c.loop.invariant.0 c.loop.counter c.args.steps.now c.loop.steps c.loop.invariant.1 (omega (arith, whole)) c.loop.invariant.3 c.loop.invariant.4;
     }
 
@@ -50,7 +50,7 @@ returns g c =
     let whole : c.loop.counter ≡ length c.args.file.now.reading.sections = omega arith in
     record {
       follows = subst (SectionsGive c.args.pick c.args.file.now c.args.head.now) (sym c.finish.ensures ∙ c.in-Err-finish.is)
-          (all_nets_added c.args.pick c.args.file.now c.args.head.now c.loop.reader c.loop.invariant.0 c.loop.counter c.loop.rows c.loop.invariant.1 whole c.loop.invariant.2);
+          (all_nets_added c.args.pick c.args.file.now c.args.head.now c.loop.reader c.loop.invariant.0 c.loop.counter c.loop.rows c.loop.invariant.1 whole c.loop.invariant.3 c.loop.invariant.2);
       steps = front_read c.args.pick c.args.file.now c.args.head.now c.loop.reader c.loop.invariant.0 c.loop.counter c.args.steps.now c.loop.steps c.loop.invariant.1 (omega (arith, whole)) c.loop.invariant.3 c.loop.invariant.4;
     }
 
