@@ -1,6 +1,7 @@
 pub mod ArcLemmas
 pub mod Completing
 pub mod NetRows
+pub mod OneVerdict
 pub mod PinLists
 pub mod Places
 pub mod ReadBack

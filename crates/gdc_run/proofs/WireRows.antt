@@ -1,10 +1,10 @@
 -- The rows of the nets of a file are added one after another.
-use Rattle.std.proofs.Common.{◌≡◌, ℕ, List, [], ◌∷◌, ◌++◌, length, Option, Result, Ok, Err, refl, sym, ap, subst, append_assoc, arith}
+use Rattle.std.proofs.Common.{◌≡◌, ℕ, List, [], ◌∷◌, ◌++◌, length, Option, Result, Ok, Err, refl, sym, subst, append_assoc, arith}
 use Rattle.std.proofs.lemmas.Option.{slice_get_within}
 use Rattle.std.specs.Prelude.{IsErrAnd}
 use Rattle.corner_set.specs.declared.pick.Pick.{Pick}
 use Rattle.edge_io.specs.Holding.{Held}
-use Rattle.sdf_writer.specs.SdfText.{WireRow, SdfRows}
+use Rattle.sdf_writer.specs.SdfText.{SdfRows}
 use Rattle.spef_text.specs.SpefFiles.{SpefText}
 use Rattle.spef_text.specs.Heads.{HeadText}
 use Rattle.spef_nets.specs.NetElements.{NetElements}

@@ -7,6 +7,7 @@ pub mod Lines
 pub mod Looking
 pub mod NetPins
 pub mod NetRows
+pub mod OneVerdict
 pub mod Outcomes
 pub mod Outputs
 pub mod ReadBack

@@ -1,6 +1,7 @@
-//! The law of what the program writes.
+//! The laws of the verdict, and of what the program writes.
 ghost use Rattle.name_table.specs.WellSpelled.{IsWellSpelled};
 ghost use Rattle.sdf_read_back.specs.Names.{IsSettled};
+ghost use Rattle.gdc_run.specs.OneVerdict.{OneVerdict};
 ghost use Rattle.gdc_run.specs.ReadBack.{WiresReadBack};
 
 use sdf_read_back::{read_back, settled_read_back};
@@ -15,3 +16,11 @@ pub fn wires_read_back()
     settled_read_back();
     read_back();
 }
+
+/// The law of verdicts, which its contract states: on words and on files that are told there is one verdict, if the words are
+/// faulty or ask for `show`, `--help` or `--version`. That the phases come to the reading of a file, where a fault of the outside
+/// may come, stands beside it. It does nothing when it is called.
+#[tactic(auto, using(crate::proofs::OneVerdict::plain_verdict))]
+pub fn one_verdict()
+    ensures law { OneVerdict }
+{}

@@ -1,4 +1,4 @@
-use Rattle.std.proofs.Common.{◌≡◌, ℕ, List, Ok, Err, length, [], ◌∷◌, ◌++◌, ◌+◌, ◌≤◌, refl, sym, ◌∙◌, ap, subst, arith}
+use Rattle.std.proofs.Common.{◌≡◌, length, [], ◌∷◌, ◌++◌, ◌+◌, ◌≤◌, refl, sym, ◌∙◌, subst, arith}
 use Rattle.spef_nets.specs.NetElements.{NetElements}
 use Rattle.spef_nets.specs.Reading.{Reading}
 use Rattle.spef_nets.proofs.ReadingLemmas.{AreRead, no_nets, one_more}

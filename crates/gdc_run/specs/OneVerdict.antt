@@ -1,0 +1,75 @@
+-- That the verdict is one: what two verdicts on the same words and on the same files have in common.
+use Rattle.std.specs.Prelude.{◌≡◌, ℕ, ◌⊎◌, List, Some, Ok}
+use Rattle.edge_io.specs.Holding.{Held}
+use Rattle.verdict_phases.specs.Phases.{Stop, RefusedBy, Unread, Reads, Step, Go, Halt}
+use Rattle.gdc_words.specs.CommandLine.{Request, Asks}
+use Rattle.gdc_words.specs.declared.commands.Command.{Command}
+use Rattle.gdc_words.specs.declared.commands.Command.TheVariants.{Wires, Show, Lookup, Help, Version}
+use Rattle.gdc_run.specs.declared.refusal.FileKey.{FileKey}
+use Rattle.gdc_run.specs.declared.refusal.Refusal.{Refusal}
+use Rattle.gdc_run.specs.declared.refusal.Refusal.TheVariants.{Mesh}
+use Rattle.gdc_run.specs.Verdict.{Verdict, Faulty, Answers, Gives}
+
+-- a stop decides, other than one at the reading of a file, where a fault of the outside may come or not
+abbrev pub IsFinal : {R K : Type 0} → Stop R K → Type 0
+IsFinal (RefusedBy refusal) = Unit {0}
+IsFinal (Unread key) = Unit {0}
+IsFinal (Reads key) = ⊥
+
+abbrev pub IsDecided : {R K A : Type 0} → Step R K A → Type 0
+IsDecided (Go value) = Unit {0}
+IsDecided (Halt why) = IsFinal why
+
+-- both refuse one net for a mesh, whatever resistor of its loops each of them names
+pub record AreMeshes (one other : Refusal) : Type 0 where
+  pub net : List ℕ
+  pub first : ℕ
+  pub second : ℕ
+  pub one_is : one ≡ Mesh net first
+  pub other_is : other ≡ Mesh net second
+
+-- two refusals are one, the resistor of a mesh aside
+abbrev pub SameRefusal : Refusal → Refusal → Type 0
+SameRefusal one other = (one ≡ other) ⊎ AreMeshes one other
+
+-- two stops are one, the resistor of a mesh aside
+abbrev pub SameStop : Stop Refusal FileKey → Stop Refusal FileKey → Type 0
+SameStop (RefusedBy one) (RefusedBy other) = SameRefusal one other
+SameStop (Unread one) (Unread other) = one ≡ other
+SameStop (Reads one) (Reads other) = one ≡ other
+SameStop _ _ = ⊥
+
+-- two answers of phases are one, the resistor of a mesh aside
+abbrev pub SameStep : {A : Type 0} → Step Refusal FileKey A → Step Refusal FileKey A → Type 0
+SameStep (Go one) (Go other) = one ≡ other
+SameStep (Halt one) (Halt other) = SameStop one other
+SameStep _ _ = ⊥
+
+-- phases have one answer, the resistor of a mesh and the reading of a file aside
+abbrev pub HasOneAnswer : {A : Type 0} → (Step Refusal FileKey A → Type 0) → Type 0
+HasOneAnswer {A} phase = (one other : Step Refusal FileKey A) → phase one → phase other → IsDecided one → IsDecided other → SameStep one other
+
+abbrev pub IsDecidedVerdict : Verdict → Type 0
+IsDecidedVerdict (Faulty fault) = Unit {0}
+IsDecidedVerdict (Answers step) = IsDecided step
+
+abbrev pub SameVerdict : Verdict → Verdict → Type 0
+SameVerdict (Faulty one) (Faulty other) = one ≡ other
+SameVerdict (Answers one) (Answers other) = SameStep one other
+SameVerdict _ _ = ⊥
+
+-- these words and what is held have one verdict, the resistor of a mesh and the reading of a file aside
+abbrev pub HasOneVerdict : List (List ℕ) → Held → Type 0
+HasOneVerdict words held = (one other : Verdict) → Gives words (Some held) one → Gives words (Some held) other → IsDecidedVerdict one → IsDecidedVerdict other → SameVerdict one other
+
+-- the commands of which the law is proved
+abbrev pub IsPlain : Command → Type 0
+IsPlain Wires = ⊥
+IsPlain Show = Unit {0}
+IsPlain Lookup = ⊥
+IsPlain Help = Unit {0}
+IsPlain Version = Unit {0}
+
+-- the verdict is one: on faulty words, and on those that ask for such a command
+abbrev pub OneVerdict : Type 0
+OneVerdict = (words : List (List ℕ)) (held : Held) → ((request : Request) → Asks words (Ok request) → IsPlain request.command) → HasOneVerdict words held
