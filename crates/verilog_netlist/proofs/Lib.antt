@@ -7,4 +7,6 @@ pub mod Living
 pub mod Fitting
 pub mod Parting
 pub mod SoFar
+pub mod Finding
 pub mod Repeating
+pub mod Pairing

@@ -1,5 +1,5 @@
--- The names so far, and whether one of them is repeated.
-use Rattle.std.proofs.Common.{◌≡◌, ℕ, zero, suc, ◌+◌, ◌<◌, ◌≤◌, Bool, true, false, not, ◌&&◌, ◌||◌, ◌==◌, ◌⊎◌, inl, inr, List, [], ◌∷◌, ◌++◌, length, take, get_or, slice_get, Option, Some, None, refl, sym, ap, ap₂, ◌∙◌, subst, arith, true≢false, if◌then◌else◌, Decides}
+-- The names so far, and whether the next one is repeated.
+use Rattle.std.proofs.Common.{◌≡◌, ℕ, zero, suc, ◌+◌, ◌<◌, Bool, true, false, not, ◌&&◌, ◌||◌, ◌==◌, ◌⊎◌, inl, inr, List, [], ◌∷◌, ◌++◌, length, take, get_or, slice_get, Option, Some, None, refl, sym, ap, ap₂, ◌∙◌, subst, arith, true≢false, if◌then◌else◌, Decides}
 use Rattle.std.specs.Prelude.{count_by}
 use Rattle.std.specs.List.{list_any}
 use Rattle.std.specs.Str.{bytes_eq}
@@ -12,7 +12,8 @@ use Rattle.std.proofs.lemmas.Slice.Eq.{bytes_eq-Decides}
 use Rattle.indexmap.specs.IndexSet.{insert_key}
 use Rattle.verilog_netlist.specs.Spans.{text_at}
 use Rattle.verilog_netlist.specs.Namespaces.{name_of, own_names, header_names, IsAmong, by_own, in_header, begins_module, begins_instance, scope_of, IsRepeated}
-use Rattle.verilog_netlist.specs.NameKeys.{code_of, Key, key_in, keys_in, same_key, scope_in, counted, key_of, holds, with_key, is_held, with_name}
+use Rattle.verilog_netlist.specs.Directions.{StandsAmong}
+use Rattle.verilog_netlist.specs.NameKeys.{code_of, Key, key_in, keys_in, same_key, scope_in, counted, key_of, holds, with_key, is_held, with_name, key_at, IsKeyBefore, HoldsNames}
 use Rattle.verilog_netlist.specs.declared.entries.Decl.TheVariants as decl
 use Rattle.verilog_netlist.specs.declared.entries.Entry.{Entry}
 use Rattle.verilog_netlist.specs.declared.entries.Entry.TheVariants.{Declared, Module}
@@ -38,7 +39,7 @@ same_key-Decides one other =
     (λ is. ap (λ (k : Key). k.code) is) (λ is. (ap (λ (k : Key). k.scope) is, ap (λ (k : Key). k.name) is))
 
 -- what the table does is what its list does
-any_key : (key : NameKey) (keys : List NameKey) → list_any (λ other. same_key (key_in key) (key_in other)) keys ≡ holds (keys_in keys) (key_in key)
+pub any_key : (key : NameKey) (keys : List NameKey) → list_any (λ other. same_key (key_in key) (key_in other)) keys ≡ holds (keys_in keys) (key_in key)
 any_key key [] = refl
 any_key key (other ∷ keys) = ap (λ t. same_key (key_in key) (key_in other) || t) (any_key key keys)
 
@@ -147,63 +148,85 @@ apart (Declared (decl.Port way) name bounds) among own header = absurd (cc)
 apart (Declared decl.Wire name bounds) among own header = absurd (cc)
 apart _ among own header = absurd (cc)
 
+-- so many modules and instances have begun before this place
+pub record Counts (entries : List Entry) (index : ℕ) (scopes : Scopes) : Type 0 where
+  pub modules : scopes.modules ≡ count_by begins_module (take index entries)
+  pub instances : scopes.instances ≡ count_by begins_instance (take index entries)
+
+pub nothing_counted : (entries : List Entry) (scopes : Scopes) → scopes.modules ≡ 0 → scopes.instances ≡ 0 → Counts entries 0 scopes
+nothing_counted entries scopes m i = record { modules = m; instances = i }
+
+module _ (entries : List Entry) (index : ℕ) (scopes : Scopes) (h : Counts entries index scopes) (e : Entry) (within : index < length entries) (here : get_or entries index e ≡ e) where
+  count : (test : Entry → Bool) (n : ℕ) → n ≡ count_by test (take index entries) → (if test e then n + 1 else n) ≡ count_by test (take (index + 1) entries)
+  count test n is = by (test e) refl
+    where
+      by : (t : Bool) → test e ≡ t → (if test e then n + 1 else n) ≡ count_by test (take (index + 1) entries)
+      by true holds_here = ap (λ b. if b then n + 1 else n) holds_here ∙ ap (λ m. m + 1) is ∙ sym (count_by_more_yes test entries index e within (ap test here ∙ holds_here))
+      by false never = ap (λ b. if b then n + 1 else n) never ∙ is ∙ sym (count_by_more_no test entries index e within (ap test here ∙ never))
+
+  pub count_on : Counts entries (index + 1) (counted scopes e)
+  count_on = record { modules = count begins_module scopes.modules h.modules; instances = count begins_instance scopes.instances h.instances }
+
+  pub scope_is : (among : Names) → scope_in among (counted scopes e) ≡ scope_of among entries index
+  scope_is names.Modules = refl
+  scope_is names.Ports = count begins_instance scopes.instances h.instances
+  scope_is _ = count begins_module scopes.modules h.modules
+
 module _ (bytes : List ℕ) (entries : List Entry) where
-  abbrev key_at : ℕ → Entry → Names → Key
-  key_at place e among = record { code = code_of among; scope = scope_of among entries place; name = text_at bytes (name_of e) }
+  abbrev Seen : ℕ → Key → Type 0
+  Seen index key = IsKeyBefore bytes entries index key
 
-  -- a name that stands before this place
-  pub record Seen (index : ℕ) (key : Key) : Type 0 where
-    pub among : Names
-    pub before : ℕ
-    pub e : Entry
-    pub below : before < index
-    pub stands : slice_get entries before ≡ Some e
-    pub is : IsAmong among e
-    pub key_is : key ≡ key_at before e among
+  -- the names before this place
+  pub record Collected (index : ℕ) (keys : List Key) (scopes : Scopes) : Type 0 where
+    pub counts : Counts entries index scopes
+    pub names : HoldsNames bytes entries index keys
 
-  -- the names before this place, none of them repeated
-  pub record SeenTo (index : ℕ) (keys : List Key) (scopes : Scopes) : Type 0 where
-    pub modules : scopes.modules ≡ count_by begins_module (take index entries)
-    pub instances : scopes.instances ≡ count_by begins_instance (take index entries)
-    pub held : (key : Key) → holds keys key ≡ true → Seen index key
-    pub seen : (key : Key) → Seen index key → holds keys key ≡ true
-    pub none : (place : ℕ) → place < index → IsRepeated bytes entries place → ⊥
-
-  pub nothing_seen : (scopes : Scopes) → scopes.modules ≡ 0 → scopes.instances ≡ 0 → SeenTo 0 [] scopes
+  pub nothing_seen : (scopes : Scopes) → scopes.modules ≡ 0 → scopes.instances ≡ 0 → Collected 0 [] scopes
   nothing_seen scopes m i = record {
-    modules = m;
-    instances = i;
-    held = λ key h. absurd (true≢false (sym h));
-    seen = λ key s. let below = s.below in absurd (omega arith);
-    none = λ place below r. absurd (omega arith);
+    counts = nothing_counted entries scopes m i;
+    names = record { held = λ key h. absurd (true≢false (sym h)); seen = λ key s. let below = s.below in absurd (omega arith) };
   }
 
-  module _ (index : ℕ) (keys : List Key) (scopes : Scopes) (h : SeenTo index keys scopes) (e : Entry) (stands : slice_get entries index ≡ Some e) (within : index < length entries) (here : get_or entries index e ≡ e) where
-    count : (test : Entry → Bool) (n : ℕ) → n ≡ count_by test (take index entries) → (if test e then n + 1 else n) ≡ count_by test (take (index + 1) entries)
-    count test n is = by (test e) refl
-      where
-        by : (t : Bool) → test e ≡ t → (if test e then n + 1 else n) ≡ count_by test (take (index + 1) entries)
-        by true holds_here = ap (λ b. if b then n + 1 else n) holds_here ∙ ap (λ m. m + 1) is ∙ sym (count_by_more_yes test entries index e within (ap test here ∙ holds_here))
-        by false never = ap (λ b. if b then n + 1 else n) never ∙ is ∙ sym (count_by_more_no test entries index e within (ap test here ∙ never))
+  -- a name that stands among others is kept
+  pub stands_key : (among : Names) (place : ℕ) (text : List ℕ) (index : ℕ) (s : StandsAmong bytes entries among place text) → s.at < index
+      → IsKeyBefore bytes entries index (record { code = code_of among; scope = scope_of among entries place; name = text })
+  stands_key among place text index s below = record {
+    among = among;
+    before = s.at;
+    e = s.one;
+    below = below;
+    stands = s.one_stands;
+    is = s.one_among;
+    key_is = ap₂ (λ (p : ℕ) (n : List ℕ). record { code = code_of among; scope = p; name = n }) (sym s.one_scope) (sym s.one_text);
+  }
 
+  pub key_stands : (among : Names) (place : ℕ) (text : List ℕ) (index : ℕ)
+      → IsKeyBefore bytes entries index (record { code = code_of among; scope = scope_of among entries place; name = text }) → StandsAmong bytes entries among place text
+  key_stands among place text index s =
+      let same : among ≡ s.among = one_code among s.among (ap (λ (k : Key). k.code) s.key_is) in
+      record {
+        at = s.before;
+        one = s.e;
+        one_stands = s.stands;
+        one_among = subst (λ (a : Names). IsAmong a s.e) (sym same) s.is;
+        one_scope = ap (λ (a : Names). scope_of a entries s.before) same ∙ sym (ap (λ (k : Key). k.scope) s.key_is);
+        one_text = sym (ap (λ (k : Key). k.name) s.key_is);
+      }
+
+  module _ (index : ℕ) (keys : List Key) (scopes : Scopes) (h : Collected index keys scopes) (e : Entry) (stands : slice_get entries index ≡ Some e) (within : index < length entries) (here : get_or entries index e ≡ e) where
     abbrev now : Scopes
     now = counted scopes e
-
-    scope_is : (among : Names) → scope_in among now ≡ scope_of among entries index
-    scope_is names.Modules = refl
-    scope_is names.Ports = count begins_instance scopes.instances h.instances
-    scope_is _ = count begins_module scopes.modules h.modules
 
     abbrev name : List ℕ
     name = text_at bytes (name_of e)
 
-    key_is_here : (among : Names) → key_of among now name ≡ key_at index e among
-    key_is_here among = ap (λ (s : ℕ). record { code = code_of among; scope = s; name = name }) (scope_is among)
+    key_is_here : (among : Names) → key_of among now name ≡ key_at bytes entries index e among
+    key_is_here among = ap (λ (s : ℕ). record { code = code_of among; scope = s; name = name }) (scope_is entries index scopes h.counts e within here among)
 
     repeats : (among : Names) → IsAmong among e → holds keys (key_of among now name) ≡ true → IsRepeated bytes entries index
     repeats among is held =
-        let s = h.held (key_of among now name) held in
-        let key : key_at index e among ≡ key_at s.before s.e s.among = sym (key_is_here among) ∙ s.key_is in
+        let s = h.names.held (key_of among now name) held in
+        let key : key_at bytes entries index e among ≡ key_at bytes entries s.before s.e s.among = sym (key_is_here among) ∙ s.key_is in
         let same : among ≡ s.among = one_code among s.among (ap (λ (k : Key). k.code) key) in
         record {
           among = s.among;
@@ -223,11 +246,11 @@ module _ (bytes : List ℕ) (entries : List Entry) where
     is_repeated r =
         let same : r.again ≡ e = let f = r.again_stands in cc in
         let text : text_at bytes (name_of r.one) ≡ name = r.one_text ∙ ap (λ (x : Entry). text_at bytes (name_of x)) same in
-        let key : key_of r.among now name ≡ key_at r.before r.one r.among =
+        let key : key_of r.among now name ≡ key_at bytes entries r.before r.one r.among =
         key_is_here r.among ∙ ap₂ (λ (s : ℕ) (n : List ℕ). record { code = code_of r.among; scope = s; name = n }) (sym r.one_scope) (sym text) in (
           r.among,
           subst (λ (x : Entry). IsAmong r.among x) same r.again_among,
-          h.seen (key_of r.among now name) (record {
+          h.names.seen (key_of r.among now name) (record {
             among = r.among;
             before = r.before;
             e = r.one;
@@ -266,7 +289,7 @@ module _ (bytes : List ℕ) (entries : List Entry) where
       | inr new ↦ seen_here key new.0 (by_own new.1) new.2
       | inl old ↦ elim (name_more now name (header_names e) keys key old) [
         | inr new ↦ seen_here key new.0 (in_header new.1) new.2
-        | inl older ↦ later key (h.held key older)
+        | inl older ↦ later key (h.names.held key older)
       ]
     ]
 
@@ -277,10 +300,10 @@ module _ (bytes : List ℕ) (entries : List Entry) where
     seen_now : (key : Key) → Seen (index + 1) key → holds with_both key ≡ true
     seen_now key s = elim (cases_eq s.before index) [
       | inr other ↦ name_stays now name (own_names e) with_header key (name_stays now name (header_names e) keys key
-          (h.seen key (record { among = s.among; before = s.before; e = s.e; below = let below = s.below in omega arith; stands = s.stands; is = s.is; key_is = s.key_is })))
+          (h.names.seen key (record { among = s.among; before = s.before; e = s.e; below = let below = s.below in omega arith; stands = s.stands; is = s.is; key_is = s.key_is })))
       | inl at ↦
           let same : s.e ≡ e = let f = s.stands in let g = ap (slice_get entries) at in cc in
-          let key_is : key ≡ key_of s.among now name = s.key_is ∙ ap₂ (λ (p : ℕ) (x : Entry). key_at p x s.among) at same ∙ sym (key_is_here s.among) in
+          let key_is : key ≡ key_of s.among now name = s.key_is ∙ ap₂ (λ (p : ℕ) (x : Entry). key_at bytes entries p x s.among) at same ∙ sym (key_is_here s.among) in
           subst (λ (k : Key). holds with_both k ≡ true) (sym key_is) (here_held s.among (subst (λ (x : Entry). IsAmong s.among x) same s.is))
     ]
 
@@ -291,18 +314,14 @@ module _ (bytes : List ℕ) (entries : List Entry) where
         by among (in_header is) held = true≢false (sym (is_held_so now name (header_names e) among keys is held) ∙ header)
         by among (by_own is) held = true≢false (sym (is_held_so now name (own_names e) among with_header is (name_stays now name (header_names e) keys (key_of among now name) held)) ∙ own)
 
-    -- neither is held
-    pub goes_on : is_held (header_names e) now name keys ≡ false → is_held (own_names e) now name with_header ≡ false → SeenTo (index + 1) with_both now
-    goes_on header own = record {
-      modules = count begins_module scopes.modules h.modules;
-      instances = count begins_instance scopes.instances h.instances;
-      held = held_now;
-      seen = seen_now;
-      none = λ place below r. elim (cases_eq place index) [
-        | inl at ↦ not_here header own (subst (λ (p : ℕ). IsRepeated bytes entries p) at r)
-        | inr other ↦ h.none place (omega arith) r
-      ];
-    }
+    pub decides_repeated : (header own : Bool) → is_held (header_names e) now name keys ≡ header → is_held (own_names e) now name with_header ≡ own
+        → Decides (header || own) (IsRepeated bytes entries index)
+    decides_repeated true own h o = ((λ yes. header_repeats h), (λ r. refl))
+    decides_repeated false true h o = ((λ yes. own_repeats o), (λ r. refl))
+    decides_repeated false false h o = ((λ yes. absurd (true≢false (sym yes))), (λ r. absurd (not_here h o r)))
+
+    pub goes_on : Collected (index + 1) with_both now
+    goes_on = record { counts = count_on entries index scopes h.counts e within here; names = record { held = held_now; seen = seen_now } }
 
 -- the same of what is equal to what is asked for
 module _ {among among' : Option Names} {scopes scopes' : Scopes} {name name' : List ℕ} (e : among ≡ among') (f : scopes ≡ scopes') (g : name ≡ name') (keys : List Key) where
@@ -323,11 +342,7 @@ stands_at entries place below = slice_get-get_or entries place no_entry below
 pub itself_at : (entries : List Entry) (place : ℕ) → place < length entries → get_or entries place (get_or entries place no_entry) ≡ get_or entries place no_entry
 itself_at entries place below = sym (get_or_default entries place no_entry (get_or entries place no_entry) below)
 
--- none of all is repeated
-pub no_more : (bytes : List ℕ) (entries : List Entry) (index : ℕ) (keys : List Key) (scopes : Scopes) → SeenTo bytes entries index keys scopes → length entries ≤ index → (place : ℕ) → IsRepeated bytes entries place → ⊥
-no_more bytes entries index keys scopes h past place r = h.none place (let below = within_list entries place r.again r.again_stands in omega arith) r
-  where
-    within_list : (list : List Entry) (at : ℕ) (e : Entry) → slice_get list at ≡ Some e → at < length list
-    within_list [] at e h = absurd (cc)
-    within_list (x ∷ list) zero e h = omega arith
-    within_list (x ∷ list) (suc at) e h = let more = within_list list at e h in omega arith
+pub within_list : (list : List Entry) (at : ℕ) (e : Entry) → slice_get list at ≡ Some e → at < length list
+within_list [] at e h = absurd (cc)
+within_list (x ∷ list) zero e h = omega arith
+within_list (x ∷ list) (suc at) e h = let more = within_list list at e h in omega arith

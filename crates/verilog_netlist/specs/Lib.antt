@@ -3,7 +3,9 @@ pub mod Words
 pub mod Tokens
 pub mod Grammar
 pub mod Netlists
+pub mod Firsts
 pub mod Namespaces
+pub mod Directions
 pub mod Cuts
 pub mod WordFilter
 pub mod Steps

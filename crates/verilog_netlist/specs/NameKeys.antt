@@ -1,9 +1,12 @@
--- Names as they are kept while repeated ones are looked for.
-use Rattle.std.specs.Prelude.{ℕ, ◌+◌, Bool, false, ◌&&◌, ◌==◌, if◌then◌else◌, List, [], ◌∷◌, ◌++◌, map, Option, Some, None}
+-- Names as they are kept while those that are repeated, or without their pair, are looked for.
+use Rattle.std.specs.Prelude.{◌≡◌, ℕ, ◌+◌, ◌<◌, Bool, true, false, not, ◌&&◌, ◌==◌, if◌then◌else◌, List, [], ◌∷◌, ◌++◌, map, slice_get, Option, Some, None}
 use Rattle.std.specs.List.{list_any}
 use Rattle.std.specs.Str.{bytes_eq}
-use Rattle.verilog_netlist.specs.Namespaces.{begins_module, begins_instance}
+use Rattle.verilog_netlist.specs.Spans.{text_at}
+use Rattle.verilog_netlist.specs.Namespaces.{name_of, IsAmong, begins_module, begins_instance, scope_of}
+use Rattle.verilog_netlist.specs.declared.entries.Decl.TheVariants as decl
 use Rattle.verilog_netlist.specs.declared.entries.Entry.{Entry}
+use Rattle.verilog_netlist.specs.declared.entries.Entry.TheVariants.{Header, Declared}
 use Rattle.verilog_netlist.specs.declared.namespaces.Names.{Names}
 use Rattle.verilog_netlist.specs.declared.namespaces.Names.TheVariants as names
 use Rattle.verilog_netlist.specs.declared.repeats.NameKey.{NameKey}
@@ -59,3 +62,34 @@ is_held (Some among) scopes name keys = holds keys (key_of among scopes name)
 abbrev pub with_name : Option Names → Scopes → List ℕ → List Key → List Key
 with_name None scopes name keys = keys
 with_name (Some among) scopes name keys = with_key keys (key_of among scopes name)
+
+-- the key of an entry at this place, as one of these names
+abbrev pub key_at : List ℕ → List Entry → ℕ → Entry → Names → Key
+key_at bytes entries place entry among =
+    record { code = code_of among; scope = scope_of among entries place; name = text_at bytes (name_of entry) }
+
+-- the key of a name that stands before this place
+pub record IsKeyBefore (bytes : List ℕ) (entries : List Entry) (index : ℕ) (key : Key) : Type 0 where
+  pub among : Names
+  pub before : ℕ
+  pub e : Entry
+  pub below : before < index
+  pub stands : slice_get entries before ≡ Some e
+  pub is : IsAmong among e
+  pub key_is : key ≡ key_at bytes entries before e among
+
+-- the keys are those of the names that stand before this place
+pub record HoldsNames (bytes : List ℕ) (entries : List Entry) (index : ℕ) (keys : List Key) : Type 0 where
+  pub held : (key : Key) → holds keys key ≡ true → IsKeyBefore bytes entries index key
+  pub seen : (key : Key) → IsKeyBefore bytes entries index key → holds keys key ≡ true
+
+-- the names among which an entry's name needs a pair; where a direction stands in a header the pair is the entry itself
+abbrev pub needed_names : Entry → Option Names
+needed_names (Header name) = Some names.Directions
+needed_names (Declared (decl.Port way) name bounds) = Some names.Headers
+needed_names _ = None
+
+-- whether it is needed and not held
+abbrev pub is_lacking : Option Names → Scopes → List ℕ → List Key → Bool
+is_lacking None scopes name keys = false
+is_lacking (Some among) scopes name keys = not (holds keys (key_of among scopes name))

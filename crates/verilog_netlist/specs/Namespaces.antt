@@ -1,6 +1,7 @@
 -- Names that stand twice where they must differ.
 use Rattle.std.specs.Prelude.{◌≡◌, ℕ, ◌+◌, ◌<◌, Bool, true, false, List, take, count_by, slice_get, Option, Some, None}
 use Rattle.verilog_netlist.specs.Spans.{text_at}
+use Rattle.verilog_netlist.specs.Firsts.{IsFirst}
 use Rattle.verilog_netlist.specs.declared.spans.Span.{Span}
 use Rattle.verilog_netlist.specs.declared.entries.Decl.TheVariants as decl
 use Rattle.verilog_netlist.specs.declared.entries.Entry.{Entry}
@@ -69,5 +70,4 @@ pub record IsRepeated (bytes : List ℕ) (entries : List Entry) (place : ℕ) : 
 
 -- the first entry whose name is repeated, or none
 abbrev pub IsFirstRepeated : List ℕ → List Entry → Option ℕ → Type 0
-IsFirstRepeated bytes entries None = (place : ℕ) → IsRepeated bytes entries place → ⊥
-IsFirstRepeated bytes entries (Some place) = IsRepeated bytes entries place × ((before : ℕ) → before < place → IsRepeated bytes entries before → ⊥)
+IsFirstRepeated bytes entries = IsFirst (IsRepeated bytes entries)

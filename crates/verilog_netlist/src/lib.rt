@@ -1,8 +1,10 @@
 //! Structural Verilog (IEEE 1364-2005): its tokens, and what a netlist says, or the one token that cannot stand where it stands.
 //! `read_entries` answers the entries, which are what the file says in its order: modules, ports, wires, instances, connections.
-//! `first_repeated` finds the first name that stands twice where names must differ.
+//! `first_repeated` finds the first name that stands twice where names must differ, `first_unpaired` the first name that stands in
+//! a header without a direction or has a direction and stands in no header.
 #![tactic(auto)]
 
+mod directions;
 mod entries;
 mod kinds;
 mod laws;
@@ -15,6 +17,7 @@ mod scan;
 mod spans;
 mod words;
 
+pub use directions::first_unpaired;
 pub use entries::{Decl, Entry, Range, Way};
 pub use namespaces::Names;
 pub use reading::{ReadEnd, read_entries};

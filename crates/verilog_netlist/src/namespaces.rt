@@ -1,6 +1,7 @@
 //! The names that must differ from one another.
 ghost use Rattle.std.specs.Prelude.{◌≡◌};
 ghost use Rattle.verilog_netlist.specs.Namespaces.{name_of, own_names, header_names, begins_module, begins_instance};
+ghost use Rattle.verilog_netlist.specs.NameKeys.{needed_names};
 
 use crate::entries::{Decl, Entry};
 use crate::spans::Span;
@@ -59,6 +60,18 @@ impl Entry {
     {
         match self {
             Entry::Declared(Decl::InHeader(_), _, _) => Some(Names::Headers),
+            _ => None,
+        }
+    }
+
+    /// The names among which an entry's name needs a pair, where it has none in itself.
+    #[inline]
+    pub(crate) fn needed_names(self) -> Option<Names>
+        ensures { result ≡ needed_names self }
+    {
+        match self {
+            Entry::Header(_) => Some(Names::Directions),
+            Entry::Declared(Decl::Port(_), _, _) => Some(Names::Headers),
             _ => None,
         }
     }

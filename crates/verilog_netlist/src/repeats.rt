@@ -1,7 +1,8 @@
-//! Looks for a name that stands twice where names must differ.
+//! Collects the names that must differ, and looks for one that stands twice.
 ghost use Rattle.std.specs.Prelude.{◌≡◌, ℕ, ◌+◌, ◌^◌, ◌<◌, List, length, count_by, map, IfOk, OnOk};
 ghost use Rattle.verilog_netlist.specs.Namespaces.{IsFirstRepeated, begins_module, begins_instance};
-ghost use Rattle.verilog_netlist.specs.NameKeys.{code_of, keys_in, scope_in, is_held, with_name, counted};
+ghost use Rattle.verilog_netlist.specs.Firsts.{first_or};
+ghost use Rattle.verilog_netlist.specs.NameKeys.{code_of, keys_in, scope_in, is_held, with_name, counted, HoldsNames};
 
 use crate::entries::Entry;
 use crate::namespaces::Names;
@@ -24,7 +25,7 @@ pub struct Scopes {
     pub instances: u32,
 }
 
-fn code_of(among: Names) -> u8
+pub(crate) fn code_of(among: Names) -> u8
     ensures { result ≡ code_of among }
 {
     match among {
@@ -38,9 +39,20 @@ fn code_of(among: Names) -> u8
 }
 
 impl Scopes {
+    /// Before the first entry.
+    pub(crate) fn new() -> Scopes
+        ensures modules { result.modules ≡ 0 }
+        ensures instances { result.instances ≡ 0 }
+    {
+        Scopes {
+            modules: 0,
+            instances: 0,
+        }
+    }
+
     /// The scope in which such a name must be new.
     #[inline]
-    fn of(self, among: Names) -> u32
+    pub(crate) fn of(self, among: Names) -> u32
         ensures { result ≡ scope_in among self }
     {
         match among {
@@ -52,7 +64,7 @@ impl Scopes {
 
     /// The scopes from this entry on.
     #[inline]
-    fn from(self, entry: Entry) -> Scopes
+    pub(crate) fn from(self, entry: Entry) -> Scopes
         requires modules { self.modules + 1 < 2 ^ 32 }
         requires instances { self.instances + 1 < 2 ^ 32 }
         ensures { result ≡ counted self entry }
@@ -96,6 +108,48 @@ fn add_name<'a>(
     }
 }
 
+/// The names of a netlist, and the place of the first entry whose name is repeated.
+#[derive(Drop)]
+pub struct NameTable<'a> {
+    pub keys: IndexSet<NameKey<'a>>,
+    pub repeated: Option<usize>,
+}
+
+/// What was found before this place, or this place if it is one.
+#[inline]
+fn first_or(found: Option<usize>, place: usize, here: bool) -> Option<usize>
+    ensures { result ≡ first_or found place here }
+{
+    match found {
+        Some(before) => Some(before),
+        None if here => Some(place),
+        None => None,
+    }
+}
+
+/// Collects all names. It takes time in proportion to the bytes of the names.
+pub(crate) fn collect_names<'a>(
+    alloc: Global,
+    bytes: &'a [u8],
+    entries: &[Entry],
+) -> Result<NameTable<'a>, OutOfMemory>
+    requires { length entries.now < 2 ^ 30 }
+    ensures repeated { IfOk result (λ table. IsFirstRepeated bytes.now entries.now table.repeated) }
+    ensures keys { IfOk result (λ table. HoldsNames bytes.now entries.now (length entries.now) (keys_in table.keys.keys)) }
+{
+    let mut keys = IndexSet::new(alloc);
+    let mut repeated = None;
+    let mut scopes = Scopes::new();
+    for (place, entry) in entries.iter().enumerate() {
+        scopes = scopes.from(*entry);
+        let name = entry.name().of(bytes);
+        let in_header = add_name(&mut keys, entry.header_names(), scopes, name)?;
+        let by_own = add_name(&mut keys, entry.own_names(), scopes, name)?;
+        repeated = first_or(repeated, place, in_header || by_own);
+    }
+    Ok(NameTable { keys, repeated })
+}
+
 /// The place of the first entry whose name is repeated, if there is one: it stands before among the same names, in the same
 /// file, module or instance. It takes time in proportion to the bytes of the names.
 pub fn first_repeated(
@@ -106,22 +160,8 @@ pub fn first_repeated(
     requires { length entries.now < 2 ^ 30 }
     ensures { IfOk result (IsFirstRepeated bytes.now entries.now) }
 {
-    let mut keys = IndexSet::new(alloc);
-    let mut scopes = Scopes {
-        modules: 0,
-        instances: 0,
-    };
-    for (place, entry) in entries.iter().enumerate() {
-        scopes = scopes.from(*entry);
-        let name = entry.name().of(bytes);
-        let in_header = add_name(&mut keys, entry.header_names(), scopes, name)?;
-        if in_header {
-            return Ok(Some(place));
-        }
-        let by_own = add_name(&mut keys, entry.own_names(), scopes, name)?;
-        if by_own {
-            return Ok(Some(place));
-        }
+    match collect_names(alloc, bytes, entries) {
+        Ok(table) => Ok(table.repeated),
+        Err(_) => Err(OutOfMemory),
     }
-    Ok(None)
 }

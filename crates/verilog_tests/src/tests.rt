@@ -3,3 +3,4 @@ mod accepted;
 mod reading;
 mod refused;
 mod repeated;
+mod unpaired;

@@ -4,10 +4,13 @@ ghost use Rattle.std.specs.Prelude.{◌<◌, ◌^◌, length};
 use super::accepted::ACCEPTED;
 use super::refused::{NOT_STRUCTURAL, REFUSED};
 use super::repeated::REPEATED;
+use super::unpaired::UNPAIRED;
 use edge_io::Text;
 use std::alloc::Global;
 use std::test::Fail;
-use verilog_netlist::{Decl, Entry, Range, ReadEnd, Way, first_repeated, read_entries};
+use verilog_netlist::{
+    Decl, Entry, Range, ReadEnd, Way, first_repeated, first_unpaired, read_entries,
+};
 
 /// Adds a line of words, each but the first with a space before it.
 fn tell(text: &mut Text, first: &[u8], words: &[&[u8]]) -> Result<(), Fail> {
@@ -141,30 +144,59 @@ fn names_each_word_that_is_not_structural(rt: HostRuntime) -> Result<(), Fail> {
     Ok(())
 }
 
-/// The first name that is repeated, or nothing; where nothing is read it is `-`.
-fn repeated_name(alloc: Global, bytes: &[u8]) -> Result<Text, Fail>
-    requires { length bytes.now < 2 ^ 20 }
-{
+/// The name at this place, if there is one.
+fn name_at(
+    alloc: Global,
+    bytes: &[u8],
+    entries: &[Entry],
+    place: Option<usize>,
+) -> Result<Text, Fail> {
     let mut text = Text::new(alloc);
-    match read_entries(alloc, bytes) {
-        Ok(entries) => {
-            if let Some(place) = first_repeated(alloc, bytes, entries.as_slice())? {
-                if place < entries.len() {
-                    text.push_all(entries[place].name().of(bytes))?;
-                }
-            }
+    if let Some(place) = place {
+        if place < entries.len() {
+            text.push_all(entries[place].name().of(bytes))?;
         }
-        Err(_) => text.push_all(b"-")?,
     }
     Ok(text)
+}
+
+/// The first name that is repeated and the first that lacks its pair; where nothing is read there are none.
+fn fault_names(alloc: Global, bytes: &[u8]) -> Result<Option<(Text, Text)>, Fail>
+    requires { length bytes.now < 2 ^ 20 }
+{
+    match read_entries(alloc, bytes) {
+        Ok(entries) => {
+            let entries = entries.as_slice();
+            let repeated = first_repeated(alloc, bytes, entries)?;
+            let repeated = name_at(alloc, bytes, entries, repeated)?;
+            let unpaired = first_unpaired(alloc, bytes, entries)?;
+            let unpaired = name_at(alloc, bytes, entries, unpaired)?;
+            Ok(Some((repeated, unpaired)))
+        }
+        Err(_) => Ok(None),
+    }
 }
 
 #[test]
 fn finds_the_first_name_that_is_repeated(rt: HostRuntime) -> Result<(), Fail> {
     for file in REPEATED.as_slice() {
         assert!(rt; file.0.len() < 1 << 20);
-        let name = repeated_name(rt.alloc(), file.0)?;
-        assert_eq!(rt; name.bytes(), file.1);
+        match fault_names(rt.alloc(), file.0)? {
+            Some((repeated, _)) => assert_eq!(rt; repeated.bytes(), file.1),
+            None => assert!(rt; false),
+        }
+    }
+    Ok(())
+}
+
+#[test]
+fn finds_the_first_name_without_its_pair(rt: HostRuntime) -> Result<(), Fail> {
+    for file in UNPAIRED.as_slice() {
+        assert!(rt; file.0.len() < 1 << 20);
+        match fault_names(rt.alloc(), file.0)? {
+            Some((_, unpaired)) => assert_eq!(rt; unpaired.bytes(), file.1),
+            None => assert!(rt; false),
+        }
     }
     Ok(())
 }
