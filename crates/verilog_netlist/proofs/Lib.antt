@@ -10,3 +10,4 @@ pub mod SoFar
 pub mod Finding
 pub mod Repeating
 pub mod Pairing
+pub mod Ranging

@@ -28,7 +28,7 @@ both_decide true false P Q R dp dq make one two = ((λ yes. absurd (true≢false
 both_decide false q P Q R dp dq make one two = ((λ yes. absurd (true≢false (sym yes))), (λ r. dp.1 (one r)))
 
 -- the test tells whether two keys are one
-same_key-Decides : (one other : Key) → Decides (same_key one other) (one ≡ other)
+pub same_key-Decides : (one other : Key) → Decides (same_key one other) (one ≡ other)
 same_key-Decides one other =
     both_decide (one.code == other.code) ((one.scope == other.scope) && bytes_eq one.name other.name) (one.code ≡ other.code) ((one.scope ≡ other.scope) × (one.name ≡ other.name)) (one ≡ other)
     (eqb-true one.code other.code, eq-eqb one.code other.code)

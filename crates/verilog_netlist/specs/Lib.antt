@@ -12,3 +12,5 @@ pub mod Steps
 pub mod Modes
 pub mod ReaderStates
 pub mod NameKeys
+pub mod Ranges
+pub mod DeclaredNames

@@ -2,6 +2,7 @@
 ghost use Rattle.std.specs.Prelude.{◌≡◌, ◌+◌, ◌^◌, ◌<◌, ◌≤◌, ◌∷◌, length};
 ghost use Rattle.verilog_netlist.specs.Tokens.{is_digit, begins_name, goes_on_name, is_visible, is_constant_digit, is_sign, is_base, based_length, signed_length, and_before, constant_length, bound_of, word_cut, number_cut, ends_escaped, escaped_cut, comment_cut, slash_cut, paren_cut, mark_kind, cut_at};
 ghost use Rattle.verilog_netlist.specs.Cuts.{IsWithin};
+ghost use Rattle.verilog_netlist.specs.Ranges.{constant_width};
 ghost use Rattle.token_texts.specs.Comments.{pair_place};
 
 use crate::kinds::Kind;
@@ -160,6 +161,14 @@ fn bound_of(digits: &[u8]) -> u32
         value = (value * 10 + u32::from(digit.saturating_sub(b'0'))).min(PAST_BOUNDS);
     }
     value
+}
+
+/// The width of a constant: the digits at its front.
+pub(crate) fn constant_width(text: &[u8]) -> u32
+    ensures { result ≡ constant_width text.now }
+{
+    let digits = run_length::<Digit>(text);
+    bound_of(text.split_at(digits).0)
 }
 
 /// An identifier, or a reserved word.

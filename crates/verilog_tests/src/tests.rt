@@ -1,5 +1,6 @@
 //! One module a subject.
 mod accepted;
+mod bad_ranges;
 mod reading;
 mod refused;
 mod repeated;

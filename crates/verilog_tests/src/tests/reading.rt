@@ -2,6 +2,7 @@
 ghost use Rattle.std.specs.Prelude.{◌<◌, ◌^◌, length};
 
 use super::accepted::ACCEPTED;
+use super::bad_ranges::BAD_RANGES;
 use super::refused::{NOT_STRUCTURAL, REFUSED};
 use super::repeated::REPEATED;
 use super::unpaired::UNPAIRED;
@@ -9,7 +10,7 @@ use edge_io::Text;
 use std::alloc::Global;
 use std::test::Fail;
 use verilog_netlist::{
-    Decl, Entry, Range, ReadEnd, Way, first_repeated, first_unpaired, read_entries,
+    Decl, Entry, Range, ReadEnd, Way, first_bad_range, first_repeated, first_unpaired, read_entries,
 };
 
 /// Adds a line of words, each but the first with a space before it.
@@ -160,18 +161,29 @@ fn name_at(
     Ok(text)
 }
 
-/// The first name that is repeated and the first that lacks its pair; where nothing is read there are none.
-fn fault_names(alloc: Global, bytes: &[u8]) -> Result<Option<(Text, Text)>, Fail>
+/// The first names that are repeated, lack their pair, and have a bad range.
+#[derive(Drop)]
+struct FaultNames {
+    repeated: Text,
+    unpaired: Text,
+    bad_range: Text,
+}
+
+/// The names at fault; where nothing is read there are none.
+fn fault_names(alloc: Global, bytes: &[u8]) -> Result<Option<FaultNames>, Fail>
     requires { length bytes.now < 2 ^ 20 }
 {
     match read_entries(alloc, bytes) {
         Ok(entries) => {
             let entries = entries.as_slice();
             let repeated = first_repeated(alloc, bytes, entries)?;
-            let repeated = name_at(alloc, bytes, entries, repeated)?;
             let unpaired = first_unpaired(alloc, bytes, entries)?;
-            let unpaired = name_at(alloc, bytes, entries, unpaired)?;
-            Ok(Some((repeated, unpaired)))
+            let bad_range = first_bad_range(alloc, bytes, entries)?;
+            Ok(Some(FaultNames {
+                repeated: name_at(alloc, bytes, entries, repeated)?,
+                unpaired: name_at(alloc, bytes, entries, unpaired)?,
+                bad_range: name_at(alloc, bytes, entries, bad_range)?,
+            }))
         }
         Err(_) => Ok(None),
     }
@@ -182,7 +194,7 @@ fn finds_the_first_name_that_is_repeated(rt: HostRuntime) -> Result<(), Fail> {
     for file in REPEATED.as_slice() {
         assert!(rt; file.0.len() < 1 << 20);
         match fault_names(rt.alloc(), file.0)? {
-            Some((repeated, _)) => assert_eq!(rt; repeated.bytes(), file.1),
+            Some(names) => assert_eq!(rt; names.repeated.bytes(), file.1),
             None => assert!(rt; false),
         }
     }
@@ -194,7 +206,19 @@ fn finds_the_first_name_without_its_pair(rt: HostRuntime) -> Result<(), Fail> {
     for file in UNPAIRED.as_slice() {
         assert!(rt; file.0.len() < 1 << 20);
         match fault_names(rt.alloc(), file.0)? {
-            Some((_, unpaired)) => assert_eq!(rt; unpaired.bytes(), file.1),
+            Some(names) => assert_eq!(rt; names.unpaired.bytes(), file.1),
+            None => assert!(rt; false),
+        }
+    }
+    Ok(())
+}
+
+#[test]
+fn finds_the_first_bad_range(rt: HostRuntime) -> Result<(), Fail> {
+    for file in BAD_RANGES.as_slice() {
+        assert!(rt; file.0.len() < 1 << 20);
+        match fault_names(rt.alloc(), file.0)? {
+            Some(names) => assert_eq!(rt; names.bad_range.bytes(), file.1),
             None => assert!(rt; false),
         }
     }

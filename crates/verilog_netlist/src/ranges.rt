@@ -1,0 +1,271 @@
+//! Looks for bad ranges, selects, constants and connections.
+ghost use Rattle.std.specs.Prelude.{◌≡◌, ◌^◌, ◌<◌, ◌≤◌, nat_lt, length, IfOk, IfSome};
+ghost use Rattle.verilog_netlist.specs.Ranges.{most_bits, width_of, has_large_bound, is_past, is_past_limits, is_wire, one_range, differ, is_bad_declaration, is_outside, declared_range, is_bad_bit, runs_against, is_bad_part, is_bad_width, whole_width, bits_of, joined_width, is_bad_entry, IsFirstBadRange};
+ghost use Rattle.verilog_netlist.specs.DeclaredNames.{declared_key, row_at, HoldsDeclared};
+
+use crate::declared::{Declaration, DeclaredNames, collect_declared};
+use crate::entries::{Decl, Entry, Range};
+use crate::repeats::Scopes;
+use crate::scan::constant_width;
+use edge_io::OutOfMemory;
+use std::alloc::Global;
+
+/// The largest bound of a range or a select.
+const LARGEST_BOUND: u32 = 1_048_575;
+
+/// The most bits of a range, a constant or a connection.
+const MOST_BITS: u64 = 65_536;
+
+impl Range {
+    /// How many bits a range has.
+    #[inline]
+    pub(crate) fn width(self) -> u64
+        ensures value { result ≡ width_of self }
+        ensures few { result ≤ 2 ^ 32 }
+    {
+        let ahead = if self.left < self.right {
+            self.right - self.left
+        } else {
+            self.left - self.right
+        };
+        u64::from(ahead) + 1
+    }
+
+    #[inline]
+    fn has_large_bound(self) -> bool
+        ensures { result ≡ has_large_bound self }
+    {
+        self.left > LARGEST_BOUND || self.right > LARGEST_BOUND
+    }
+
+    /// Whether a range is past the limits.
+    #[inline]
+    fn is_past_limits(self) -> bool
+        ensures { result ≡ is_past_limits self }
+    {
+        self.has_large_bound() || self.width() > MOST_BITS
+    }
+
+    /// Whether a bit is outside the range.
+    #[inline]
+    fn is_outside(self, place: u32) -> bool
+        ensures { result ≡ is_outside self place }
+    {
+        if self.left < self.right {
+            place < self.left || place > self.right
+        } else {
+            place < self.right || place > self.left
+        }
+    }
+
+    /// Whether the bounds of a select run against the range.
+    #[inline]
+    fn runs_against(self, select: Range) -> bool
+        ensures { result ≡ runs_against self select }
+    {
+        if self.left < self.right {
+            select.right < select.left
+        } else {
+            select.left < select.right
+        }
+    }
+}
+
+#[inline]
+fn is_wire(by: Decl) -> bool
+    ensures { result ≡ is_wire by }
+{
+    matches!(by, Decl::Wire)
+}
+
+#[inline]
+fn one_range(one: Option<Range>, other: Option<Range>) -> bool
+    ensures { result ≡ one_range one other }
+{
+    match (one, other) {
+        (None, None) => true,
+        (Some(one), Some(other)) => one.left == other.left && one.right == other.right,
+        _ => false,
+    }
+}
+
+/// Whether one is by a direction and the other by `wire`, and their ranges differ.
+#[inline]
+fn differ(one: Declaration, other: Declaration) -> bool
+    ensures { result ≡ differ one other }
+{
+    !one_range(one.range, other.range) && is_wire(one.by) != is_wire(other.by)
+}
+
+#[inline]
+fn is_past(range: Option<Range>) -> bool
+    ensures { result ≡ is_past range }
+{
+    match range {
+        Some(range) => range.is_past_limits(),
+        None => false,
+    }
+}
+
+#[inline]
+fn is_bad_declaration(first: Option<Declaration>, this: Declaration) -> bool
+    ensures { result ≡ is_bad_declaration first this }
+{
+    if is_past(this.range) {
+        return true;
+    }
+    match first {
+        Some(first) => differ(first, this),
+        None => false,
+    }
+}
+
+/// The range of a declared name.
+#[inline]
+fn declared_range(first: Option<Declaration>) -> Option<Range>
+    ensures { result ≡ declared_range first }
+{
+    match first {
+        Some(first) => first.range,
+        None => None,
+    }
+}
+
+#[inline]
+fn is_bad_bit(range: Option<Range>, place: u32) -> bool
+    ensures { result ≡ is_bad_bit range place }
+{
+    match range {
+        Some(range) => place > LARGEST_BOUND || range.is_outside(place),
+        None => true,
+    }
+}
+
+#[inline]
+fn is_bad_part(range: Option<Range>, select: Range) -> bool
+    ensures { result ≡ is_bad_part range select }
+{
+    match range {
+        Some(range) => {
+            select.has_large_bound()
+                || range.is_outside(select.left)
+                || range.is_outside(select.right)
+                || range.runs_against(select)
+        }
+        None => true,
+    }
+}
+
+#[inline]
+fn is_bad_width(width: u32) -> bool
+    ensures { result ≡ is_bad_width width }
+{
+    width == 0 || u64::from(width) > MOST_BITS
+}
+
+#[inline]
+fn whole_width(range: Option<Range>) -> u64
+    ensures value { result ≡ whole_width range }
+    ensures few { result ≤ 2 ^ 32 }
+{
+    match range {
+        Some(range) => range.width(),
+        None => 1,
+    }
+}
+
+impl DeclaredNames<'_> {
+    /// The bits of an expression, or nothing of what is none.
+    #[inline]
+    fn bits(&self, scope: u32, bytes: &[u8], entry: Entry) -> Option<u64>
+        ensures value { result ≡ bits_of bytes.now (λ name. row_at self.now.rows.entries (declared_key scope name)) entry }
+        ensures few { IfSome result (λ bits. bits ≤ 2 ^ 32) }
+    {
+        match entry {
+            Entry::Whole(name) => {
+                let first = self.find(scope, name.of(bytes));
+                Some(whole_width(declared_range(first)))
+            }
+            Entry::Bit(_, _) => Some(1),
+            Entry::Part(_, select) => Some(select.width()),
+            Entry::Constant(token) => Some(u64::from(constant_width(token.of(bytes)))),
+            _ => None,
+        }
+    }
+
+    /// Whether the expressions at the front of these entries have too many bits.
+    fn is_wide(&self, scope: u32, bytes: &[u8], behind: &[Entry]) -> bool
+        ensures { result ≡ nat_lt most_bits (joined_width bytes.now (λ name. row_at self.now.rows.entries (declared_key scope name)) behind.now) }
+    {
+        let mut width = 0;
+        for entry in behind {
+            let Some(bits) = self.bits(scope, bytes, *entry) else {
+                return false;
+            };
+            width += bits;
+            if width > MOST_BITS {
+                return true;
+            }
+        }
+        false
+    }
+
+    /// Whether an entry is bad, with these entries behind it.
+    #[inline]
+    fn is_bad(&self, scope: u32, bytes: &[u8], entry: Entry, behind: &[Entry]) -> bool
+        ensures { result ≡ is_bad_entry bytes.now (λ name. row_at self.now.rows.entries (declared_key scope name)) behind.now entry }
+    {
+        match entry {
+            Entry::Declared(by, name, range) => {
+                let first = self.find(scope, name.of(bytes));
+                is_bad_declaration(first, Declaration { by, range })
+            }
+            Entry::Port(_) => self.is_wide(scope, bytes, behind),
+            Entry::Bit(name, place) => {
+                let first = self.find(scope, name.of(bytes));
+                is_bad_bit(declared_range(first), place)
+            }
+            Entry::Part(name, select) => {
+                let first = self.find(scope, name.of(bytes));
+                is_bad_part(declared_range(first), select)
+            }
+            Entry::Constant(token) => is_bad_width(constant_width(token.of(bytes))),
+            _ => false,
+        }
+    }
+
+    /// The place of the first entry that is bad.
+    pub(crate) fn first_bad_range(&self, bytes: &[u8], entries: &[Entry]) -> Option<usize>
+        requires few { length entries.now < 2 ^ 30 }
+        requires rows { HoldsDeclared bytes.now entries.now (length entries.now) self.now.rows.entries }
+        ensures { IsFirstBadRange bytes.now entries.now result }
+    {
+        let mut scopes = Scopes::new();
+        for (place, entry) in entries.iter().enumerate() {
+            scopes = scopes.from(*entry);
+            let behind = entries.split_at(place + 1).1;
+            let is_bad = self.is_bad(scopes.modules, bytes, *entry, behind);
+            if is_bad {
+                return Some(place);
+            }
+        }
+        None
+    }
+}
+
+/// The place of the first entry with a bad range, if there is one: a range, a constant or a connection past the limits, a constant
+/// of no bits, a name by a direction and by `wire` with two ranges, or a select that its name's range does not have. A connection's
+/// fault stands at its port. It takes time in proportion to the bytes of the names.
+pub fn first_bad_range(
+    alloc: Global,
+    bytes: &[u8],
+    entries: &[Entry],
+) -> Result<Option<usize>, OutOfMemory>
+    requires { length entries.now < 2 ^ 30 }
+    ensures { IfOk result (IsFirstBadRange bytes.now entries.now) }
+{
+    match collect_declared(alloc, bytes, entries) {
+        Ok(names) => Ok(names.first_bad_range(bytes, entries)),
+        Err(_) => Err(OutOfMemory),
+    }
+}
