@@ -11,3 +11,5 @@ pub mod Finding
 pub mod Repeating
 pub mod Pairing
 pub mod Ranging
+pub mod Faulting
+pub mod Refusing

@@ -13,4 +13,6 @@ pub mod Modes
 pub mod ReaderStates
 pub mod NameKeys
 pub mod Ranges
+pub mod Faults
+pub mod Netlist
 pub mod DeclaredNames

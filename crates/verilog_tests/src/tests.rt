@@ -1,6 +1,7 @@
 //! One module a subject.
 mod accepted;
 mod bad_ranges;
+mod faults;
 mod reading;
 mod refused;
 mod repeated;

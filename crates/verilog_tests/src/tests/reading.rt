@@ -3,6 +3,7 @@ ghost use Rattle.std.specs.Prelude.{◌<◌, ◌^◌, length};
 
 use super::accepted::ACCEPTED;
 use super::bad_ranges::BAD_RANGES;
+use super::faults::FAULTS;
 use super::refused::{NOT_STRUCTURAL, REFUSED};
 use super::repeated::REPEATED;
 use super::unpaired::UNPAIRED;
@@ -10,7 +11,8 @@ use edge_io::Text;
 use std::alloc::Global;
 use std::test::Fail;
 use verilog_netlist::{
-    Decl, Entry, Range, ReadEnd, Way, first_bad_range, first_repeated, first_unpaired, read_entries,
+    Decl, Entry, Range, ReadEnd, VerilogEnd, Way, first_bad_range, first_repeated, first_unpaired,
+    read_entries, read_netlist,
 };
 
 /// Adds a line of words, each but the first with a space before it.
@@ -220,6 +222,34 @@ fn finds_the_first_bad_range(rt: HostRuntime) -> Result<(), Fail> {
         match fault_names(rt.alloc(), file.0)? {
             Some(names) => assert_eq!(rt; names.bad_range.bytes(), file.1),
             None => assert!(rt; false),
+        }
+    }
+    Ok(())
+}
+
+/// The word of a fault, and the name at fault.
+fn fault_word(end: &VerilogEnd) -> (&'static [u8], &[u8]) {
+    match end {
+        VerilogEnd::Syntax { .. } => (b"syntax", b""),
+        VerilogEnd::NotStructural { .. } => (b"word", b""),
+        VerilogEnd::Repeated { name } => (b"repeated", name.bytes()),
+        VerilogEnd::PortDirection { name } => (b"direction", name.bytes()),
+        VerilogEnd::BadRange { name } => (b"range", name.bytes()),
+        VerilogEnd::OutOfMemory => (b"memory", b""),
+    }
+}
+
+#[test]
+fn tells_the_first_fault(rt: HostRuntime) -> Result<(), Fail> {
+    for file in FAULTS.as_slice() {
+        assert!(rt; file.0.len() < 1 << 20);
+        match read_netlist(rt.alloc(), file.0) {
+            Ok(_) => assert_eq!(rt; b"none".as_slice(), file.1),
+            Err(end) => {
+                let (word, name) = fault_word(&end);
+                assert_eq!(rt; word, file.1);
+                assert_eq!(rt; name, file.2);
+            }
         }
     }
     Ok(())
