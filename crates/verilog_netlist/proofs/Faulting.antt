@@ -1,11 +1,11 @@
 -- The least of the first faults of each kind.
-use Rattle.std.proofs.Common.{◌≡◌, ℕ, ◌+◌, ◌<◌, ◌≤◌, Bool, true, false, nat_lt, ◌⊎◌, inl, inr, List, Option, Some, None, refl, sym, ap, subst, arith, if◌then◌else◌}
+use Rattle.std.proofs.Common.{◌≡◌, ℕ, ◌+◌, ◌<◌, ◌≤◌, Bool, true, false, nat_lt, ◌==◌, ◌⊎◌, inl, inr, List, Option, Some, None, refl, sym, ap, subst, arith, if◌then◌else◌, ap₂, ◌∙◌}
 use Rattle.std.proofs.lemmas.Bool.{cases_eq, ltb-true, ltb-false}
 use Rattle.verilog_netlist.specs.Firsts.{IsFirst}
 use Rattle.verilog_netlist.specs.Namespaces.{IsRepeated}
 use Rattle.verilog_netlist.specs.Directions.{IsUnpaired}
 use Rattle.verilog_netlist.specs.Ranges.{IsBadRange}
-use Rattle.verilog_netlist.specs.Faults.{HasFault, rank_of, ComesBefore, FindsFault, or_earlier}
+use Rattle.verilog_netlist.specs.Faults.{HasFault, rank_of, ComesBefore, IsFirstFault, FindsFault, or_earlier}
 use Rattle.verilog_netlist.specs.declared.entries.Entry.{Entry}
 use Rattle.verilog_netlist.specs.declared.faults.FirstFault.{FirstFault}
 use Rattle.verilog_netlist.specs.declared.faults.NameFault.{NameFault}
@@ -130,3 +130,27 @@ module _ (bytes : List ℕ) (entries : List Entry) (repeated unpaired bad_range 
 
   pub finds_first : FindsFault bytes entries (or_earlier second fault.BadRange bad_range)
   finds_first = of_all (or_earlier second fault.BadRange bad_range) all
+
+fault_by_rank : ℕ → Option NameFault
+fault_by_rank n = if n == 0 then Some fault.Repeated else (if n == 1 then Some fault.PortDirection else Some fault.BadRange)
+
+ranked : (k : NameFault) → fault_by_rank (rank_of k) ≡ Some k
+unfolding fault_by_rank
+ranked fault.Repeated = refl
+ranked fault.PortDirection = refl
+ranked fault.BadRange = refl
+
+one_rank : (one other : NameFault) → rank_of one ≡ rank_of other → one ≡ other
+one_rank one other e = let same : Some one ≡ Some other = sym (ranked one) ∙ ap fault_by_rank e ∙ ranked other in cc
+
+both_ways : (one other : FirstFault) → ComesBefore one other.fault other.place → ComesBefore other one.fault one.place → one ≡ other
+both_ways one other (inl less) (inl more) = absurd (omega arith)
+both_ways one other (inl less) (inr at) = absurd (let a = at.0 in omega arith)
+both_ways one other (inr at) (inl less) = absurd (let a = at.0 in omega arith)
+both_ways one other (inr at) (inr back) =
+    let rank : rank_of one.fault ≡ rank_of other.fault = let a = at.1 in let b = back.1 in omega arith in
+    ap₂ (λ (k : NameFault) (p : ℕ). record { fault = k; place = p }) (one_rank one.fault other.fault rank) at.0
+
+-- a netlist has one first fault
+pub one_first : (bytes : List ℕ) (entries : List Entry) (one other : FirstFault) → IsFirstFault bytes entries one → IsFirstFault bytes entries other → one ≡ other
+one_first bytes entries one other h k = both_ways one other (h.least other.fault other.place k.is) (k.least one.fault one.place h.is)
