@@ -18,15 +18,20 @@ declared_key asked name = record { code = code_of names.Wires; scope = asked; na
 abbrev pub row_at : Rows → Key → Option Declaration
 row_at rows key = lookup (λ other. same_key key (key_in other)) rows
 
+-- the first declaration of a name in the module that is asked for
+abbrev pub found_in : Rows → ℕ → List ℕ → Option Declaration
+found_in rows asked name = row_at rows (declared_key asked name)
+
 -- a row more, unless the key has one
 abbrev pub AddsRow : Rows → Rows → Key → Declaration → Type 0
-AddsRow old new key declaration = (other : Key) → row_at new other ≡ or_first (row_at old other) (if same_key other key then Some declaration else None)
+AddsRow old new key declaration =
+    (other : Key) → row_at new other ≡ or_first (row_at old other) (if same_key other key then Some declaration else None)
 
 -- what this entry declares in the module `here`
 abbrev pub AddsDeclared : List ℕ → ℕ → Entry → Rows → Rows → Type 0
-AddsDeclared bytes here entry old new = (asked : ℕ) (name : List ℕ)
-    → row_at new (declared_key asked name) ≡ or_first (row_at old (declared_key asked name)) (declares bytes asked name here (Some entry))
+AddsDeclared bytes here entry old new =
+    (asked : ℕ) (name : List ℕ) → found_in new asked name ≡ or_first (found_in old asked name) (declares bytes asked name here (Some entry))
 
 -- the first declarations among so many entries
 abbrev pub HoldsDeclared : List ℕ → List Entry → ℕ → Rows → Type 0
-HoldsDeclared bytes entries n rows = (asked : ℕ) (name : List ℕ) → row_at rows (declared_key asked name) ≡ first_declared bytes entries asked name n
+HoldsDeclared bytes entries n rows = (asked : ℕ) (name : List ℕ) → found_in rows asked name ≡ first_declared bytes entries asked name n

@@ -59,7 +59,8 @@ is_bad_declaration first this = is_past this.range || differs_from first this
 -- a bit outside a range
 abbrev pub is_outside : Range → ℕ → Bool
 is_outside range place =
-    if nat_lt range.left range.right then nat_lt place range.left || nat_lt range.right place else nat_lt place range.right || nat_lt range.left place
+    if nat_lt range.left range.right then nat_lt place range.left || nat_lt range.right place
+    else nat_lt place range.right || nat_lt range.left place
 
 -- the range of a declared name
 abbrev pub declared_range : Option Declaration → Option Range
@@ -78,7 +79,8 @@ runs_against range select =
 
 abbrev pub is_bad_part : Option Range → Range → Bool
 is_bad_part None select = true
-is_bad_part (Some range) select = has_large_bound select || is_outside range select.left || is_outside range select.right || runs_against range select
+is_bad_part (Some range) select =
+    has_large_bound select || is_outside range select.left || is_outside range select.right || runs_against range select
 
 -- the digits before the `'` of a constant
 abbrev pub constant_width : List ℕ → ℕ

@@ -1,7 +1,7 @@
 //! The first declaration of each name of a module.
 ghost use Rattle.std.specs.Prelude.{◌≡◌, ◌^◌, ◌<◌, length, IfOk, OnOk};
 ghost use Rattle.verilog_netlist.specs.NameKeys.{key_in};
-ghost use Rattle.verilog_netlist.specs.DeclaredNames.{declared_key, row_at, AddsRow, AddsDeclared, HoldsDeclared};
+ghost use Rattle.verilog_netlist.specs.DeclaredNames.{declared_key, found_in, AddsRow, AddsDeclared, HoldsDeclared};
 
 use crate::entries::{Decl, Entry, Range};
 use crate::namespaces::Names;
@@ -39,7 +39,7 @@ impl<'a> DeclaredNames<'a> {
     /// The first declaration of a name in the module of this number.
     #[inline]
     pub(crate) fn find(&self, scope: u32, name: &[u8]) -> Option<Declaration>
-        ensures { result ≡ row_at self.now.rows.entries (declared_key scope name.now) }
+        ensures { result ≡ found_in self.now.rows.entries scope name.now }
     {
         let key = declared_key(scope, name);
         self.rows.get(&key).copied()

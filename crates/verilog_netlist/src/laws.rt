@@ -20,5 +20,6 @@ pub fn one_dead_token()
 /// The law of faults, which its contract states: the names and ranges of a netlist have one first fault at most. It does nothing
 /// when it is called.
 pub fn one_first_fault()
-    ensures law { (bytes : List ℕ) (entries : List Entry) (some other : FirstFault) → IsFirstFault bytes entries some → IsFirstFault bytes entries other → some ≡ other }
+    ensures law { (bytes : List ℕ) (entries : List Entry) (some other : FirstFault)
+        → IsFirstFault bytes entries some → IsFirstFault bytes entries other → some ≡ other }
 {}

@@ -1,7 +1,7 @@
 //! Looks for bad ranges, selects, constants and connections.
 ghost use Rattle.std.specs.Prelude.{◌≡◌, ◌^◌, ◌<◌, ◌≤◌, nat_lt, length, IfOk, IfSome};
 ghost use Rattle.verilog_netlist.specs.Ranges.{most_bits, width_of, has_large_bound, is_past, is_past_limits, is_wire, one_range, differ, is_bad_declaration, is_outside, declared_range, is_bad_bit, runs_against, is_bad_part, is_bad_width, whole_width, bits_of, joined_width, is_bad_entry, IsFirstBadRange};
-ghost use Rattle.verilog_netlist.specs.DeclaredNames.{declared_key, row_at, HoldsDeclared};
+ghost use Rattle.verilog_netlist.specs.DeclaredNames.{found_in, HoldsDeclared};
 
 use crate::declared::{Declaration, DeclaredNames, collect_declared};
 use crate::entries::{Decl, Entry, Range};
@@ -178,7 +178,7 @@ impl DeclaredNames<'_> {
     /// The bits of an expression, or nothing of what is none.
     #[inline]
     fn bits(&self, scope: u32, bytes: &[u8], entry: Entry) -> Option<u64>
-        ensures value { result ≡ bits_of bytes.now (λ name. row_at self.now.rows.entries (declared_key scope name)) entry }
+        ensures value { result ≡ bits_of bytes.now (found_in self.now.rows.entries scope) entry }
         ensures few { IfSome result (λ bits. bits ≤ 2 ^ 32) }
     {
         match entry {
@@ -195,7 +195,7 @@ impl DeclaredNames<'_> {
 
     /// Whether the expressions at the front of these entries have too many bits.
     fn is_wide(&self, scope: u32, bytes: &[u8], behind: &[Entry]) -> bool
-        ensures { result ≡ nat_lt most_bits (joined_width bytes.now (λ name. row_at self.now.rows.entries (declared_key scope name)) behind.now) }
+        ensures { result ≡ nat_lt most_bits (joined_width bytes.now (found_in self.now.rows.entries scope) behind.now) }
     {
         let mut width = 0;
         for entry in behind {
@@ -213,7 +213,7 @@ impl DeclaredNames<'_> {
     /// Whether an entry is bad, with these entries behind it.
     #[inline]
     fn is_bad(&self, scope: u32, bytes: &[u8], entry: Entry, behind: &[Entry]) -> bool
-        ensures { result ≡ is_bad_entry bytes.now (λ name. row_at self.now.rows.entries (declared_key scope name)) behind.now entry }
+        ensures { result ≡ is_bad_entry bytes.now (found_in self.now.rows.entries scope) behind.now entry }
     {
         match entry {
             Entry::Declared(by, name, range) => {
