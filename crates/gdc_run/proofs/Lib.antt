@@ -1,6 +1,8 @@
 pub mod ArcLemmas
 pub mod Completing
 pub mod NetRows
+pub mod OneNet
+pub mod OneSpefFile
 pub mod OneVerdict
 pub mod PinLists
 pub mod Places

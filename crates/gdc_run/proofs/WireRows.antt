@@ -1,13 +1,13 @@
 -- The rows of the nets of a file are added one after another.
 use Rattle.std.proofs.Common.{◌≡◌, ℕ, List, [], ◌∷◌, ◌++◌, length, Option, Result, Ok, Err, refl, sym, subst, append_assoc, arith}
 use Rattle.std.proofs.lemmas.Option.{slice_get_within}
-use Rattle.std.specs.Prelude.{IsErrAnd}
+use Rattle.std.specs.Prelude.{All, IsErrAnd}
 use Rattle.corner_set.specs.declared.pick.Pick.{Pick}
 use Rattle.edge_io.specs.Holding.{Held}
 use Rattle.sdf_writer.specs.SdfText.{SdfRows}
 use Rattle.spef_text.specs.SpefFiles.{SpefText}
 use Rattle.spef_text.specs.Heads.{HeadText}
-use Rattle.spef_nets.specs.NetElements.{NetElements}
+use Rattle.spef_nets.specs.NetElements.{NetElements, AreWhole}
 use Rattle.spef_nets.specs.Reading.{Reading, AreFaultlessBefore}
 use Rattle.spef_nets.proofs.ReadingLemmas.{AreRead, all_nets}
 use Rattle.verdict_phases.specs.Phases.{RefusedBy, Go, Halt, FollowsNoFile}
@@ -59,9 +59,9 @@ text_rows held pick name bytes rows reads (of_design design answer parsed gives)
 
 -- all sections were read
 pub all_nets_added : (pick : Pick) (file : SpefText) (head : HeadText) (reading : Reading) (nets : List NetElements) (many : ℕ) (answer : Result SdfRows Refusal) → AreRead sole_corner file head pick reading nets many
-    → many ≡ length file.reading.sections → AreFaultlessBefore file head many → RowsOf (record { design = head.design; nets = nets }) answer → SectionsGive pick file head answer
-all_nets_added pick file head reading nets many answer read whole good rows =
-    of_nets nets answer (are_nets nets (λ place section at. good place section (omega (arith, slice_get_within file.reading.sections place section at, whole)) at) (all_nets sole_corner file head pick reading nets many read whole)) rows
+    → many ≡ length file.reading.sections → AreFaultlessBefore file head many → All (AreWhole 1) nets → RowsOf (record { design = head.design; nets = nets }) answer → SectionsGive pick file head answer
+all_nets_added pick file head reading nets many answer read whole good sound rows =
+    of_nets nets answer (are_nets nets (λ place section at. good place section (omega (arith, slice_get_within file.reading.sections place section at, whole)) at) (all_nets sole_corner file head pick reading nets many read whole) sound) rows
 
 -- a section was refused
 pub section_refused : (pick : Pick) (file : SpefText) (head : HeadText) (reading : Reading) (nets : List NetElements) (many : ℕ) (end : NoFileEnd Refusal) → AreRead sole_corner file head pick reading nets many

@@ -1,5 +1,5 @@
 -- That the verdict is one: what two verdicts on the same words and on the same files have in common.
-use Rattle.std.specs.Prelude.{◌≡◌, ℕ, ◌⊎◌, List, Some, Ok}
+use Rattle.std.specs.Prelude.{◌≡◌, ℕ, ◌⊎◌, List, Some, Result, Ok}
 use Rattle.edge_io.specs.Holding.{Held}
 use Rattle.verdict_phases.specs.Phases.{Stop, RefusedBy, Unread, Reads, Step, Go, Halt}
 use Rattle.gdc_words.specs.CommandLine.{Request, Asks}
@@ -8,7 +8,9 @@ use Rattle.gdc_words.specs.declared.commands.Command.TheVariants.{Wires, Show, L
 use Rattle.gdc_run.specs.declared.refusal.FileKey.{FileKey}
 use Rattle.gdc_run.specs.declared.refusal.Refusal.{Refusal}
 use Rattle.gdc_run.specs.declared.refusal.Refusal.TheVariants.{Mesh}
-use Rattle.gdc_run.specs.Verdict.{Verdict, Faulty, Answers, Gives}
+use Rattle.corner_set.specs.declared.pick.Pick.{Pick}
+use Rattle.gdc_run.specs.SpefPhases.{DesignNets}
+use Rattle.gdc_run.specs.Verdict.{ReadsNets, Verdict, Faulty, Answers, Gives}
 
 -- a stop decides, other than one at the reading of a file, where a fault of the outside may come or not
 abbrev pub IsFinal : {R K : Type 0} → Stop R K → Type 0
@@ -73,3 +75,7 @@ IsPlain Version = Unit {0}
 -- the verdict is one: on faulty words, and on those that ask for such a command
 abbrev pub OneVerdict : Type 0
 OneVerdict = (words : List (List ℕ)) (held : Held) → ((request : Request) → Asks words (Ok request) → IsPlain request.command) → HasOneVerdict words held
+
+-- the bytes of a SPEF file have one answer: nets, or a refusal
+abbrev pub OneReading : Type 0
+OneReading = (pick : Pick) (bytes : List ℕ) (one other : Result DesignNets Refusal) → ReadsNets pick bytes one → ReadsNets pick bytes other → one ≡ other

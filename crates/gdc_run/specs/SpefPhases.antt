@@ -1,11 +1,11 @@
 -- The phases that read a SPEF file (IEEE 1481): its grammar, its head, and what its sections say of their nets.
-use Rattle.std.specs.Prelude.{ℕ, List, Result, Ok, Err}
+use Rattle.std.specs.Prelude.{ℕ, List, All, Result, Ok, Err}
 use Rattle.corner_set.specs.declared.pick.Pick.{Pick}
 use Rattle.spef_text.specs.SpefFiles.{SpefText, Reads, LeavesSpef, HasForm}
 use Rattle.spef_text.specs.Heads.{HeadText, IsHeadOf, IsHeadEnd}
 use Rattle.spef_text.specs.declared.parsing.SpefEnd.TheVariants as grammar
 use Rattle.spef_text.specs.declared.head_ends.HeadEnd.TheVariants as head
-use Rattle.spef_nets.specs.NetElements.{NetElements}
+use Rattle.spef_nets.specs.NetElements.{NetElements, AreWhole}
 use Rattle.spef_nets.specs.Sections.{Corners, AreNets}
 use Rattle.spef_nets.specs.Faults.{AreFaultless, IsSectionEnd}
 use Rattle.spef_nets.specs.declared.ends.SectionEnd.TheVariants as section
@@ -35,9 +35,9 @@ pub record DesignNets : Type 0 where
   pub design : List ℕ
   pub nets : List NetElements
 
--- the sections have no fault and say this of their nets, or have a first fault
+-- the sections have no fault and say this of their nets, each with its elements and no others, or they have a first fault
 pub data NetsSpef (pick : Pick) (file : SpefText) (head : HeadText) : Result (List NetElements) Refusal → Type 0 where
-  are_nets : (nets : List NetElements) → AreFaultless file head → AreNets (sole_corner pick) file head nets → NetsSpef pick file head (Ok nets)
+  are_nets : (nets : List NetElements) → AreFaultless file head → AreNets (sole_corner pick) file head nets → All (AreWhole 1) nets → NetsSpef pick file head (Ok nets)
   unknown_index : (token : ℕ) → IsSectionEnd file head (section.UnknownIndex token) → NetsSpef pick file head (Err (NameIndex Unknown token))
   bad_number : (token : ℕ) → IsSectionEnd file head (section.BadNumber token) → NetsSpef pick file head (Err (SpefNumber BadNumber token))
   value_too_large : (token : ℕ) → IsSectionEnd file head (section.ValueTooLarge token) → NetsSpef pick file head (Err (SpefNumber ValueTooLarge token))

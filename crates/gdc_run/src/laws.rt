@@ -1,7 +1,7 @@
 //! The laws of the verdict, and of what the program writes.
 ghost use Rattle.name_table.specs.WellSpelled.{IsWellSpelled};
 ghost use Rattle.sdf_read_back.specs.Names.{IsSettled};
-ghost use Rattle.gdc_run.specs.OneVerdict.{OneVerdict};
+ghost use Rattle.gdc_run.specs.OneVerdict.{OneReading, OneVerdict};
 ghost use Rattle.gdc_run.specs.ReadBack.{WiresReadBack};
 
 use sdf_read_back::{read_back, settled_read_back};
@@ -16,6 +16,13 @@ pub fn wires_read_back()
     settled_read_back();
     read_back();
 }
+
+/// The law of SPEF files, which its contract states: the bytes of a file have one answer. They say nets, all of whose sections are
+/// without a fault, or they have one refusal. It does nothing when it is called.
+#[tactic(auto, using(crate::proofs::OneSpefFile::one_reading))]
+pub fn one_reading()
+    ensures law { OneReading }
+{}
 
 /// The law of verdicts, which its contract states: on words and on files that are told there is one verdict, if the words are
 /// faulty or ask for `show`, `--help` or `--version`. That the phases come to the reading of a file, where a fault of the outside

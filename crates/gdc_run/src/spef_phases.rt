@@ -1,6 +1,7 @@
 //! The phases that read a SPEF file: its grammar, its head, and its nets one after another.
 ghost use Rattle.std.specs.Prelude.{◌≡◌, ◌^◌, ◌<◌, length, IfOk, OnOk, Err};
 ghost use Rattle.verdict_phases.specs.Phases.{FollowsNoFile};
+ghost use Rattle.spef_nets.specs.NetElements.{AreWhole};
 ghost use Rattle.spef_nets.specs.Reading.{next_section, with_net};
 ghost use Rattle.spef_nets.specs.Sections.{IsNet};
 ghost use Rattle.spef_nets.specs.Faults.{IsFaultless};
@@ -56,6 +57,7 @@ pub fn next_net<'r, 'f>(
 ) -> Result<SpelledSection<'r, 'f, Single>, NoFileEnd<Refusal>>
     requires { length reader.old.nets < length reader.old.file.reading.sections }
     ensures ok { IfOk result (IsNet (sole_corner reader.old.pick) reader.old.file reader.old.head (next_section reader.old)) }
+    ensures whole { IfOk result (AreWhole 1) }
     ensures read { IfOk result (λ net. reader.new ≡ with_net reader.old net.net) }
     ensures faultless { OnOk result (IsFaultless reader.old.file reader.old.head (length reader.old.nets) (next_section reader.old)) }
     ensures refused { OnRefusal result (λ refusal. NetsSpef reader.old.pick reader.old.file reader.old.head (Err refusal)) }

@@ -1,5 +1,6 @@
 use Rattle.std.proofs.Common.{◌≡◌, length, [], ◌∷◌, ◌++◌, ◌+◌, ◌≤◌, refl, sym, ◌∙◌, subst, arith}
-use Rattle.spef_nets.specs.NetElements.{NetElements}
+use Rattle.std.proofs.lemmas.List.Elements.{All-from_recursion, All-append}
+use Rattle.spef_nets.specs.NetElements.{NetElements, AreWhole}
 use Rattle.spef_nets.specs.Reading.{Reading}
 use Rattle.spef_nets.proofs.ReadingLemmas.{AreRead, no_nets, one_more}
 use Rattle.gdc_run.specs.SpefPhases.{sole_corner}
@@ -16,6 +17,7 @@ loop-init g c = (
   no_rows_yet c.args.head.now.design c.in_ok-rows.rows c.in_ok-rows.ensures,
   of_no_section c.args.file.now c.args.head.now,
   omega arith,
+  All-from_recursion (AreWhole 1) [] tt,
 )
 
 pub returns-in-Err : goal.returns-in-Err
@@ -34,6 +36,7 @@ loop-preserved g c = (
   one_net_more c.args.head.now.design c.loop.invariant.0 c.in-Ok.net c.loop.rows c.add.new.self c.loop.invariant.2 (subst (λ (n : NetElements). AddsNet n c.loop.rows c.add.new.self) c.as_net.ensures c.in_ok-add.ensures.next),
   faultless_more c.args.pick c.args.file.now c.args.head.now c.loop.reader c.loop.invariant.0 c.loop.counter c.loop.invariant.1 (omega arith) c.loop.invariant.3 c.in-Ok.ensures.faultless,
   steps_more c.loop.invariant.0 c.in-Ok.net c.args.steps.now c.loop.steps c.add.new.steps c.loop.invariant.4 (subst (λ (n : NetElements). c.add.new.steps ≤ c.loop.steps + most_steps n) c.as_net.ensures c.add.ensures.steps),
+  All-append (AreWhole 1) c.loop.invariant.0 (c.in-Ok.net ∷ []) c.loop.invariant.5 (All-from_recursion (AreWhole 1) (c.in-Ok.net ∷ []) (c.in-Ok.ensures.whole, tt)),
 )
 
 pub returns-in-Ok-finish : goal.returns-in-Ok-finish
@@ -41,7 +44,7 @@ returns-in-Ok-finish g c =
     let whole : c.loop.counter ≡ length c.args.file.now.reading.sections = omega arith in
     record {
       follows = subst (SectionsGive c.args.pick c.args.file.now c.args.head.now) (sym c.finish.ensures ∙ c.in-Ok-finish.is)
-          (all_nets_added c.args.pick c.args.file.now c.args.head.now c.loop.reader c.loop.invariant.0 c.loop.counter c.loop.rows c.loop.invariant.1 whole c.loop.invariant.3 c.loop.invariant.2);
+          (all_nets_added c.args.pick c.args.file.now c.args.head.now c.loop.reader c.loop.invariant.0 c.loop.counter c.loop.rows c.loop.invariant.1 whole c.loop.invariant.3 c.loop.invariant.5 c.loop.invariant.2);
       steps = front_read c.args.pick c.args.file.now c.args.head.now c.loop.reader c.loop.invariant.0 c.loop.counter c.args.steps.now c.loop.steps c.loop.invariant.1 (omega (arith, whole)) c.loop.invariant.3 c.loop.invariant.4;
     }
 
@@ -50,7 +53,7 @@ returns g c =
     let whole : c.loop.counter ≡ length c.args.file.now.reading.sections = omega arith in
     record {
       follows = subst (SectionsGive c.args.pick c.args.file.now c.args.head.now) (sym c.finish.ensures ∙ c.in-Err-finish.is)
-          (all_nets_added c.args.pick c.args.file.now c.args.head.now c.loop.reader c.loop.invariant.0 c.loop.counter c.loop.rows c.loop.invariant.1 whole c.loop.invariant.3 c.loop.invariant.2);
+          (all_nets_added c.args.pick c.args.file.now c.args.head.now c.loop.reader c.loop.invariant.0 c.loop.counter c.loop.rows c.loop.invariant.1 whole c.loop.invariant.3 c.loop.invariant.5 c.loop.invariant.2);
       steps = front_read c.args.pick c.args.file.now c.args.head.now c.loop.reader c.loop.invariant.0 c.loop.counter c.args.steps.now c.loop.steps c.loop.invariant.1 (omega (arith, whole)) c.loop.invariant.3 c.loop.invariant.4;
     }
 
