@@ -2,8 +2,11 @@ pub mod ArcLemmas
 pub mod Completing
 pub mod NetRows
 pub mod OneNet
+pub mod OneRows
 pub mod OneSpefFile
+pub mod OneText
 pub mod OneVerdict
+pub mod OneWires
 pub mod PinLists
 pub mod Places
 pub mod ReadBack

@@ -1,12 +1,12 @@
 -- Two verdicts on the same words and on the same files are one.
-use Rattle.std.proofs.Common.{◌≡◌, ℕ, inl, List, length, Some, None, Result, Ok, Err, refl, sym, ap, ◌∙◌, subst, arith}
+use Rattle.std.proofs.Common.{◌≡◌, ℕ, inl, List, Some, Result, Ok, Err, refl, sym, ap, ◌∙◌, subst}
 use Rattle.edge_io.specs.Holding.{Held}
-use Rattle.verdict_phases.specs.Phases.{Stop, RefusedBy, Unread, Reads, Step, Go, Halt}
+use Rattle.verdict_phases.specs.Phases.{Step, Go, Halt}
 use Rattle.verdict_phases.specs.FileReading.{ReadsFile}
 use Rattle.sdf_reader.specs.declared.rows.SdfRow.{SdfRow}
 use Rattle.sdf_reader.proofs.OneFault.{one_fault}
 use Rattle.sdf_reader.proofs.SoFar.{one_rows}
-use Rattle.gdc_words.specs.CommandLine.{Request, Asks, value_of}
+use Rattle.gdc_words.specs.CommandLine.{Request, Asks, value_of, pick_from}
 use Rattle.gdc_words.specs.declared.commands.Command.{Command}
 use Rattle.gdc_words.specs.declared.commands.Command.TheVariants.{Wires, Show, Lookup, Help, Version}
 use Rattle.gdc_words.specs.declared.commands.Key.TheVariants as key
@@ -19,63 +19,10 @@ use Rattle.gdc_run.specs.declared.refusal.Refusal.{Refusal}
 use Rattle.gdc_run.specs.declared.refusal.Refusal.TheVariants.{Limit, SdfSyntax}
 use Rattle.gdc_run.specs.declared.output.Output.{Output}
 use Rattle.gdc_run.specs.declared.output.Output.TheVariants as output
-use Rattle.gdc_run.specs.Verdict.{file_limit, ParsesSdf, is_sdf_file, is_no_sdf_file, ShowGives, at_sdf_reading, at_sdf, with_sdf_rows, As, CommandGives, Faulty, Answers}
-use Rattle.gdc_run.specs.OneVerdict.{IsFinal, IsDecided, SameStop, SameStep, HasOneAnswer, IsPlain, HasOneVerdict, OneVerdict}
-use Rattle.gdc_run.proofs.Places.{some_is}
-
--- ---- the reading of a file
-
--- a file has one text, or one reason why it is not read
-pub one_text : {R K : Type 0} (limit : ℕ) (held : Held) (key : K) (too_long : R) (name : List ℕ) (one other : Step R K (List ℕ)) → ReadsFile limit (Some held) key too_long name one → ReadsFile limit (Some held) key too_long name other
-    → IsDecided one → IsDecided other → one ≡ other
-one_text limit held key too_long name (Go x) (Go y) r s d e = ap Go (some_is x y (sym r.0 ∙ s.0))
-one_text limit held key too_long name (Go x) (Halt (RefusedBy f)) r s d e = let same : x ≡ s.0.0 = some_is x s.0.0 (sym r.0 ∙ s.0.1) in absurd (omega (arith, r.1, s.0.2, ap length same))
-one_text limit held key too_long name (Go x) (Halt (Unread k)) r s d e = let same : Some x ≡ None = sym r.0 ∙ s.0 in absurd (cc)
-one_text limit held key too_long name (Go x) (Halt (Reads k)) r s d e = absurd e
-one_text limit held key too_long name (Halt (RefusedBy f)) (Go y) r s d e = let same : y ≡ r.0.0 = some_is y r.0.0 (sym s.0 ∙ r.0.1) in absurd (omega (arith, s.1, r.0.2, ap length same))
-one_text limit held key too_long name (Halt (RefusedBy f)) (Halt (RefusedBy g)) r s d e = ap (λ x. Halt (RefusedBy x)) (r.1 ∙ sym s.1)
-one_text limit held key too_long name (Halt (RefusedBy f)) (Halt (Unread k)) r s d e = let same : Some r.0.0 ≡ None = sym r.0.1 ∙ s.0 in absurd (cc)
-one_text limit held key too_long name (Halt (RefusedBy f)) (Halt (Reads k)) r s d e = absurd e
-one_text limit held key too_long name (Halt (Unread k)) (Go y) r s d e = let same : Some y ≡ None = sym s.0 ∙ r.0 in absurd (cc)
-one_text limit held key too_long name (Halt (Unread k)) (Halt (RefusedBy g)) r s d e = let same : Some s.0.0 ≡ None = sym s.0.1 ∙ r.0 in absurd (cc)
-one_text limit held key too_long name (Halt (Unread k)) (Halt (Unread j)) r s d e = ap (λ x. Halt (Unread x)) (r.1 ∙ sym s.1)
-one_text limit held key too_long name (Halt (Unread k)) (Halt (Reads j)) r s d e = absurd e
-one_text limit held key too_long name (Halt (Reads k)) other r s d e = absurd d
-
-same_stop : (one other : Stop Refusal FileKey) → one ≡ other → IsFinal one → SameStop one other
-same_stop one other same final = subst (SameStop one) same (by one final)
-  where
-    by : (stop : Stop Refusal FileKey) → IsFinal stop → SameStop stop stop
-    by (RefusedBy refusal) final = inl refl
-    by (Unread key) final = refl
-    by (Reads key) final = absurd final
-
-abbrev read : List ℕ → Step Refusal FileKey (List ℕ)
-read bytes = Go bytes
-
-abbrev stopped : Stop Refusal FileKey → Step Refusal FileKey (List ℕ)
-stopped why = Halt why
-
--- the file of one key
-module _ (held : Held) (key : FileKey) (name : List ℕ) where
-  abbrev ReadsIt : Step Refusal FileKey (List ℕ) → Type 0
-  ReadsIt step = ReadsFile file_limit (Some held) key (Limit (File key)) name step
-
-  pub stops_alike : (one other : Stop Refusal FileKey) → ReadsIt (Halt one) → ReadsIt (Halt other) → IsFinal one → IsFinal other → SameStop one other
-  stops_alike one other r s d e =
-      let same : stopped one ≡ stopped other = one_text file_limit held key (Limit (File key)) name (Halt one) (Halt other) r s d e in
-      let equal : one ≡ other = cc in
-      same_stop one other equal d
-
-  pub reads_or_stops : (bytes : List ℕ) (why : Stop Refusal FileKey) → ReadsIt (Go bytes) → ReadsIt (Halt why) → IsFinal why → ⊥
-  reads_or_stops bytes why r s e =
-      let same : read bytes ≡ stopped why = one_text file_limit held key (Limit (File key)) name (Go bytes) (Halt why) r s tt e in
-      cc
-
-  pub reads_alike : (one other : List ℕ) → ReadsIt (Go one) → ReadsIt (Go other) → one ≡ other
-  reads_alike one other r s =
-      let same : read one ≡ read other = one_text file_limit held key (Limit (File key)) name (Go one) (Go other) r s tt tt in
-      cc
+use Rattle.gdc_run.specs.Verdict.{file_limit, ParsesSdf, is_sdf_file, is_no_sdf_file, ShowGives, WiresGives, at_sdf_reading, at_sdf, with_sdf_rows, As, CommandGives, Faulty, Answers}
+use Rattle.gdc_run.specs.OneVerdict.{SameStep, HasOneAnswer, IsPlain, HasOneVerdict, OneVerdict}
+use Rattle.gdc_run.proofs.OneText.{read, stops_alike, reads_or_stops, reads_alike}
+use Rattle.gdc_run.proofs.OneWires.{one_wires}
 
 -- ---- `show`
 
@@ -130,7 +77,7 @@ one_fixed : (fixed : Output) → HasOneAnswer (λ (step : Step Refusal FileKey O
 one_fixed fixed one other r s d e = subst (λ (x : Step Refusal FileKey Output). SameStep x other) (sym r) (subst (λ (x : Step Refusal FileKey Output). SameStep (Go fixed) x) (sym s) refl)
 
 one_plain : (held : Held) (command : Command) (request : Request) → IsPlain command → HasOneAnswer (CommandGives (Some held) command request)
-one_plain held Wires request plain = absurd plain
+one_plain held Wires request plain = one_put output.Sdf (WiresGives (Some held) (pick_from request.given) (value_of request.given key.Spef)) (one_wires held (pick_from request.given) (value_of request.given key.Spef))
 one_plain held Show request plain = one_put output.Listing (ShowGives (Some held) (value_of request.given key.Sdf)) (one_show held (value_of request.given key.Sdf))
 one_plain held Lookup request plain = absurd plain
 one_plain held Help request plain = one_fixed output.Help

@@ -22,7 +22,7 @@ abbrev pub IsDecided : {R K A : Type 0} → Step R K A → Type 0
 IsDecided (Go value) = Unit {0}
 IsDecided (Halt why) = IsFinal why
 
--- both refuse one net for a mesh, whatever resistor of its loops each of them names
+-- both refuse one net for a mesh, each by some resistor that cuts no node off
 pub record AreMeshes (one other : Refusal) : Type 0 where
   pub net : List ℕ
   pub first : ℕ
@@ -64,9 +64,9 @@ SameVerdict _ _ = ⊥
 abbrev pub HasOneVerdict : List (List ℕ) → Held → Type 0
 HasOneVerdict words held = (one other : Verdict) → Gives words (Some held) one → Gives words (Some held) other → IsDecidedVerdict one → IsDecidedVerdict other → SameVerdict one other
 
--- the commands of which the law is proved
+-- the commands of which the law is proved: all but `lookup`
 abbrev pub IsPlain : Command → Type 0
-IsPlain Wires = ⊥
+IsPlain Wires = Unit {0}
 IsPlain Show = Unit {0}
 IsPlain Lookup = ⊥
 IsPlain Help = Unit {0}

@@ -24,9 +24,9 @@ pub fn one_reading()
     ensures law { OneReading }
 {}
 
-/// The law of verdicts, which its contract states: on words and on files that are told there is one verdict, if the words are
-/// faulty or ask for `show`, `--help` or `--version`. That the phases come to the reading of a file, where a fault of the outside
-/// may come, stands beside it. It does nothing when it is called.
+/// The law of verdicts, which its contract states: on words and on files that are told there is one verdict, unless the words ask
+/// for `lookup`. A net whose resistors close a loop may be refused by any resistor of it. That the phases come to the reading of a
+/// file, where a fault of the outside may come or not, stands beside the verdict. It does nothing when it is called.
 #[tactic(auto, using(crate::proofs::OneVerdict::plain_verdict))]
 pub fn one_verdict()
     ensures law { OneVerdict }
