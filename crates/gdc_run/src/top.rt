@@ -5,6 +5,7 @@ ghost use Rattle.edge_io.specs.Told.{appended, AppendsFrontOf};
 ghost use Rattle.gdc_words.specs.CommandLine.{Asks};
 ghost use Rattle.gdc_run.specs.Verdict.{Gives, Answers};
 ghost use Rattle.gdc_run.specs.Outcomes.{OnDone, IfRefused, IfUsage, IfReadFault, OnWriteFault, UnlessWritten, GivesText, HasReadFault, AnswersUsage};
+ghost use Rattle.gdc_run.specs.OneVerdict.{OneVerdict};
 ghost use Rattle.gdc_run.specs.ReadBack.{WiresReadBack};
 ghost use Rattle.gdc_run.specs.Saying.{Says};
 ghost use Rattle.sdf_read_back.specs.Names.{IsSettled};
@@ -13,7 +14,7 @@ ghost use Rattle.gdc_run.specs.Ends.{MeansEnd, FollowsTop};
 ghost use Rattle.gdc_run.specs.Work.{WordsWork, IsWithin, OnEarlyEnd, BeforeSections};
 ghost use Rattle.verdict_phases.specs.Phases.{RefusedBy, Halt};
 
-use crate::laws::wires_read_back;
+use crate::laws::{one_verdict, wires_read_back};
 use crate::lines::say;
 use crate::outcome::Outcome;
 use crate::output::{Output, write_output};
@@ -155,6 +156,9 @@ pub fn run<H: Shelf, O: Sink, E: Sink, L: Ledger>(
     ensures complete { IsComplete words.now (H.held shelf.old) (H.faults shelf.old) (H.faults shelf.new)
         (O.faults out.old) (O.faults out.new) result }
 
+    // The verdict is one, unless the words ask for `lookup`.
+    ensures one_verdict { OneVerdict }
+
     // The answer's line stands behind what `err` held.
     ensures said { Says result (E.written err.old) (E.written err.new) (E.faults err.old) (E.faults err.new) }
 
@@ -164,6 +168,7 @@ pub fn run<H: Shelf, O: Sink, E: Sink, L: Ledger>(
     ensures no_steps { BeforeSections result (steps.new ≡ steps.old) }
 {
     wires_read_back();
+    one_verdict();
     let outcome = answer(alloc, words, shelf, out, steps);
     // The answer stays where its line could not be written.
     let _ = say(&outcome, err);
