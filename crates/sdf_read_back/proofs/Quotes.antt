@@ -4,7 +4,7 @@ use Rattle.std.specs.List.{flat_map}
 use Rattle.std.proofs.Math.Seq.{take-append_seam, drop-append_seam}
 use Rattle.std.proofs.lemmas.List.{length-append}
 use Rattle.token_texts.specs.Quoted.{quote_end}
-use Rattle.token_texts.specs.Cuts.{take_one}
+use Rattle.token_texts.specs.CutLemmas.{take_one}
 use Rattle.sdf_reader.specs.Tokens.{text_end, text_cut, cut_at, Lexeme, AreTokens, said_behind, meaning}
 use Rattle.sdf_reader.specs.declared.scan.Kind.TheVariants.{Quoted}
 use Rattle.token_texts.specs.declared.cuts.Cut.TheVariants.{Take}

@@ -3,7 +3,7 @@ use Rattle.std.proofs.Common.{ℕ, Bool, true, false, cond, List, [], ◌∷◌,
 use Rattle.std.specs.List.{flat_map}
 use Rattle.std.proofs.lemmas.List.{append-nil}
 use Rattle.delay_units.specs.declared.quantities.Femto.{Femto}
-use Rattle.token_texts.specs.Cuts.{end}
+use Rattle.token_texts.specs.CutLemmas.{no_token}
 use Rattle.sdf_reader.specs.Tokens.{Lexeme, AreTokens}
 use Rattle.sdf_writer.specs.SdfText.{WireRow, PathRow, SdfRows, wire_line, path_line, delay_lines, same_cell, before_cells, cells_of, cell_opening, cell_closing, cell_lines, opening_lines, sdf_lines, lines_text, sdf_text}
 use Rattle.sdf_read_back.proofs.Fit.{Each, IsWire, IsPath, IsEdgeDelay}
@@ -108,4 +108,4 @@ unfolding sdf_text
 text_parted rows wires paths =
     subst (λ (t : List ℕ). AreTokens t (sdf_tokens rows)) (append-nil (lines_text (sdf_lines rows)))
     (subst (λ (l : List Lexeme). AreTokens (lines_text (sdf_lines rows) ++ []) l) (append-nil (sdf_tokens rows))
-    ((file_are rows wires paths).parted [] [] end))
+    ((file_are rows wires paths).parted [] [] no_token))

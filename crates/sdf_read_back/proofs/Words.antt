@@ -5,7 +5,7 @@ use Rattle.std.proofs.Math.Seq.{take-append_seam, drop-append_seam}
 use Rattle.std.proofs.lemmas.Bool.{le-leb, leb-true}
 use Rattle.token_texts.specs.Bytes.{begins_with}
 use Rattle.token_texts.specs.Blanks.{is_blank}
-use Rattle.token_texts.specs.Cuts.{skip, take_one}
+use Rattle.token_texts.specs.CutLemmas.{skip, take_one}
 use Rattle.token_texts.specs.RunLemmas.{escaped_more, escaped_none, escaped_taking}
 use Rattle.sdf_reader.specs.Tokens.{is_plain, word_length, word_cut, cut_at, Lexeme, AreTokens}
 use Rattle.sdf_reader.specs.declared.scan.Kind.TheVariants.{LeftParen, RightParen, Word}

@@ -1,10 +1,13 @@
 -- What the reader makes of the tokens, the bytes say.
-use Rattle.std.proofs.Common.{◌≡◌, ℕ, ◌+◌, List, length, Some, None, Option, Result, Ok, Err, IfOk, subst}
+use Rattle.std.proofs.Common.{◌≡◌, ℕ, List, [], ◌∷◌, ◌++◌, Some, None, Option, Result, Ok, Err, IfOk, refl, sym, subst}
 use Rattle.edge_io.specs.declared.failures.OutOfMemory.{OutOfMemory}
 use Rattle.token_fronts.specs.Machine.{Stop, outcome}
 use Rattle.token_fronts.specs.ReadingLaw.{says_made, leaves_where_stopped, one_reading}
 use Rattle.token_fronts.specs.FrontLaw.{Fits, dead_token}
-use Rattle.token_texts.specs.Readings.{Follows, MakesTokens, StopsTokens, IfRefused}
+use Rattle.token_texts.specs.Cuts.{Part, gap, token, lexemes}
+use Rattle.token_texts.specs.CutLemmas.{lexemes_behind, lexemes_gap}
+use Rattle.token_texts.specs.Leading as leading
+use Rattle.token_texts.specs.Readings.{IsNext, Follows, MakesParts, StopsParts, IfRefused}
 use Rattle.token_texts.specs.declared.reading.ReadEnd.{ReadEnd}
 use Rattle.token_texts.specs.declared.reading.ReadEnd.TheVariants.{Refused}
 use Rattle.token_texts.specs.Leading.{leads_on, leads_to_stop}
@@ -51,32 +54,41 @@ fault_of bytes tokens stop parted e =
     }
 
 -- what the loop over the tokens answers
-pub says : {bytes : List ℕ} {rows : List SdfRow} → MakesTokens cut_at Makes bytes rows → SaysRows bytes rows
-says {bytes} {rows} h = says_rows bytes h.tokens rows h.parted (h.made deciding decides)
+pub says : {bytes : List ℕ} {rows : List SdfRow} → MakesParts cut_at Makes bytes rows → SaysRows bytes rows
+says {bytes} {rows} h = says_rows bytes (lexemes h.parts) rows (record { parts = h.parts; parted = h.parted; are = refl }) (h.made deciding decides)
 
-is_fault : {bytes : List ℕ} {number : ℕ} {cause : SdfCause} → StopsTokens cut_at Stops bytes number cause → IsFault bytes number cause
-is_fault {bytes} {number} {cause} h =
+is_fault : {bytes : List ℕ} {number start : ℕ} {cause : SdfCause} → StopsParts cut_at Stops bytes number start cause → IsFault bytes number cause
+is_fault {bytes} {number} {cause = cause} h =
     let stop = h.stops deciding decides in
-    fault_of bytes h.tokens (record { number = number; state = stop.0; cause = cause }) h.parted stop.1
+    fault_of bytes (lexemes h.parts) (record { number = number; state = stop.0; cause = cause }) (record { parts = h.parts; parted = h.parted; are = refl }) stop.1
 
-pub refused : {bytes : List ℕ} {number : ℕ} {cause : SdfCause} (end : ReadEnd SdfCause) → end ≡ Refused number cause → IfRefused {A = List SdfRow} (Err end) (StopsTokens cut_at Stops bytes) → IsFault bytes number cause
-refused {bytes} end is h = is_fault (subst (λ (e : ReadEnd SdfCause). IfRefused {A = List SdfRow} (Err e) (StopsTokens cut_at Stops bytes)) is h)
+pub refused : {bytes : List ℕ} {number start : ℕ} {cause : SdfCause} (end : ReadEnd SdfCause) → end ≡ Refused number start cause → IfRefused {A = List SdfRow} (Err end) (StopsParts cut_at Stops bytes) → IsFault bytes number cause
+refused {bytes} end is h = is_fault (subst (λ (e : ReadEnd SdfCause). IfRefused {A = List SdfRow} (Err e) (StopsParts cut_at Stops bytes)) is h)
 
 -- bytes say one list of rows at most
 pub one_rows : (bytes : List ℕ) (some other : List SdfRow) → SaysRows bytes some → SaysRows bytes other → some ≡ other
 one_rows bytes some other says others = one_reading AreTokens IsToken IsSdf (next deciding) finish first_state fitting one_parting bytes some other says others
 
--- a token of these bytes is taken, or refused, behind those before it
-follows : (before : List Lexeme) (number : ℕ) (k : Kind) (bytes : List ℕ) (reader after : Reader) (refusal : Option SdfCause)
-    → ((find : Timescale → List ℕ → Option Value) → Decides IsValue find → Steps (applied find (does reader.mode k bytes) (state_of reader) bytes) (state_of after) refusal)
-    → number ≡ length before + 1 → Leads before reader → Follows Leads Stops before number k bytes after refusal
-follows before number k bytes reader after None steps count leads =
-    λ find decides. leads_on (next find) finish first_state before number (state_of reader) (state_of after) (record { kind = k; bytes = bytes }) count (leads find decides) (steps find decides)
-follows before number k bytes reader after (Some cause) steps count leads =
-    λ more find decides. leads_to_stop (next find) finish first_state before more number (state_of reader) (record { kind = k; bytes = bytes }) cause count (leads find decides) (steps find decides)
+-- what is passed over says nothing
+pub passed : (before : List (Part Kind)) (bytes : List ℕ) (reader : Reader) → Leads before reader → Leads (before ++ gap bytes ∷ []) reader
+passed before bytes reader leads = λ find decides.
+    subst (λ (tokens : List Lexeme). leading.Leads (next find) finish first_state tokens (state_of reader)) (sym (lexemes_gap before bytes)) (leads find decides)
 
-pub taken : (before : List Lexeme) (number : ℕ) (k : Kind) (bytes : List ℕ) (reader after : Reader) (answer : Result (Option SdfCause) OutOfMemory)
+-- a token of these bytes is taken, or refused, behind the parts before it
+follows : (before : List (Part Kind)) (number start : ℕ) (k : Kind) (bytes : List ℕ) (reader after : Reader) (refusal : Option SdfCause)
+    → ((find : Timescale → List ℕ → Option Value) → Decides IsValue find → Steps (applied find (does reader.mode k bytes) (state_of reader) bytes) (state_of after) refusal)
+    → IsNext before number start → Leads before reader → Follows Leads Stops before number k bytes after refusal
+follows before number start k bytes reader after None steps is_next leads = λ find decides.
+    let here : Lexeme = record { kind = k; bytes = bytes } in
+    subst (λ (tokens : List Lexeme). leading.Leads (next find) finish first_state tokens (state_of after)) (sym (lexemes_behind before (token here ∷ [])))
+    (leads_on (next find) finish first_state (lexemes before) number (state_of reader) (state_of after) here is_next.count (leads find decides) (steps find decides))
+follows before number start k bytes reader after (Some cause) steps is_next leads = λ more find decides.
+    let here : Lexeme = record { kind = k; bytes = bytes } in
+    subst (λ (tokens : List Lexeme). leading.Stops (next find) finish first_state tokens number cause) (sym (lexemes_behind before (token here ∷ more)))
+    (leads_to_stop (next find) finish first_state (lexemes before) (lexemes more) number (state_of reader) here cause is_next.count (leads find decides) (steps find decides))
+
+pub taken : (before : List (Part Kind)) (number start : ℕ) (k : Kind) (bytes : List ℕ) (reader after : Reader) (answer : Result (Option SdfCause) OutOfMemory)
     → ((find : Timescale → List ℕ → Option Value) → Decides IsValue find → IfOk answer (Steps (applied find (does reader.mode k bytes) (state_of reader) bytes) (state_of after)))
-    → number ≡ length before + 1 → Leads before reader → IfOk answer (Follows Leads Stops before number k bytes after)
-taken before number k bytes reader after (Ok refusal) steps count leads = follows before number k bytes reader after refusal steps count leads
-taken before number k bytes reader after (Err end) steps count leads = tt
+    → IsNext before number start → Leads before reader → IfOk answer (Follows Leads Stops before number k bytes after)
+taken before number start k bytes reader after (Ok refusal) steps is_next leads = follows before number start k bytes reader after refusal steps is_next leads
+taken before number start k bytes reader after (Err end) steps is_next leads = tt

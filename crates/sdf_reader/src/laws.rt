@@ -21,7 +21,6 @@ pub fn one_fault()
 {}
 
 /// The law of tokens, which its contract states: given bytes have only one list of them. It does nothing when it is called.
-#[tactic(auto, using(crate::proofs::Parting::one_parting))]
 pub fn one_parting()
     ensures law { (bytes : List ℕ) (some other : List Lexeme) → AreTokens bytes some → AreTokens bytes other → some ≡ other }
 {}

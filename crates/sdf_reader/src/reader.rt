@@ -306,19 +306,23 @@ impl TokenReader for Reader {
         cut_at(bytes, first, rest)
     }
 
+    #[inline]
+    fn pass(&mut self, _bytes: &[u8]) {}
+
     fn take(
         &mut self,
         _number: u64,
+        _start: usize,
         kind: Kind,
         bytes: &[u8],
     ) -> Result<Option<SdfCause>, OutOfMemory> {
         self.take_token(kind, bytes)
     }
 
-    fn finish(self) -> Result<SdfRows, SdfCause> {
+    fn finish(self) -> Result<Result<SdfRows, SdfCause>, OutOfMemory> {
         match self.mode {
-            Mode::End => Ok(self.rows),
-            _ => Err(SdfCause::EndInside),
+            Mode::End => Ok(Ok(self.rows)),
+            _ => Ok(Err(SdfCause::EndInside)),
         }
     }
 

@@ -22,7 +22,7 @@ pub fn read(alloc: Global, bytes: &[u8]) -> Result<SdfRows, SdfEnd>
 {
     match read_tokens(Reader::new(alloc), bytes) {
         Ok(rows) => Ok(rows),
-        Err(ReadEnd::Refused(token, cause)) => Err(SdfEnd::Syntax { token, cause }),
+        Err(ReadEnd::Refused(token, _, cause)) => Err(SdfEnd::Syntax { token, cause }),
         Err(ReadEnd::OutOfMemory) => Err(SdfEnd::OutOfMemory),
     }
 }

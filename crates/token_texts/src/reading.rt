@@ -1,7 +1,7 @@
 //! One loop over the tokens of a text.
-ghost use Rattle.std.specs.Prelude.{◌≡◌, ℕ, ◌+◌, ◌<◌, ◌^◌, ◌∷◌, [], List, length, IfOk};
-ghost use Rattle.token_texts.specs.Cuts.{Lexeme, IsWithin};
-ghost use Rattle.token_texts.specs.Readings.{Follows, OnTaken, Finishes, MakesTokens, StopsTokens, IfRefused};
+ghost use Rattle.std.specs.Prelude.{◌≡◌, ℕ, ◌+◌, ◌<◌, ◌^◌, ◌∷◌, [], ◌++◌, List, length, IfOk};
+ghost use Rattle.token_texts.specs.Cuts.{Part, gap, IsWithin};
+ghost use Rattle.token_texts.specs.Readings.{IsNext, Follows, OnTaken, Finishes, MakesParts, StopsParts, IfRefused};
 ghost use Rattle.token_texts.specs.declared.cuts.Cut.{Cut};
 
 use crate::cuts::Cut;
@@ -10,8 +10,9 @@ use edge_io::OutOfMemory;
 /// Why a text is not read.
 #[derive(Drop)]
 pub enum ReadEnd<C> {
-    /// The token of this number, from 1, cannot stand where it stands; one past the last, the text cannot end there.
-    Refused(u64, C),
+    /// The token of this number, from 1, which begins behind so many bytes, cannot stand where it stands. One past the last, the
+    /// text cannot end there.
+    Refused(u64, usize, C),
     OutOfMemory,
 }
 
@@ -29,14 +30,14 @@ pub trait TokenReader: Drop {
     /// What is so of the machine where the next token has this number.
     ghost IsSound: { ℕ → Self → Type 0 };
 
-    /// These tokens lead to the machine.
-    ghost Leads: { List (Lexeme Self.Kind) → Self → Type 0 };
+    /// These parts lead to the machine.
+    ghost Leads: { List (Part Self.Kind) → Self → Type 0 };
 
-    /// These tokens are refused at the token of this number.
-    ghost Stops: { List (Lexeme Self.Kind) → ℕ → Self.Cause → Type 0 };
+    /// These parts are refused at the token of this number.
+    ghost Stops: { List (Part Self.Kind) → ℕ → Self.Cause → Type 0 };
 
-    /// These tokens say the value.
-    ghost Makes: { List (Lexeme Self.Kind) → Self.Value → Type 0 };
+    /// These parts say the value.
+    ghost Makes: { List (Part Self.Kind) → Self.Value → Type 0 };
 
     fn cut(bytes: &[u8], first: u8, rest: &[u8]) -> Cut<Self::Kind>
         requires parts { bytes.now ≡ first ∷ rest.now }
@@ -44,19 +45,29 @@ pub trait TokenReader: Drop {
         ensures value { result ≡ cut_at first rest.now }
         ensures within { IsWithin (length bytes.now) result };
 
+    /// Goes on behind bytes that are passed over, as a blank or a comment.
+    fn pass(&mut self, bytes: &[u8])
+        ensures sound { (number : ℕ) → IsSound number self.old → IsSound number self.new }
+        ensures state { (before : List (Part Self.Kind)) → Leads before self.old → Leads (before ++ gap bytes.now ∷ []) self.new };
+
+    /// Takes a token, or says why it cannot stand where it stands.
     fn take(
         &mut self,
         number: u64,
+        start: usize,
         kind: Self::Kind,
         bytes: &[u8],
     ) -> Result<Option<Self::Cause>, OutOfMemory>
         requires number { number < 2 ^ 32 }
+        requires bytes { start + length bytes.now < 2 ^ 32 }
         requires sound { IsSound number self.old }
         ensures sound { OnTaken result (IsSound (number + 1) self.new) }
-        ensures state { (before : List (Lexeme Self.Kind)) → number ≡ length before + 1 → Leads before self.old → IfOk result (Follows Leads Stops before number kind bytes.now self.new) };
+        ensures state { (before : List (Part Self.Kind)) → IsNext before number start → Leads before self.old → IfOk result (Follows Leads Stops before number kind bytes.now self.new) };
 
-    fn finish(self) -> Result<Self::Value, Self::Cause>
-        ensures state { (before : List (Lexeme Self.Kind)) → Leads before self → Finishes Makes Stops before result };
+    /// What the text says, or why it cannot end here.
+    fn finish(self) -> Result<Result<Self::Value, Self::Cause>, OutOfMemory>
+        requires sound { (number : ℕ) × IsSound number self }
+        ensures state { (before : List (Part Self.Kind)) → Leads before self → IfOk result (Finishes Makes Stops before) };
 
     /// Each cut takes a byte, and none past the end.
     ghost within: { (first : ℕ) (rest : List ℕ) → IsWithin (length rest + 1) (cut_at first rest) };
@@ -67,29 +78,37 @@ pub fn read_tokens<R: TokenReader>(first: R, bytes: &[u8]) -> Result<R::Value, R
     requires bytes { length bytes.now < 2 ^ 32 }
     requires sound { R.IsSound 1 first }
     requires leads { R.Leads [] first }
-    ensures ok { IfOk result (λ value. MakesTokens R.cut_at R.Makes bytes.now value) }
-    ensures fault { IfRefused result (StopsTokens R.cut_at R.Stops bytes.now) }
+    ensures ok { IfOk result (λ value. MakesParts R.cut_at R.Makes bytes.now value) }
+    ensures fault { IfRefused result (StopsParts R.cut_at R.Stops bytes.now) }
 {
     let mut reader = first;
     let mut number = 1;
+    let mut start = 0;
     let mut rest = bytes;
     while let [byte, behind @ ..] = rest {
         match R::cut(rest, *byte, behind) {
-            Cut::Skip(count) => rest = rest.split_at(count).1,
+            Cut::Skip(count) => {
+                let (gap, others) = rest.split_at(count);
+                reader.pass(gap);
+                start += count;
+                rest = others;
+            }
             Cut::Take(count, kind) => {
                 let (token, others) = rest.split_at(count);
-                match reader.take(number, kind, token) {
+                match reader.take(number, start, kind, token) {
                     Ok(None) => {}
-                    Ok(Some(cause)) => return Err(ReadEnd::Refused(number, cause)),
+                    Ok(Some(cause)) => return Err(ReadEnd::Refused(number, start, cause)),
                     Err(_) => return Err(ReadEnd::OutOfMemory),
                 }
                 number += 1;
+                start += count;
                 rest = others;
             }
         }
     }
     match reader.finish() {
-        Ok(value) => Ok(value),
-        Err(cause) => Err(ReadEnd::Refused(number, cause)),
+        Ok(Ok(value)) => Ok(value),
+        Ok(Err(cause)) => Err(ReadEnd::Refused(number, start, cause)),
+        Err(_) => Err(ReadEnd::OutOfMemory),
     }
 }
