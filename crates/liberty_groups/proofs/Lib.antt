@@ -1,6 +1,5 @@
 pub mod Runs
 pub mod Cutting
-pub mod Within
 pub mod Saying
 pub mod Living
 pub mod Taking
@@ -13,7 +12,8 @@ pub mod Stepping
 pub mod Parting
 pub mod Building
 pub mod Lines
-pub mod Reading
+pub mod Parts
+pub mod SoFar
 pub mod Trees
 pub mod Spans
 pub mod Lasting

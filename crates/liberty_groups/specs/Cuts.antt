@@ -1,18 +1,14 @@
 -- How much of some bytes stands at their front.
-use Rattle.std.specs.Prelude.{ℕ, ◌+◌, ◌<◌, ◌≤◌, ◌==◌, Bool, not, ◌&&◌, List, length, if◌then◌else◌}
+use Rattle.std.specs.Prelude.{ℕ, ◌+◌, ◌==◌, Bool, not, ◌&&◌, List, length, if◌then◌else◌}
 use Rattle.token_texts.specs.Bytes.{slash, left_bracket, right_bracket}
 use Rattle.liberty_groups.specs.Tokens.{is_plain, is_mark, opened_behind, word_length}
+use Rattle.liberty_groups.specs.declared.scan.Kind.{Kind}
 use Rattle.liberty_groups.specs.declared.scan.Kind.TheVariants.{Word, Bad}
-use Rattle.liberty_groups.specs.declared.scan.Cut.{Cut}
-use Rattle.liberty_groups.specs.declared.scan.Cut.TheVariants.{Skip, Take}
-
--- at least one byte, and at most n
-abbrev pub IsWithin : ℕ → Cut → Type 0
-IsWithin n (Skip k breaks) = (0 < k) × (k ≤ n)
-IsWithin n (Take k kind) = (0 < k) × (k ≤ n)
+use Rattle.token_texts.specs.declared.cuts.Cut.{Cut}
+use Rattle.token_texts.specs.declared.cuts.Cut.TheVariants.{Take}
 
 -- a word from its first byte on, or what begins no token
-abbrev pub word_cut : ℕ → List ℕ → Cut
+abbrev pub word_cut : ℕ → List ℕ → Cut Kind
 word_cut first rest = if is_plain first then Take (word_length (opened_behind 0 first) rest + 1) Word else Take (length rest + 1) Bad
 
 -- a byte that a word goes on with, whatever stands before and behind it, with as many `[` open as before

@@ -13,3 +13,5 @@ pub mod Tables
 pub mod TableRows
 pub mod Opened
 pub mod Built
+pub mod Within
+pub mod Leading

@@ -4,9 +4,7 @@ use Rattle.liberty_groups.specs.Modes.{State, settled}
 use Rattle.liberty_groups.specs.Building.{Built}
 use Rattle.liberty_groups.specs.Built.{built_of}
 use Rattle.liberty_groups.specs.declared.modes.Mode.{Mode}
-use Rattle.liberty_groups.specs.Groups.{Group}
 use Rattle.liberty_groups.specs.declared.faults.Cause.{Cause}
-use Rattle.liberty_groups.specs.declared.faults.Cause.TheVariants.{EndInside}
 use Rattle.liberty_groups.specs.declared.reader.Reader.{Reader}
 
 abbrev pub at_mode : Mode → Built → State
@@ -27,8 +25,3 @@ settled_if false s = s
 abbrev pub Steps : Result State Cause → State → Option Cause → Type 0
 Steps answer after None = answer ≡ Ok after
 Steps answer after (Some cause) = answer ≡ Err cause
-
--- the file says this tree, or may not end here
-abbrev pub Finishes : Result Group Cause → Option Group → Type 0
-Finishes answer (Some tree) = answer ≡ Ok tree
-Finishes answer None = answer ≡ Err EndInside

@@ -8,8 +8,9 @@ use Rattle.token_texts.specs.Quoted.{quote_end}
 use Rattle.token_texts.specs.declared.quoted.Escape.TheVariants.{NextQuote}
 use Rattle.liberty_groups.specs.declared.scan.Kind.{Kind}
 use Rattle.liberty_groups.specs.declared.scan.Kind.TheVariants.{Word, Quoted, LeftParen, RightParen, LeftBrace, RightBrace, Colon, Semicolon, Comma, Bad, OpenQuoted, OpenNote}
-use Rattle.liberty_groups.specs.declared.scan.Cut.{Cut}
-use Rattle.liberty_groups.specs.declared.scan.Cut.TheVariants.{Skip, Take}
+use Rattle.token_texts.specs.Cuts.{Part, gap, token, AreTokensOf}
+use Rattle.token_texts.specs.declared.cuts.Cut.{Cut}
+use Rattle.token_texts.specs.declared.cuts.Cut.TheVariants.{Skip, Take}
 
 -- the bytes that may stand in a continuation between its backslash and its line end: 9, 13 and 32; this test is of all others
 abbrev pub ends_gap : ℕ → Bool
@@ -77,30 +78,30 @@ word_length opened [] = 0
 word_length opened (byte ∷ rest) = if goes_on opened byte rest then word_length (opened_behind opened byte) rest + 1 else 0
 
 -- A `/*` with `inner` behind it, where the comment ends at this place: it is passed over, or it is open and takes all.
-abbrev pub comment_cut : List ℕ → Option ℕ → Cut
+abbrev pub comment_cut : List ℕ → Option ℕ → Cut Kind
 comment_cut inner None = Take (length inner + 2) OpenNote
-comment_cut inner (Some place) = Skip (place + 4) (list_any is_line_end (take place inner))
+comment_cut inner (Some place) = Skip (place + 4)
 
 -- A backslash with `rest` behind it, of which so many bytes belong to a continuation.
-abbrev pub backslash_cut : List ℕ → ℕ → Cut
-backslash_cut rest length_of = if nat_lt 0 length_of then Skip (length_of + 1) false else Take (length rest + 1) Bad
+abbrev pub backslash_cut : List ℕ → ℕ → Cut Kind
+backslash_cut rest length_of = if nat_lt 0 length_of then Skip (length_of + 1) else Take (length rest + 1) Bad
 
 -- A quote with `rest` behind it, in which the text ends at this place: a text, or an open one, which takes all.
-abbrev pub text_cut : List ℕ → Option ℕ → Cut
+abbrev pub text_cut : List ℕ → Option ℕ → Cut Kind
 text_cut rest None = Take (length rest + 1) OpenQuoted
 text_cut rest (Some place) = Take (place + 2) Quoted
 
-abbrev pub mark_or_word : ℕ → List ℕ → Option Kind → Cut
+abbrev pub mark_or_word : ℕ → List ℕ → Option Kind → Cut Kind
 mark_or_word first rest (Some kind) = Take 1 kind
 mark_or_word first rest None = if is_plain first then Take (word_length 0 (first ∷ rest)) Word else Take (length rest + 1) Bad
 
 -- What stands at the front of `first ∷ rest`: bytes that are passed over, or a token. What no text of the grammar has is a token that takes all.
-unfoldable pub cut_at : ℕ → List ℕ → Cut
+unfoldable pub cut_at : ℕ → List ℕ → Cut Kind
 cut_at first rest =
-    if is_blank first then Skip 1 (is_line_end first)
+    if is_blank first then Skip 1
     else (if first == quote then text_cut rest (text_end false rest)
     else (if first == backslash then backslash_cut rest (continuation rest)
-    else (if first == slash && begins_with slash rest then Skip (line_length rest) false
+    else (if first == slash && begins_with slash rest then Skip (line_length rest)
     else (if first == slash && begins_with star rest then comment_cut (drop 1 rest) (comment_end (drop 1 rest))
     else mark_or_word first rest (mark_of first)))))
 
@@ -124,21 +125,23 @@ pub record Lexeme : Type 0 where
   pub fresh : Bool
   pub start : ℕ
 
--- The tokens of the bytes from this place of the file on, in order, where a line end has been passed since the last token, or not.
-pub data AreTokensFrom : ℕ → Bool → List ℕ → List Lexeme → Type 0 where
-  end : {start : ℕ} {fresh : Bool} → AreTokensFrom start fresh [] []
-  skip : {start : ℕ} {fresh : Bool} {first : ℕ} {rest : List ℕ} {tokens : List Lexeme} (n : ℕ) (breaks : Bool)
-      → cut_at first rest ≡ Skip n breaks
-      → AreTokensFrom (start + n) (fresh || breaks) (drop n (first ∷ rest)) tokens
-      → AreTokensFrom start fresh (first ∷ rest) tokens
-  take_one : {start : ℕ} {fresh : Bool} {first : ℕ} {rest : List ℕ} {tokens : List Lexeme} (n : ℕ) (kind : Kind)
-      → cut_at first rest ≡ Take n kind
-      → AreTokensFrom (start + n) false (drop n (first ∷ rest)) tokens
-      → AreTokensFrom start fresh (first ∷ rest) (record { kind = kind; bytes = said_by kind (take n (first ∷ rest)); fresh = fresh; start = start } ∷ tokens)
+-- a line end that is no continuation's stands in bytes that are passed over
+abbrev pub breaks : List ℕ → Bool
+breaks passed = not (begins_with backslash passed) && list_any is_line_end passed
+
+-- the tokens among parts that begin at this place of the file, where a line end has been passed since the last token, or not
+abbrev pub tokens_from : ℕ → Bool → List (Part Kind) → List Lexeme
+tokens_from start fresh [] = []
+tokens_from start fresh (gap bytes ∷ parts) = tokens_from (start + length bytes) (fresh || breaks bytes) parts
+tokens_from start fresh (token t ∷ parts) =
+    record { kind = t.kind; bytes = said_by t.kind t.bytes; fresh = fresh; start = start } ∷ tokens_from (start + length t.bytes) false parts
+
+abbrev pub tokens_of : List (Part Kind) → List Lexeme
+tokens_of parts = tokens_from 0 false parts
 
 -- the tokens of a file
 abbrev pub AreTokens : List ℕ → List Lexeme → Type 0
-AreTokens bytes tokens = AreTokensFrom 0 false bytes tokens
+AreTokens bytes tokens = AreTokensOf cut_at tokens_of bytes tokens
 
 -- What can stand as a token, those that are broken aside: some bytes are this one token, and all of it.
 pub data IsToken : Lexeme → Type 0 where

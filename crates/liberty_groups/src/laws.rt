@@ -10,7 +10,6 @@ pub fn one_tree()
 {}
 
 /// The law of tokens: given bytes have only one list of them. It does nothing when it is called.
-#[tactic(auto, using(crate::proofs::Parting::one_parting))]
 pub fn one_parting()
     ensures law { (bytes : List ℕ) (some other : List Lexeme) → AreTokens bytes some → AreTokens bytes other → some ≡ other }
 {}

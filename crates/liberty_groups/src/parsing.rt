@@ -1,5 +1,5 @@
 //! Reads a Liberty file.
-ghost use Rattle.std.specs.Prelude.{◌||◌, ◌≡◌, ◌<◌, ◌≤◌, ◌^◌, length, IfOk};
+ghost use Rattle.std.specs.Prelude.{◌≡◌, ◌<◌, ◌≤◌, ◌^◌, length, IfOk};
 ghost use Rattle.liberty_groups.specs.Tokens.{line_at};
 ghost use Rattle.liberty_groups.specs.Groups.{Group};
 ghost use Rattle.liberty_groups.specs.Tables.{tree_of};
@@ -8,9 +8,9 @@ ghost use Rattle.liberty_groups.specs.Answers.{SaysTree, IfSyntax, Gives};
 
 use crate::faults::{Cause, ParseEnd, SyntaxFault};
 use crate::reader::Reader;
-use crate::scan::{Cut, cut_at};
 use crate::tree::GroupTree;
 use std::alloc::Global;
+use token_texts::{ReadEnd, read_tokens};
 
 /// The line of a place: the count of line ends before it, and one.
 fn line_at(bytes: &[u8], place: usize) -> u64
@@ -25,13 +25,6 @@ fn line_at(bytes: &[u8], place: usize) -> u64
         }
     }
     line
-}
-
-/// Whether a line end stands between two tokens, which blanks and comments part.
-fn either(fresh: bool, breaks: bool) -> bool
-    ensures { result ≡ (fresh || breaks) }
-{
-    fresh || breaks
 }
 
 /// The fault of the token of this number that begins at a place, or at the end of the file.
@@ -55,32 +48,9 @@ pub fn parse(alloc: Global, bytes: &[u8]) -> Result<GroupTree, ParseEnd>
     ensures fault { IfSyntax result (IsFault bytes.now) }
     ensures only { (tree : Group) → SaysTree bytes.now tree → Gives tree_of tree result }
 {
-    let mut reader = Reader::new(alloc);
-    let mut number = 1;
-    let mut fresh = false;
-    let mut start = 0;
-    while let [first, rest @ ..] = bytes.split_at(start).1 {
-        match cut_at(*first, rest) {
-            Cut::Skip(count, breaks) => {
-                fresh = either(fresh, breaks);
-                start += count;
-            }
-            Cut::Take(count, kind) => {
-                let token = bytes.split_at(start).1.split_at(count).0;
-                match reader.take(alloc, kind, token, fresh) {
-                    Ok(None) => {}
-                    Ok(Some(cause)) => return Err(fault_at(bytes, start, number, cause)),
-                    Err(_) => return Err(ParseEnd::OutOfMemory),
-                }
-                number += 1;
-                fresh = false;
-                start += count;
-            }
-        }
-    }
-    match reader.finish() {
-        Ok(Some(tree)) => Ok(tree),
-        Err(_) => Err(ParseEnd::OutOfMemory),
-        Ok(None) => Err(fault_at(bytes, bytes.len(), number, Cause::EndInside)),
+    match read_tokens(Reader::new(alloc), bytes) {
+        Ok(tree) => Ok(tree),
+        Err(ReadEnd::Refused(token, start, cause)) => Err(fault_at(bytes, start, token, cause)),
+        Err(ReadEnd::OutOfMemory) => Err(ParseEnd::OutOfMemory),
     }
 }

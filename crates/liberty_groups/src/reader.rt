@@ -1,23 +1,25 @@
 //! The reader: takes one token after another, whole or not at all.
-ghost use Rattle.std.specs.Prelude.{◌≡◌, ◌<◌, ◌^◌, ℕ, length, IfOk, IfSome, OnOk};
-ghost use Rattle.std.specs.Option.{option_map};
-ghost use Rattle.liberty_groups.specs.Modes.{first_state, closed, step_in, finish};
+ghost use Rattle.std.specs.Prelude.{◌≡◌, ◌<◌, ◌^◌, ℕ, false, length, IfOk, OnOk};
+ghost use Rattle.liberty_groups.specs.Modes.{first_state, closed, step_in};
 ghost use Rattle.liberty_groups.specs.Steps.{settles, applied};
-ghost use Rattle.liberty_groups.specs.Tokens.{said_by};
+ghost use Rattle.liberty_groups.specs.Tokens.{cut_at, said_by};
 ghost use Rattle.liberty_groups.specs.Building.{begun_as, behind, lexeme};
 ghost use Rattle.liberty_groups.specs.Built.{built_of, IsBuilt};
-ghost use Rattle.liberty_groups.specs.Tables.{tree_of};
-ghost use Rattle.liberty_groups.specs.ReaderStates.{state_of, at_mode, settled_if, IsSound, Steps, Finishes};
+ghost use Rattle.liberty_groups.specs.ReaderStates.{state_of, at_mode, settled_if, IsSound, Steps};
+ghost use Rattle.liberty_groups.specs.Leading as leading;
+ghost use Rattle.liberty_groups.specs.Leading.{Leads, Stops, Makes};
+ghost use Rattle.liberty_groups.specs.Within.{cut_within};
 
 use crate::builder::Builder;
 use crate::events::Event;
 use crate::faults::Cause;
 use crate::modes::{Mode, Step};
-use crate::scan::Kind;
+use crate::scan::{Kind, breaks, cut_at};
 use crate::texts::said;
 use crate::tree::GroupTree;
 use edge_io::OutOfMemory;
 use std::alloc::Global;
+use token_texts::{Cut, TokenReader};
 
 /// How many groups may stand in one another, the library being the first.
 const DEPTH_LIMIT: usize = 16;
@@ -30,6 +32,10 @@ pub struct Reader {
     /// How many groups have not ended.
     pub depth: usize,
     pub builder: Builder,
+
+    /// Whether a line end that is no continuation's stands behind the last token.
+    pub fresh: bool,
+    pub alloc: Global,
 }
 
 impl Reader {
@@ -37,12 +43,15 @@ impl Reader {
     pub(crate) fn new(alloc: Global) -> Reader
         ensures state { state_of result ≡ first_state }
         ensures sound { IsSound result }
+        ensures fresh { result.fresh ≡ false }
         ensures built { IsBuilt result.builder }
     {
         Reader {
             mode: Mode::Start,
             depth: 0,
             builder: Builder::new(alloc),
+            fresh: false,
+            alloc,
         }
     }
 
@@ -60,7 +69,7 @@ impl Reader {
     }
 
     /// Begins a statement of the name that a token says. Names are words, which say themselves.
-    fn begin(&mut self, alloc: Global, kind: Kind, bytes: &[u8]) -> Result<(), OutOfMemory>
+    fn begin(&mut self, kind: Kind, bytes: &[u8]) -> Result<(), OutOfMemory>
         requires bytes { length bytes.now < 2 ^ 32 }
         requires built { IsBuilt self.old.builder }
         ensures built { OnOk result (built_of self.new.builder ≡ begun_as (said_by kind bytes.now) (built_of self.old.builder)) }
@@ -70,7 +79,7 @@ impl Reader {
         if matches!(kind, Kind::Word) {
             return self.builder.begin(bytes);
         }
-        let text = said(alloc, kind, bytes)?;
+        let text = said(self.alloc, kind, bytes)?;
         self.builder.begin(text.bytes())
     }
 
@@ -90,13 +99,7 @@ impl Reader {
     }
 
     /// Does what a step says that a token of this kind and of these bytes makes, or says why the token is refused.
-    fn step(
-        &mut self,
-        alloc: Global,
-        step: Step,
-        kind: Kind,
-        bytes: &[u8],
-    ) -> Result<Option<Cause>, OutOfMemory>
+    fn step(&mut self, step: Step, kind: Kind, bytes: &[u8]) -> Result<Option<Cause>, OutOfMemory>
         requires bytes { length bytes.now < 2 ^ 32 }
         requires sound { IsSound self.old }
         requires built { IsBuilt self.old.builder }
@@ -109,15 +112,15 @@ impl Reader {
             Step::Refuse(cause) => return Ok(Some(cause)),
             Step::Go(mode) => self.mode = mode,
             Step::Begin(mode) => {
-                self.begin(alloc, kind, bytes)?;
+                self.begin(kind, bytes)?;
                 self.mode = mode;
             }
             Step::Part(mode) => {
-                let text = said(alloc, kind, bytes)?;
+                let text = said(self.alloc, kind, bytes)?;
                 self.add(Event::Part(text), mode, self.depth)?;
             }
             Step::Piece => {
-                let text = said(alloc, kind, bytes)?;
+                let text = said(self.alloc, kind, bytes)?;
                 self.add(Event::Piece(text), Mode::Value, self.depth)?;
             }
             Step::OpenLibrary => self.add(Event::OpenLibrary, Mode::Body, 1)?,
@@ -145,9 +148,8 @@ impl Reader {
 
     /// Takes the token of this kind and of these bytes, or says why it cannot stand here; `fresh` tells of a line end
     /// before it.
-    pub(crate) fn take(
+    fn take_token(
         &mut self,
-        alloc: Global,
         kind: Kind,
         bytes: &[u8],
         fresh: bool,
@@ -162,21 +164,58 @@ impl Reader {
     {
         self.settle(kind, fresh)?;
         let step = self.mode.next(self.depth >= DEPTH_LIMIT, kind, bytes);
-        self.step(alloc, step, kind, bytes)
+        self.step(step, kind, bytes)
+    }
+}
+
+impl TokenReader for Reader {
+    type Kind = Kind;
+
+    type Value = GroupTree;
+
+    type Cause = Cause;
+
+    ghost cut_at = { cut_at };
+
+    ghost IsSound = { leading.IsSound };
+
+    ghost Leads = { Leads };
+
+    ghost Stops = { Stops };
+
+    ghost Makes = { Makes };
+
+    #[inline]
+    fn cut(_bytes: &[u8], first: u8, rest: &[u8]) -> Cut<Kind> {
+        cut_at(first, rest)
     }
 
-    /// What has been read, where the file may end.
-    pub(crate) fn finish(self) -> Result<Option<GroupTree>, OutOfMemory>
-        requires built { IsBuilt self.builder }
-        ensures tree { IfOk result (λ tree. Finishes (finish (state_of self)) (option_map tree_of tree)) }
-        ensures root { IfOk result (λ tree. IfSome tree (λ some. 0 < length some.rows)) }
-    {
+    #[inline]
+    fn pass(&mut self, bytes: &[u8]) {
+        self.fresh = self.fresh | breaks(bytes);
+    }
+
+    fn take(
+        &mut self,
+        _number: u64,
+        _start: usize,
+        kind: Kind,
+        bytes: &[u8],
+    ) -> Result<Option<Cause>, OutOfMemory> {
+        let refusal = self.take_token(kind, bytes, self.fresh)?;
+        self.fresh = false;
+        Ok(refusal)
+    }
+
+    fn finish(self) -> Result<Result<GroupTree, Cause>, OutOfMemory> {
         match self.mode {
             Mode::End => {
                 let tree = self.builder.finish()?;
-                Ok(Some(tree))
+                Ok(Ok(tree))
             }
-            _ => Ok(None),
+            _ => Ok(Err(Cause::EndInside)),
         }
     }
+
+    ghost within = { cut_within };
 }

@@ -3,10 +3,11 @@ ghost use Rattle.std.specs.Prelude.{◌≡◌, ◌+◌, ◌^◌, ◌<◌, ◌≤
 ghost use Rattle.std.specs.List.{list_any};
 ghost use Rattle.token_texts.specs.Blanks.{is_line_end};
 ghost use Rattle.token_texts.specs.Comments.{comment_end};
-ghost use Rattle.liberty_groups.specs.Tokens.{ends_gap, continuation, text_end, mark_of, is_mark, is_plain, begins_comment, goes_on, opened_behind, word_length, comment_cut, backslash_cut, text_cut, cut_at};
-ghost use Rattle.liberty_groups.specs.Cuts.{IsWithin, word_cut, is_simple};
+ghost use Rattle.liberty_groups.specs.Tokens.{ends_gap, continuation, text_end, mark_of, is_mark, is_plain, begins_comment, goes_on, opened_behind, word_length, comment_cut, backslash_cut, text_cut, cut_at, breaks};
+ghost use Rattle.liberty_groups.specs.Cuts.{word_cut, is_simple};
+ghost use Rattle.token_texts.specs.Cuts.{IsWithin};
 
-use token_texts::{Escape, begins_with, comment_end, is_blank, line_length, quote_end};
+use token_texts::{Cut, Escape, begins_with, comment_end, is_blank, line_length, quote_end};
 
 /// What a token is.
 #[derive(Clone, Copy, PartialEq, Eq, Debug)]
@@ -27,16 +28,6 @@ pub enum Kind {
     Bad,
     OpenQuoted,
     OpenNote,
-}
-
-/// What stands at the front of some bytes.
-#[derive(Clone, Copy, PartialEq, Eq, Debug)]
-pub enum Cut {
-    /// So many bytes that are passed over, and whether a line end stands there that is no continuation's.
-    Skip(usize, bool),
-
-    /// A token of so many bytes. What no text of the grammar has takes them all.
-    Take(usize, Kind),
 }
 
 /// The place of the first byte that may not stand in a continuation before its line end.
@@ -164,16 +155,9 @@ fn word_length(opened: usize, bytes: &[u8]) -> usize
     place
 }
 
-/// Whether a line end stands among the bytes.
-fn has_line_end(bytes: &[u8]) -> bool
-    ensures { result ≡ list_any is_line_end bytes.now }
-{
-    bytes.contains(&b'\n')
-}
-
 /// Behind a quote: a text, or an open one.
 #[inline]
-fn text_cut(rest: &[u8]) -> Cut
+fn text_cut(rest: &[u8]) -> Cut<Kind>
     requires { length rest.now < 2 ^ 32 }
     ensures value { result ≡ text_cut rest.now (text_end false rest.now) }
     ensures within { IsWithin (length rest.now + 1) result }
@@ -185,26 +169,26 @@ fn text_cut(rest: &[u8]) -> Cut
 }
 
 /// Behind the `/*` of a comment.
-fn comment_cut(inner: &[u8]) -> Cut
+fn comment_cut(inner: &[u8]) -> Cut<Kind>
     requires { length inner.now < 2 ^ 32 }
     ensures value { result ≡ comment_cut inner.now (comment_end inner.now) }
     ensures within { IsWithin (length inner.now + 2) result }
 {
     match comment_end(inner) {
-        Some(place) => Cut::Skip(place + 4, has_line_end(inner.split_at(place).0)),
+        Some(place) => Cut::Skip(place + 4),
         None => Cut::Take(inner.len() + 2, Kind::OpenNote),
     }
 }
 
 /// Behind a backslash outside texts: a continuation, or a byte that begins no token.
-fn backslash_cut(rest: &[u8]) -> Cut
+fn backslash_cut(rest: &[u8]) -> Cut<Kind>
     requires { length rest.now < 2 ^ 32 }
     ensures value { result ≡ backslash_cut rest.now (continuation rest.now) }
     ensures within { IsWithin (length rest.now + 1) result }
 {
     let length = continuation(rest);
     if length > 0 {
-        Cut::Skip(length + 1, false)
+        Cut::Skip(length + 1)
     } else {
         Cut::Take(rest.len() + 1, Kind::Bad)
     }
@@ -212,7 +196,7 @@ fn backslash_cut(rest: &[u8]) -> Cut
 
 /// A word, or a byte that begins no token.
 #[inline]
-fn word_cut(first: u8, rest: &[u8]) -> Cut
+fn word_cut(first: u8, rest: &[u8]) -> Cut<Kind>
     requires { length rest.now < 2 ^ 32 }
     ensures value { result ≡ word_cut first rest.now }
     ensures within { IsWithin (length rest.now + 1) result }
@@ -226,13 +210,13 @@ fn word_cut(first: u8, rest: &[u8]) -> Cut
 }
 
 /// Behind a slash: a comment, or a word.
-fn slash_cut(rest: &[u8]) -> Cut
+fn slash_cut(rest: &[u8]) -> Cut<Kind>
     requires { length rest.now < 2 ^ 32 }
     ensures value { result ≡ cut_at 47 rest.now }
     ensures within { IsWithin (length rest.now + 1) result }
 {
     if begins_with(b'/', rest) {
-        Cut::Skip(line_length(rest), false)
+        Cut::Skip(line_length(rest))
     } else if begins_with(b'*', rest) {
         comment_cut(rest.split_at(1).1)
     } else {
@@ -242,13 +226,13 @@ fn slash_cut(rest: &[u8]) -> Cut
 
 /// What stands at the front of `first` and `rest`.
 #[inline]
-pub(crate) fn cut_at(first: u8, rest: &[u8]) -> Cut
+pub(crate) fn cut_at(first: u8, rest: &[u8]) -> Cut<Kind>
     requires { length rest.now < 2 ^ 32 }
     ensures value { result ≡ cut_at first rest.now }
     ensures within { IsWithin (length rest.now + 1) result }
 {
     if is_blank(first) {
-        Cut::Skip(1, first == b'\n')
+        Cut::Skip(1)
     } else if first == b'"' {
         text_cut(rest)
     } else if first == b'\\' {
@@ -259,5 +243,24 @@ pub(crate) fn cut_at(first: u8, rest: &[u8]) -> Cut
         Cut::Take(1, kind)
     } else {
         word_cut(first, rest)
+    }
+}
+
+/// Whether a line end stands among the bytes.
+fn has_line_end(bytes: &[u8]) -> bool
+    ensures { result ≡ list_any is_line_end bytes.now }
+{
+    bytes.contains(&b'\n')
+}
+
+/// Whether a line end that is no continuation's stands in bytes that are passed over.
+#[inline]
+pub(crate) fn breaks(passed: &[u8]) -> bool
+    ensures { result ≡ breaks passed.now }
+{
+    match passed {
+        // Blanks are passed over one by one.
+        [byte] => *byte == b'\n',
+        _ => !begins_with(b'\\', passed) && has_line_end(passed),
     }
 }

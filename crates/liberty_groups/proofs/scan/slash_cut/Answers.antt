@@ -1,14 +1,14 @@
 -- A slash begins a comment, or a word.
-use Rattle.std.proofs.Common.{ℕ, List, false, sym, ap, ◌∙◌}
+use Rattle.std.proofs.Common.{ℕ, List, sym, ap, ◌∙◌}
 use Rattle.token_texts.specs.Comments.{comment_end}
 use Rattle.liberty_groups.specs.Tokens.{comment_cut}
-use Rattle.liberty_groups.specs.declared.scan.Cut.TheVariants.{Skip}
+use Rattle.token_texts.specs.declared.cuts.Cut.TheVariants.{Skip}
 use Rattle.liberty_groups.proofs.Cutting.{cut_line, cut_comment, cut_slash}
 use Rattle.liberty_groups.proofs.scan.slash_cut.Goals as goal
 
 pub returns-then-begins_with-clause-value : goal.returns-then-begins_with-clause-value
 returns-then-begins_with-clause-value c =
-    ap (λ (n : ℕ). Skip n false) c.line_length.ensures.value ∙ sym (cut_line c.args.rest.now (sym c.begins_with.ensures ∙ c.if-begins_with.true))
+    ap (λ (n : ℕ). Skip n) c.line_length.ensures.value ∙ sym (cut_line c.args.rest.now (sym c.begins_with.ensures ∙ c.if-begins_with.true))
 
 pub returns-then-begins_with-2-clause-value : goal.returns-then-begins_with-2-clause-value
 returns-then-begins_with-2-clause-value c =

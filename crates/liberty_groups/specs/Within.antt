@@ -1,19 +1,42 @@
 -- What stands at the front of some bytes has a byte, and none past the end.
-use Rattle.std.proofs.Common.{◌≡◌, ℕ, suc, ◌+◌, ◌<◌, ◌≤◌, Bool, true, false, cond, ◌&&◌, ◌||◌, ◌==◌, List, [], ◌∷◌, length, drop, Option, Some, None, position, refl, sym, subst, arith, nat_lt}
+use Rattle.std.proofs.Common.{◌≡◌, ℕ, suc, ◌+◌, ◌<◌, ◌≤◌, Bool, true, false, cond, ◌&&◌, ◌||◌, ◌==◌, List, [], ◌∷◌, length, drop, Option, Some, None, position, refl, sym, ap, subst, arith, nat_lt}
 use Rattle.std.specs.Prelude.{slice_index}
 use Rattle.std.proofs.lemmas.List.Quantifiers.{position-Some}
-use Rattle.token_texts.specs.Bytes.{quote, star, slash, backslash, begins_with}
+use Rattle.token_texts.specs.Bytes.{quote, left_paren, right_paren, star, comma, slash, colon, semicolon, backslash, left_brace, right_brace, begins_with}
 use Rattle.token_texts.specs.Blanks.{is_blank, is_line_end}
 use Rattle.token_texts.specs.Comments.{line_length, comment_end}
 use Rattle.token_texts.specs.CommentLemmas.{line_within, pair_within}
 use Rattle.token_texts.specs.QuotedLemmas.{quote_within}
 use Rattle.token_texts.specs.declared.quoted.Escape.TheVariants.{NextQuote}
-use Rattle.liberty_groups.specs.Cuts.{IsWithin, word_cut}
-use Rattle.liberty_groups.specs.Tokens.{is_plain, mark_of, begins_comment, goes_on, opened_behind, continuation, continued_to, ends_gap, text_end, text_cut, backslash_cut, comment_cut, mark_or_word, word_length, cut_at}
+use Rattle.token_texts.specs.Cuts.{IsWithin}
+use Rattle.liberty_groups.specs.Cuts.{word_cut}
+use Rattle.liberty_groups.specs.Tokens.{is_plain, is_mark, mark_of, begins_comment, goes_on, opened_behind, continuation, continued_to, ends_gap, text_end, text_cut, backslash_cut, comment_cut, mark_or_word, word_length, cut_at}
 use Rattle.liberty_groups.specs.declared.scan.Kind.{Kind}
-use Rattle.liberty_groups.specs.declared.scan.Kind.TheVariants.{Word, Bad}
-use Rattle.liberty_groups.specs.declared.scan.Cut.TheVariants.{Skip, Take}
-use Rattle.liberty_groups.proofs.Cutting.{word_or_bad, no_mark}
+use Rattle.liberty_groups.specs.declared.scan.Kind.TheVariants.{Word, Bad, LeftParen, RightParen, LeftBrace, RightBrace, Colon, Semicolon, Comma}
+use Rattle.token_texts.specs.declared.cuts.Cut.TheVariants.{Skip, Take}
+
+-- a word's first byte goes on with it
+word_from : (first : ℕ) (rest : List ℕ) → is_plain first ≡ true → begins_comment first rest ≡ false → is_mark first ≡ false → word_length 0 (first ∷ rest) ≡ word_length (opened_behind 0 first) rest + 1
+unfolding word_length
+word_from first rest p q r = simp (p, q, r)
+
+pub word_or_bad : (plain : Bool) (first : ℕ) (rest : List ℕ) → is_plain first ≡ plain → begins_comment first rest ≡ false → is_mark first ≡ false
+    → cond plain (Take (word_length 0 (first ∷ rest)) Word) (Take (length rest + 1) Bad) ≡ cond plain (Take (word_length (opened_behind 0 first) rest + 1) Word) (Take (length rest + 1) Bad)
+word_or_bad true first rest p q r = ap (λ n. Take n Word) (word_from first rest p q r)
+word_or_bad false first rest p q r = refl
+
+none_of : (a b c d e f g : Bool) → cond a (Some LeftParen) (cond b (Some RightParen) (cond c (Some LeftBrace) (cond d (Some RightBrace) (cond e (Some Colon) (cond f (Some Semicolon) (cond g (Some Comma) None)))))) ≡ None → (a || b || c || d || e || f || g) ≡ false
+none_of true b c d e f g h = absurd (cc)
+none_of false true c d e f g h = absurd (cc)
+none_of false false true d e f g h = absurd (cc)
+none_of false false false true e f g h = absurd (cc)
+none_of false false false false true f g h = absurd (cc)
+none_of false false false false false true g h = absurd (cc)
+none_of false false false false false false true h = absurd (cc)
+none_of false false false false false false false h = refl
+
+pub no_mark : (first : ℕ) → mark_of first ≡ None → is_mark first ≡ false
+no_mark first e = none_of (first == left_paren) (first == right_paren) (first == left_brace) (first == right_brace) (first == colon) (first == semicolon) (first == comma) e
 
 text_within : (rest : List ℕ) (end : Option ℕ) → ((i : ℕ) → end ≡ Some i → i < length rest) → IsWithin (length rest + 1) (text_cut rest end)
 text_within rest None below = (omega arith, omega arith)
@@ -26,7 +49,7 @@ continued_within rest (Some place) below =
     elim (is_line_end (slice_index rest place)) as (λ t. cond t (place + 1) 0 ≤ length rest) [ true ↦ omega arith | false ↦ omega arith ]
 
 backslash_within : (rest : List ℕ) (n : ℕ) → n ≤ length rest → IsWithin (length rest + 1) (backslash_cut rest n)
-backslash_within rest n le = elim (nat_lt 0 n) as (λ t. IsWithin (length rest + 1) (cond t (Skip (n + 1) false) (Take (length rest + 1) Bad))) [ true ↦ (omega arith, omega arith) | false ↦ (omega arith, omega arith) ]
+backslash_within rest n le = elim (nat_lt 0 n) as (λ t. IsWithin (length rest + 1) (cond t (Skip (n + 1)) (Take (length rest + 1) Bad))) [ true ↦ (omega arith, omega arith) | false ↦ (omega arith, omega arith) ]
 
 comment_cut_within : (inner : List ℕ) (end : Option ℕ) → ((i : ℕ) → end ≡ Some i → i + 2 ≤ length inner) → IsWithin (length inner + 2) (comment_cut inner end)
 comment_cut_within inner None below = (omega arith, omega arith)
@@ -80,11 +103,11 @@ cut_within first rest =
     by : (blank text gap line comment : Bool)
         → IsWithin (length rest + 1) (text_cut rest (text_end false rest))
         → IsWithin (length rest + 1) (backslash_cut rest (continuation rest))
-        → IsWithin (length rest + 1) (Skip (line_length rest) false)
+        → IsWithin {K = Kind} (length rest + 1) (Skip (line_length rest))
         → (comment ≡ true → IsWithin (length rest + 1) (comment_cut (drop 1 rest) (comment_end (drop 1 rest))))
         → ((first == slash && begins_with slash rest) ≡ false → (first == slash && begins_with star rest) ≡ false → IsWithin (length rest + 1) (mark_or_word first rest (mark_of first)))
         → (first == slash && begins_with slash rest) ≡ line → (first == slash && begins_with star rest) ≡ comment
-        → IsWithin (length rest + 1) (cond blank (Skip 1 (is_line_end first)) (cond text (text_cut rest (text_end false rest)) (cond gap (backslash_cut rest (continuation rest)) (cond line (Skip (line_length rest) false) (cond comment (comment_cut (drop 1 rest) (comment_end (drop 1 rest))) (mark_or_word first rest (mark_of first)))))))
+        → IsWithin {K = Kind} (length rest + 1) (cond blank (Skip 1) (cond text (text_cut rest (text_end false rest)) (cond gap (backslash_cut rest (continuation rest)) (cond line (Skip (line_length rest)) (cond comment (comment_cut (drop 1 rest) (comment_end (drop 1 rest))) (mark_or_word first rest (mark_of first)))))))
     by true text gap line comment quoted goes whole inside other p q = (omega arith, omega arith)
     by false true gap line comment quoted goes whole inside other p q = quoted
     by false false true line comment quoted goes whole inside other p q = goes

@@ -7,7 +7,7 @@ use Rattle.liberty_groups.specs.ReaderStates.{state_of, Steps}
 use Rattle.liberty_groups.specs.declared.faults.Cause.{Cause}
 use Rattle.liberty_groups.specs.declared.modes.Step.{Step}
 use Rattle.liberty_groups.proofs.Stepping.{deep_is, taken_is}
-use Rattle.liberty_groups.proofs.reader.Reader.take.Goals as goal
+use Rattle.liberty_groups.proofs.reader.Reader.take_token.Goals as goal
 
 pub returns-clause-state : goal.returns-clause-state
 returns-clause-state c = λ start.
