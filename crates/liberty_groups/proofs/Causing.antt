@@ -27,15 +27,15 @@ some_taken zero texts some le = absurd (omega arith)
 some_taken (suc n) [] some le = absurd (omega arith)
 some_taken (suc n) (t ∷ texts) some le = omega arith
 
-still_first : (front : List Lexeme) (last : State) → front ≡ [] → Reaches (next 16) first_state 1 front last → is_start last.mode ≡ true
+pub still_first : (front : List Lexeme) (last : State) → front ≡ [] → Reaches (next 16) first_state 1 front last → is_start last.mode ≡ true
 still_first front last e there = refl
 still_first front last e (step s rest) = absurd (cc)
 
 module _ (texts : List Lexeme) (stop : Stop State Cause) (at : Stopped IsToken (next 16) finish first_state 1 texts stop) where
-  number_is : stop.number ≡ suc at.taken
+  pub number_is : stop.number ≡ suc at.taken
   number_is = at.is ∙ omega arith
 
-  here : (o : Option Lexeme) → slice_get texts at.taken ≡ o → token_at texts stop.number ≡ o
+  pub here : (o : Option Lexeme) → slice_get texts at.taken ≡ o → token_at texts stop.number ≡ o
   here o e =
       let minus : suc at.taken - 1 ≡ at.taken = omega arith in
       ap (λ n. slice_get texts (n - 1)) number_is ∙ ap (slice_get texts) minus ∙ e
@@ -44,7 +44,7 @@ module _ (texts : List Lexeme) (stop : Stop State Cause) (at : Stopped IsToken (
   front_is : (token : Lexeme) → slice_get texts at.taken ≡ Some token → take stop.number texts ≡ take at.taken texts ++ token ∷ []
   front_is token e = ap (λ n. take n texts) number_is ∙ take_one_more texts at.taken token e
 
-  one_deeper : (token : Lexeme) → slice_get texts at.taken ≡ Some token → stop.state.mode ≡ ArgsEnd → token.kind ≡ kind.LeftBrace → IsOneDeeper texts stop.number
+  pub one_deeper : (token : Lexeme) → slice_get texts at.taken ≡ Some token → stop.state.mode ≡ ArgsEnd → token.kind ≡ kind.LeftBrace → IsOneDeeper texts stop.number
   one_deeper token e mode is =
       let bound : length stop.state.frames ≤ 16 = reaches_bound at.reached (omega arith) in
       let fits_now : nat_lt (length stop.state.frames) 17 ≡ true = lt-ltb (length stop.state.frames) 17 (omega arith) in
@@ -60,14 +60,14 @@ module _ (texts : List Lexeme) (stop : Stop State Cause) (at : Stopped IsToken (
           let now = lives 17 after (n + 1) in
           record { more = now.more; tokens = now.tokens; value = now.value; made = ap (go_on n stop.state (λ (x : State). outcome (next 17) finish x (n + 1) now.more)) moves ∙ now.made }
 
-  not_deeper : (token : Lexeme) (cause : Cause) → slice_get texts at.taken ≡ Some token → step_in 17 stop.state.mode stop.state token ≡ Err cause → IsOneDeeper texts stop.number → ⊥
+  pub not_deeper : (token : Lexeme) (cause : Cause) → slice_get texts at.taken ≡ Some token → step_in 17 stop.state.mode stop.state token ≡ Err cause → IsOneDeeper texts stop.number → ⊥
   not_deeper token cause e refusal begins =
       let begins' : Begins IsToken (IsLibertyTo 17) (take at.taken texts ++ token ∷ []) = subst (λ (front : List Lexeme). Begins IsToken (IsLibertyTo 17) front) (front_is token e) begins in
       refused_there 17 token cause begins'.more begins'.text.0 (reaches_too at.reached) refusal
       ((fits 17).takes ((take at.taken texts ++ token ∷ []) ++ begins'.more) begins'.text.0 begins'.text.1)
 
   -- the first token alone is waited for at the start
-  at_first : (taken : ℕ) → at.taken ≡ taken → stop.state.mode ≡ Start → stop.number ≡ 1
+  pub at_first : (taken : ℕ) → at.taken ≡ taken → stop.state.mode ≡ Start → stop.number ≡ 1
   at_first zero e mode = number_is ∙ ap suc e
   at_first (suc n) e mode =
       let le = at.within in

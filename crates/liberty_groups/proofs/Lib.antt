@@ -14,6 +14,7 @@ pub mod Building
 pub mod Lines
 pub mod Parts
 pub mod SoFar
+pub mod OneFault
 pub mod Trees
 pub mod Spans
 pub mod Lasting
