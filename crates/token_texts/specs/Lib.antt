@@ -3,6 +3,7 @@ pub mod Blanks
 pub mod Comments
 pub mod Quoted
 pub mod Runs
+pub mod Pieces
 pub mod Cuts
 pub mod Readings
 pub mod ByteLemmas
@@ -10,5 +11,6 @@ pub mod Searching
 pub mod CommentLemmas
 pub mod QuotedLemmas
 pub mod RunLemmas
+pub mod PieceLemmas
 pub mod CutLemmas
 pub mod Leading

@@ -1,5 +1,5 @@
-//! What texts in tokens are made of: bytes by name, blanks, comments, texts in quotes, and runs of bytes of one class, with the
-//! lemmas that a reader of such texts is proved by.
+//! What texts in tokens are made of: bytes by name, blanks, comments, texts in quotes, runs of bytes of one class, and the pieces
+//! between such bytes, with the lemmas that a reader of such texts is proved by.
 //!
 //! What a new grammar writes: what stands at the front of some bytes, with the kinds of its tokens; its modes, and what each token
 //! does in them, as a `TokenReader`, which `read_tokens` runs over the bytes; and its rules, as a relation over numbered tokens.
@@ -10,13 +10,15 @@
 mod blanks;
 mod comments;
 mod cuts;
+mod pieces;
 mod quoted;
 mod reading;
 mod runs;
 
-pub use blanks::{begins_with, is_blank};
+pub use blanks::{Blank, begins_with, is_blank};
 pub use comments::{comment_end, line_length, pair_place};
 pub use cuts::Cut;
+pub use pieces::first_piece;
 pub use quoted::{Escape, quote_end, takes};
 pub use reading::{ReadEnd, TokenReader, read_tokens};
 pub use runs::{ByteClass, escaped_run_length, run_length};
