@@ -13,5 +13,7 @@ pub mod ReadingLemmas
 pub mod RoundingLemmas
 pub mod ShortLemmas
 pub mod SignLemmas
+pub mod SignedAmountLemmas
 pub mod StopLemmas
 pub mod TallyLemmas
+pub mod UnitLemmas

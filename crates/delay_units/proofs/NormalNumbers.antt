@@ -26,6 +26,8 @@ pub record Stripped (n : ℕ) : Type 0 where
   pub zeros : ℕ
   pub splits : n ≡ digits * 10 ^ zeros
   pub last : digits % 10 ≡ 0 → ⊥
+  pub fewer : digits ≤ n
+  pub least : 10 ^ zeros ≤ n
 
 by_last : (n : ℕ) → (n % 10 ≡ 0) ⊎ (n % 10 ≡ 0 → ⊥)
 by_last n = by (n % 10) refl
@@ -48,8 +50,18 @@ strip (suc fuel) n few some = by (by_last n) (λ least positive. strip fuel (n /
     by (inl e) tenth =
         let whole : n % 10 + n / 10 * 10 ≡ n = mod-add-div' n 10 in
         let s = tenth (omega (arith, whole, e, few, some)) (omega (arith, whole, e, some)) in
-        record { digits = s.digits; zeros = suc s.zeros; splits = one_more n s.digits s.zeros e s.splits; last = s.last }
-    by (inr last) tenth = record { digits = n; zeros = 0; splits = omega arith; last = last }
+        let less = s.fewer in
+        let power = s.least in
+        let next = ten_suc s.zeros in
+        record {
+          digits = s.digits;
+          zeros = suc s.zeros;
+          splits = one_more n s.digits s.zeros e s.splits;
+          last = s.last;
+          fewer = omega (arith, less, whole);
+          least = omega (arith, power, next, whole);
+        }
+    by (inr last) tenth = record { digits = n; zeros = 0; splits = omega arith; last = last; fewer = omega arith; least = omega arith }
 
 -- digits and an exponent that are s * 10^t, without trailing zeros
 record Normal (s t : ℤ) : Type 0 where
@@ -58,18 +70,18 @@ record Normal (s t : ℤ) : Type 0 where
   value : SameNumber digits exponent s t
   normal : IsNormal digits exponent
 
-signed_times : (s : Sign) (n q : ℕ) → signed s n *ℤ pos q ≡ signed s (n * q)
+pub signed_times : (s : Sign) (n q : ℕ) → signed s n *ℤ pos q ≡ signed s (n * q)
 signed_times unsigned n q = pos-*ℤ-pos n q
 signed_times plus n q = pos-*ℤ-pos n q
 signed_times minus n q = neg-product n q
 
-signed_size : (s : Sign) (n : ℕ) → unsigned_abs (signed s n) ≡ n
+pub signed_size : (s : Sign) (n : ℕ) → unsigned_abs (signed s n) ≡ n
 signed_size unsigned n = refl
 signed_size plus n = refl
 signed_size minus zero = refl
 signed_size minus (suc n) = refl
 
-no_zero : (s : Sign) (n : ℕ) → (n % 10 ≡ 0 → ⊥) → signed s n ≡ pos 0 → ⊥
+pub no_zero : (s : Sign) (n : ℕ) → (n % 10 ≡ 0 → ⊥) → signed s n ≡ pos 0 → ⊥
 no_zero s n last e =
     let size : n ≡ 0 = sym (signed_size s n) ∙ ap unsigned_abs e in
     last (ap (λ x. x % 10) size)

@@ -125,7 +125,7 @@ without_no_longer (c ∷ cs) = by (c == 48) (without_no_longer cs)
     by true h = omega (arith, h)
     by false h = omega arith
 
-few_significant : (digits : List ℕ) → length (significant digits) ≤ length digits
+pub few_significant : (digits : List ℕ) → length (significant digits) ≤ length digits
 few_significant digits =
     let a = without_no_longer digits in
     let b = length-reverse (without_leading_zeros digits) in

@@ -7,4 +7,5 @@ pub mod Printing
 pub mod Reading
 pub mod Rounding
 pub mod ShortLiterals
+pub mod SignedAmounts
 pub mod Tallies

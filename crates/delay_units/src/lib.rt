@@ -12,6 +12,7 @@ mod quantities;
 mod readings;
 mod rounding;
 mod short_literals;
+mod signed_amounts;
 mod tally;
 
 pub use amounts::{Amount, read_amount};
@@ -22,3 +23,4 @@ pub use printing::{Text32, write_atto, write_femto};
 pub use quantities::{Atto, Farads, Femto, Ohms};
 pub use readings::{scale, unit};
 pub use rounding::{half_up, one_rounding};
+pub use signed_amounts::{SignedAmount, read_signed_amount};

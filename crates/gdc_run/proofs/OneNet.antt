@@ -9,7 +9,7 @@ use Rattle.corner_set.specs.declared.pick.Pick.{Pick}
 use Rattle.delay_units.specs.declared.numbers.Unit.{Unit}
 use Rattle.delay_units.specs.declared.quantities.Farads.{Farads}
 use Rattle.delay_units.specs.declared.quantities.Ohms.{Ohms}
-use Rattle.delay_units.proofs.AmountLemmas.{one_text_reading}
+use Rattle.delay_units.proofs.ReadingLemmas.{one_text_reading}
 use Rattle.name_table.specs.declared.spef_names.NodeName.{NodeName}
 use Rattle.spef_text.specs.Entries.{Section}
 use Rattle.spef_text.specs.SpefFiles.{SpefText}

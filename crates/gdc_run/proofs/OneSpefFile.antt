@@ -1,11 +1,11 @@
 -- The phases that read a SPEF file have one answer each.
-use Rattle.std.proofs.Common.{◌≡◌, ℕ, ◌-◌, ⊎_elim, true, false, ◌<◌, ◌≤◌, ℤ, pos, ◌+ℤ◌, unsigned_abs, arith, List, length, Some, None, Option, Result, Ok, Err, refl, sym, ap, ap₂, ◌∙◌, subst}
-use Rattle.std.proofs.Math.Bridge.{le_prop}
+use Rattle.std.proofs.Common.{◌≡◌, ℕ, ◌-◌, ⊎_elim, true, false, ◌<◌, ◌≤◌, pos, ◌+ℤ◌, arith, List, length, Some, None, Option, Result, Ok, Err, refl, sym, ap, ap₂, ◌∙◌, subst}
 use Rattle.std.specs.Prelude.{slice_get, All}
 use Rattle.std.proofs.lemmas.Option.{slice_get_within, get_or_from_slice_get}
 use Rattle.corner_set.specs.declared.pick.Pick.{Pick}
 use Rattle.delay_units.specs.declared.numbers.Unit.{Unit}
 use Rattle.delay_units.proofs.OneDecimal.{one_decimal}
+use Rattle.delay_units.proofs.UnitLemmas.{unit_same}
 use Rattle.spef_text.specs.Entries.{Reading, section_at}
 use Rattle.spef_text.specs.SpefFiles.{SpefText, Reads, SaysSpef, is_refused}
 use Rattle.spef_text.specs.Heads.{HeadText, IsHeadOf, IsHeadEnd, IsUnitAt}
@@ -75,17 +75,6 @@ one_parse bytes one other (no_form word token leaves form) (no_form more its l f
 
 pos_is : (a b : ℕ) → pos a ≡ pos b → a ≡ b
 pos_is a b e = cc
-
--- units are one where their numbers are
-unit_same : (u w : Unit) → u.mantissa ≡ w.mantissa → u.exponent ≡ w.exponent → u ≡ w
-unit_same u w e f =
-    subst (λ (m : ℕ). (p : 1 ≤ m) (s : m ≤ 9999999) (x : unsigned_abs w.exponent ≤ 99) → u ≡ record { mantissa = m; exponent = w.exponent; positive = p; seven_digits = s; exponent_fits = x }) e
-    (subst (λ (z : ℤ). (p : 1 ≤ u.mantissa) (s : u.mantissa ≤ 9999999) (x : unsigned_abs z ≤ 99) → u ≡ record { mantissa = u.mantissa; exponent = z; positive = p; seven_digits = s; exponent_fits = x }) f
-    (λ p s x.
-    ap (λ (q : 1 ≤ u.mantissa). let v : Unit = record { mantissa = u.mantissa; exponent = u.exponent; positive = q; seven_digits = u.seven_digits; exponent_fits = u.exponent_fits } in v) (le_prop u.positive p)
-    ∙ ap (λ (q : u.mantissa ≤ 9999999). let v : Unit = record { mantissa = u.mantissa; exponent = u.exponent; positive = p; seven_digits = q; exponent_fits = u.exponent_fits } in v) (le_prop u.seven_digits s)
-    ∙ ap (λ (q : unsigned_abs u.exponent ≤ 99). let v : Unit = record { mantissa = u.mantissa; exponent = u.exponent; positive = p; seven_digits = s; exponent_fits = q } in v) (le_prop u.exponent_fits x)))
-    w.positive w.seven_digits w.exponent_fits
 
 one_unit : (quantity : Quantity) (number word : List ℕ) (one other : Unit) → IsUnit quantity number word one → IsUnit quantity number word other → one ≡ other
 one_unit quantity number word one other r s =

@@ -7,6 +7,7 @@ use Rattle.delay_units.specs.Reading.{IsRoundedPower}
 use Rattle.delay_units.specs.declared.numbers.Decimal.{Decimal}
 use Rattle.delay_units.specs.declared.quantities.Femto.{Femto}
 use Rattle.delay_units.proofs.PowerLemmas.{ten_is_positive}
+use Rattle.delay_units.proofs.ReadingLemmas.{one_power}
 use Rattle.delay_units.proofs.RoundingLemmas.{one_rounding_lem}
 use Rattle.sdf_reader.specs.Timescales.{power_of}
 use Rattle.sdf_reader.specs.Numbers.{IsTime, IsMember, left_out, member, AreMembers, single_value, IsValue, single, HasNoColon}
@@ -15,7 +16,7 @@ use Rattle.sdf_reader.specs.declared.rows.Value.{Value}
 use Rattle.sdf_reader.specs.declared.timescales.Timescale.{Timescale}
 use Rattle.delay_units.proofs.NormalNumbers.{Decision, found, none, decide_number}
 use Rattle.delay_units.proofs.OneDecimal.{one_decimal}
-use Rattle.sdf_reader.proofs.OneValue.{one_power, one_word_value}
+use Rattle.sdf_reader.proofs.OneValue.{one_word_value}
 use Rattle.sdf_reader.proofs.ValueLemmas.{no_triple, no_member, none_single, none_behind, none_triple, triple_made}
 
 -- ---- times

@@ -1,22 +1,14 @@
 -- A word says one value at most.
-use Rattle.std.proofs.Common.{◌≡◌, ℕ, suc, ◌^◌, List, [], ◌∷◌, ◌++◌, Option, Some, None, ℤ, pos, negsuc, ◌+ℤ◌, ◌*ℤ◌, refl, sym, ap, ◌∙◌, arith, subst}
-use Rattle.std.proofs.lemmas.Int.{ints}
+use Rattle.std.proofs.Common.{◌≡◌, ℕ, List, [], ◌∷◌, ◌++◌, Option, Some, None, ℤ, pos, ◌+ℤ◌, refl, sym, ap, ◌∙◌, subst}
 use Rattle.delay_units.specs.Reading.{IsRoundedPower}
 use Rattle.delay_units.specs.declared.quantities.Femto.{Femto}
-use Rattle.delay_units.proofs.PowerLemmas.{ten_is_positive}
-use Rattle.delay_units.proofs.RoundingLemmas.{one_value}
+use Rattle.delay_units.proofs.ReadingLemmas.{one_power}
 use Rattle.sdf_reader.specs.Timescales.{power_of}
 use Rattle.sdf_reader.specs.Numbers.{IsTime, IsMember, left_out, member, AreMembers, single_value, IsValue, single, triple, HasNoColon}
 use Rattle.sdf_reader.specs.declared.rows.Value.{Value}
 use Rattle.sdf_reader.specs.declared.timescales.Timescale.{Timescale}
 use Rattle.delay_units.proofs.OneDecimal.{one_decimal}
 use Rattle.sdf_reader.proofs.ValueLemmas.{member_has_none, one_split, colon_inside, no_time}
-
-pub one_power : (n power v w : ℤ) → IsRoundedPower n power v → IsRoundedPower n power w → v ≡ w
-one_power n (pos k) v w r s = one_value (n *ℤ pos (10 ^ k)) (pos 1) v w (omega (arith, ints)) r s
-one_power n (negsuc k) v w r s =
-    let g = ten_is_positive (suc k) in
-    one_value n (pos (10 ^ suc k)) v w (omega (arith, ints, g)) r s
 
 one_time : (power : ℕ) (text : List ℕ) (a b : Femto) → IsTime power text a → IsTime power text b → a ≡ b
 one_time power text a b is other =

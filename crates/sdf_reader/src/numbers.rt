@@ -4,11 +4,11 @@ ghost use Rattle.sdf_reader.specs.Numbers.{IsTime, single_value, IsMember, AreMe
 
 use crate::rows::Value;
 use crate::timescales::Timescale;
-use delay_units::{Femto, Unit, read_decimal, scale};
+use delay_units::{Femto, SignedAmount, Unit, read_signed_amount};
 use memchr::memchr;
 
 /// The largest time in size that is read: 10^27 femtoseconds.
-const TIME_LIMIT: i128 = 1_000_000_000_000_000_000_000_000_000;
+const TIME_LIMIT: u128 = 1_000_000_000_000_000_000_000_000_000;
 
 /// The unit of ten to this power femtoseconds.
 fn unit_of(power: u32) -> Unit
@@ -28,12 +28,9 @@ fn time_of(power: u32, literal: &[u8]) -> Option<Femto>
     ensures some { IfSome result (IsTime power literal.now) }
     ensures none { IfNone result ((time : Femto) → IsTime power literal.now time → ⊥) }
 {
-    match read_decimal(literal) {
-        Err(_) => None,
-        Ok(number) => match scale(&number, &unit_of(power), TIME_LIMIT) {
-            None => None,
-            Some(value) => Some(Femto(value)),
-        },
+    match read_signed_amount(&unit_of(power), TIME_LIMIT, literal) {
+        SignedAmount::Within(value) => Some(Femto(value)),
+        _ => None,
     }
 }
 

@@ -9,7 +9,7 @@ use Rattle.delay_units.specs.Reading.{ReadsAs}
 use Rattle.delay_units.specs.Amounts.{IsAmountOf, unread as no_number, below as below_zero, within, past}
 use Rattle.delay_units.specs.declared.amounts.Amount.TheVariants.{Unread, Below, Within, Past}
 use Rattle.delay_units.specs.declared.numbers.Unit.{Unit}
-use Rattle.delay_units.proofs.AmountLemmas.{one_text_reading}
+use Rattle.delay_units.proofs.ReadingLemmas.{one_text_reading}
 use Rattle.spef_nets.specs.Values.{Triple, single, picked, IsAmount, IsBad, unread, below, IsAmountFault, is_bad, HasBad, IsTripleFault, AreGrains, grains_at}
 use Rattle.spef_nets.specs.declared.amounts.Grains.{Grains}
 use Rattle.spef_nets.specs.declared.amounts.AmountFault.{AmountFault}

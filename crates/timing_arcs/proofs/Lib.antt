@@ -9,12 +9,10 @@ pub mod Fronts
 pub mod HandingOn
 pub mod KeptLemmas
 pub mod ModelLemmas
-pub mod NameLemmas
 pub mod OneAnswer
 mod OneFault
 pub mod OneTable
 pub mod OneUnits
-pub mod PieceLemmas
 pub mod PinLemmas
 pub mod PlaceLemmas
 pub mod ReadingLemmas

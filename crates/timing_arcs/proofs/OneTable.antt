@@ -1,15 +1,14 @@
 -- A group of a library means one table, or one fault: each part of the search has one answer, and so has each part after another.
-use Rattle.std.proofs.Common.{◌≡◌, ◌≢◌, ℕ, zero, suc, List, [], ◌∷◌, map, Option, Some, None, ℤ, pos, ◌+ℤ◌, ◌*ℤ◌, ◌≤ℤ◌, Contains, Result, Ok, Err, refl, sym, ap, subst, ◌∙◌, arith}
+use Rattle.std.proofs.Common.{◌≡◌, ◌≢◌, ℕ, zero, suc, List, [], ◌∷◌, map, Option, Some, None, ℤ, pos, ◌≤ℤ◌, Contains, Result, Ok, Err, refl, sym, ap, subst, ◌∙◌, arith}
 use Rattle.std.specs.Prelude.{All, codes}
 use Rattle.delay_units.specs.Literal.{IsNumber}
-use Rattle.delay_units.specs.Reading.{IsReading, IsRoundedPower}
 use Rattle.delay_units.specs.declared.numbers.Unit.{Unit}
-use Rattle.delay_units.proofs.ReadingLemmas.{one_reading}
+use Rattle.delay_units.proofs.ReadingLemmas.{one_text_reading}
 use Rattle.liberty_groups.specs.Groups.{Attribute, Group, attributes_of}
 use Rattle.nldm_lookup.specs.Tables.{TimingTable, IsSmall}
 use Rattle.nldm_lookup.specs.declared.faults.Which.{Which}
 use Rattle.timing_arcs.specs.FullTables.{IsFullTable, full, wrong_count, no_room}
-use Rattle.timing_arcs.specs.NumberLists.{IsReadingOf, AreReadings, IsNoNumber, HasNoNumber, pieces_of}
+use Rattle.timing_arcs.specs.NumberLists.{AreReadings, IsNoNumber, HasNoNumber, pieces_of}
 use Rattle.timing_arcs.specs.OneMeaning.{AreOne, OneTable, OneTransition}
 use Rattle.timing_arcs.specs.TableModel.{unit_of, index_of, value_pieces, table_over, IsAxisOf, are_points, no_axis, no_axis_memory, AxisMeans, no_number, of_readings, no_index_memory, PointsMean, of_variable, of_none, no_points_memory, ValuesMean, are_values, no_value, past_bound, no_values_memory, HasAxes, TableMeans, no_template, no_variables, no_first_axis, no_second_axis, no_values, not_full, is_table, no_table_memory, no_transition, below_zero, settled}
 use Rattle.timing_arcs.specs.Templates.{template_of, variables_of}
@@ -17,17 +16,8 @@ use Rattle.timing_arcs.specs.declared.library_units.LibraryUnits.{LibraryUnits}
 use Rattle.timing_arcs.specs.declared.templates.Variables.{Variables}
 use Rattle.timing_arcs.specs.declared.faults.CellFault.{CellFault}
 use Rattle.timing_arcs.specs.declared.faults.CellFault.TheVariants.{UnknownTemplate, UnknownVariable, OutOfMemory}
-use Rattle.delay_units.proofs.OneDecimal.{one_decimal}
 
--- one reading of a piece, and of a list of them
-one_piece : (unit : Unit) (piece : List ℕ) (v w : ℤ) → IsReadingOf unit piece v → IsReadingOf unit piece w → v ≡ w
-one_piece unit piece v w one other =
-    let same = one_decimal piece one.number other.number one.written other.written in
-    let moved : IsReading other.number unit v =
-    subst (λ (d : ℤ). IsRoundedPower (d *ℤ pos unit.mantissa) (other.number.exponent +ℤ unit.exponent) v) same.0
-    (subst (λ (e : ℤ). IsRoundedPower (one.number.digits *ℤ pos unit.mantissa) (e +ℤ unit.exponent) v) same.1 one.reading) in
-    one_reading other.number unit v w moved other.reading
-
+-- one reading of each piece
 one_list : (unit : Unit) (pieces : List (List ℕ)) (vs ws : List ℤ) → AreReadings unit pieces vs → AreReadings unit pieces ws → vs ≡ ws
 one_list unit [] [] [] one other = refl
 one_list unit [] [] (w ∷ ws) one other = absurd other
@@ -35,7 +25,7 @@ one_list unit [] (v ∷ vs) ws one other = absurd one
 one_list unit (piece ∷ pieces) [] ws one other = absurd one
 one_list unit (piece ∷ pieces) (v ∷ vs) [] one other = absurd other
 one_list unit (piece ∷ pieces) (v ∷ vs) (w ∷ ws) one other =
-    let first : v ≡ w = one_piece unit piece v w one.0 other.0 in
+    let first : v ≡ w = one_text_reading unit piece v w one.0 other.0 in
     let rest : vs ≡ ws = one_list unit pieces vs ws one.1 other.1 in
     cc
 
@@ -46,7 +36,7 @@ all_numbers unit pieces vs are has = each pieces vs has.piece are has.among has.
     each : (pieces : List (List ℕ)) (vs : List ℤ) (piece : List ℕ) → AreReadings unit pieces vs → Contains pieces piece → IsNoNumber piece → ⊥
     each [] vs piece are (k, below, is) bad = absurd (omega (arith, below))
     each (first ∷ pieces) [] piece are among bad = absurd are
-    each (first ∷ pieces) (v ∷ vs) piece are (zero, below, is) bad = bad are.0.number (subst (λ t. IsNumber t are.0.number) is are.0.written)
+    each (first ∷ pieces) (v ∷ vs) piece are (zero, below, is) bad = bad are.0.number (subst (λ t. IsNumber t are.0.number) is are.0.reads)
     each (first ∷ pieces) (v ∷ vs) piece are (suc k, below, is) bad = each pieces vs piece are.1 (k, omega (arith, below), is) bad
 
 err_is : {A : Type 0} (a b : CellFault) → a ≡ b → (let one : Result A CellFault = Err a in one ≡ Err b)

@@ -1,6 +1,5 @@
 -- A library has one pair of units.
-use Rattle.std.proofs.Common.{◌≡◌, ℕ, ◌≤◌, ℤ, pos, ◌+ℤ◌, unsigned_abs, List, [], ◌∷◌, Option, Some, sym, ap, ◌∙◌, subst, arith}
-use Rattle.std.proofs.Math.Bridge.{le_prop}
+use Rattle.std.proofs.Common.{◌≡◌, ℕ, pos, ◌+ℤ◌, List, [], ◌∷◌, Option, Some, sym, ap, ◌∙◌, subst, arith}
 use Rattle.std.proofs.lemmas.Int.{ints}
 use Rattle.delay_units.specs.declared.numbers.Unit.{Unit}
 use Rattle.liberty_groups.specs.Groups.{Group}
@@ -8,17 +7,7 @@ use Rattle.timing_arcs.specs.LibraryUnits.{IsTimeUnit, IsUnitOf, IsLoadUnit, Are
 use Rattle.timing_arcs.specs.declared.library_units.LibraryUnits.{LibraryUnits}
 use Rattle.timing_arcs.proofs.Fronts.{some_is}
 use Rattle.delay_units.proofs.OneDecimal.{one_decimal}
-
--- units are one where their numbers are
-unit_same : (u w : Unit) → u.mantissa ≡ w.mantissa → u.exponent ≡ w.exponent → u ≡ w
-unit_same u w e f =
-    subst (λ (m : ℕ). (p : 1 ≤ m) (s : m ≤ 9999999) (x : unsigned_abs w.exponent ≤ 99) → u ≡ record { mantissa = m; exponent = w.exponent; positive = p; seven_digits = s; exponent_fits = x }) e
-    (subst (λ (z : ℤ). (p : 1 ≤ u.mantissa) (s : u.mantissa ≤ 9999999) (x : unsigned_abs z ≤ 99) → u ≡ record { mantissa = u.mantissa; exponent = z; positive = p; seven_digits = s; exponent_fits = x }) f
-    (λ p s x.
-    ap (λ (q : 1 ≤ u.mantissa). let v : Unit = record { mantissa = u.mantissa; exponent = u.exponent; positive = q; seven_digits = u.seven_digits; exponent_fits = u.exponent_fits } in v) (le_prop u.positive p)
-    ∙ ap (λ (q : u.mantissa ≤ 9999999). let v : Unit = record { mantissa = u.mantissa; exponent = u.exponent; positive = p; seven_digits = q; exponent_fits = u.exponent_fits } in v) (le_prop u.seven_digits s)
-    ∙ ap (λ (q : unsigned_abs u.exponent ≤ 99). let v : Unit = record { mantissa = u.mantissa; exponent = u.exponent; positive = p; seven_digits = s; exponent_fits = q } in v) (le_prop u.exponent_fits x)))
-    w.positive w.seven_digits w.exponent_fits
+use Rattle.delay_units.proofs.UnitLemmas.{unit_same}
 
 some_same : {X : Type 0} (o : Option X) (a b : X) → o ≡ Some a → o ≡ Some b → a ≡ b
 some_same o a b e f = some_is a b (sym e ∙ f)

@@ -1,9 +1,9 @@
 -- The places of the related pins that have been looked up.
-use Rattle.std.proofs.Common.{◌≡◌, ◌≢◌, ℕ, zero, suc, ◌<◌, ◌≤◌, Bool, true, false, cond, ◌||◌, ◌&&◌, List, [], ◌∷◌, ◌++◌, length, slice_get, slice_index_or, Option, Some, None, All, AllPairs, Contains, refl, sym, ap, ◌∙◌, subst, arith, append_assoc, append-nil}
+use Rattle.std.proofs.Common.{◌≡◌, ◌≢◌, ℕ, zero, suc, ◌<◌, Bool, true, false, cond, ◌||◌, ◌&&◌, List, [], ◌∷◌, ◌++◌, length, slice_get, slice_index_or, Option, Some, None, All, AllPairs, Contains, refl, sym, ap, ◌∙◌, subst, arith, append_assoc, append-nil}
 use Rattle.std.specs.List.{list_any, filter, AllZip}
 use Rattle.std.specs.Str.{bytes_eq}
 use Rattle.std.proofs.lemmas.Slice.Eq.{bytes_eq-Decides}
-use Rattle.std.proofs.lemmas.List.Elements.{All-nil, All-cons, All-append}
+use Rattle.std.proofs.lemmas.List.Elements.{All-nil, All-cons, All-append, Contains-append_left, Contains-append_right}
 use Rattle.std.proofs.lemmas.List.Elements.{filter-append}
 use Rattle.std.proofs.lemmas.Option.{slice_get_within}
 use Rattle.liberty_groups.specs.Groups.{Group}
@@ -16,7 +16,7 @@ use Rattle.timing_arcs.specs.declared.faults.CellFault.TheVariants.{UnknownRelat
 use Rattle.timing_arcs.specs.PinModel.{PinEntry, is_pin_of, direction_of, IsPin}
 use Rattle.timing_arcs.specs.PinTable.{entry_at, entries_in}
 use Rattle.timing_arcs.specs.DelayGroups.{is_pin_in, is_input_in}
-use Rattle.timing_arcs.specs.RelatedPins.{IsAt, IsPlaceOf, input_pin, other_pin, ArePlaces, IsUnrelated, unknown_name, no_places_memory, name_filled}
+use Rattle.timing_arcs.specs.RelatedPins.{IsAt, IsPlaceOf, input_pin, other_pin, ArePlaces, IsUnrelated, unknown_name, no_places_memory}
 use Rattle.timing_arcs.proofs.Fronts.{some_is, zip_push}
 use Rattle.timing_arcs.proofs.PinLemmas.{held_by_name, names_of_entries, entries_length, name_held, name_absent}
 
@@ -118,10 +118,6 @@ pin_below library tree names ids pins name k even all e =
     let zipped = zip_length (IsPin library) (entries_in tree names ids) pins all in
     omega (arith, below, long, zipped, even)
 
-pub filled : (name : List ℕ) → 1 ≤ length name → name_filled name ≡ name ∷ []
-filled [] some = absurd (omega (arith, some))
-filled (byte ∷ name) some = refl
-
 -- ---- names, one after another
 
 filter_one : {X : Type 0} (p : X → Bool) (xs : List X) (x : X) → filter p (xs ++ x ∷ []) ≡ filter p xs ++ filter p (x ∷ [])
@@ -154,31 +150,25 @@ pub record ArePlacesSo (pins : List PinEntry) (names : List (List ℕ)) (all lef
 pub none_so : (pins : List PinEntry) (names all : List (List ℕ)) (places : List ℕ) → places ≡ [] → ArePlacesSo pins names all all places
 none_so pins names all places none = record { done = []; split = refl; so_far = subst (ArePlaces pins names []) (sym none) (record { known = All-nil (λ x. is_pin_in pins x ≡ true); placed = tt }) }
 
-pub more_so : (pins : List PinEntry) (names all more left : List (List ℕ)) (places places' : List ℕ) → (left' : List (List ℕ)) → left ≡ more ++ left'
-    → (so : ArePlacesSo pins names all left places) → ((done : List (List ℕ)) → ArePlaces pins names done places → ArePlaces pins names (done ++ more) places') → ArePlacesSo pins names all left' places'
-more_so pins names all more left places places' left' e so step = record {
-  done = so.done ++ more;
-  split = so.split ∙ ap (λ l. so.done ++ l) e ∙ sym (append_assoc so.done more left');
+pub one_more_so : (pins : List PinEntry) (names all left : List (List ℕ)) (name : List ℕ) (others : List (List ℕ)) (places places' : List ℕ) → left ≡ name ∷ others
+    → (so : ArePlacesSo pins names all left places) → ((done : List (List ℕ)) → ArePlaces pins names done places → ArePlaces pins names (done ++ name ∷ []) places') → ArePlacesSo pins names all others places'
+one_more_so pins names all left name others places places' e so step = record {
+  done = so.done ++ name ∷ [];
+  split = so.split ∙ ap (λ l. so.done ++ l) e ∙ sym (append_assoc so.done (name ∷ []) others);
   so_far = step so.done so.so_far;
 }
 
 -- all of them
-pub all_so : (pins : List PinEntry) (names all more left : List (List ℕ)) (places places' : List ℕ) → left ≡ more → (so : ArePlacesSo pins names all left places)
-    → ((done : List (List ℕ)) → ArePlaces pins names done places → ArePlaces pins names (done ++ more) places') → ArePlaces pins names all places'
-all_so pins names all more left places places' e so step =
-    subst (λ l. ArePlaces pins names l places') (sym (so.split ∙ ap (λ l. so.done ++ l) e)) (step so.done so.so_far)
+pub all_so : (pins : List PinEntry) (names all left : List (List ℕ)) (places : List ℕ) → left ≡ [] → ArePlacesSo pins names all left places → ArePlaces pins names all places
+all_so pins names all left places none so = subst (λ l. ArePlaces pins names l places) (sym (so.split ∙ ap (λ l. so.done ++ l) none ∙ append-nil so.done)) so.so_far
 
-contains_behind : (before xs behind : List (List ℕ)) (x : List ℕ) → Contains xs x → Contains (before ++ (xs ++ behind)) x
-contains_behind [] [] behind x (k, below, is) = absurd (omega (arith, below))
-contains_behind [] (y ∷ xs) behind x (zero, below, is) = (0, omega arith, is)
-contains_behind [] (y ∷ xs) behind x (suc k, below, is) = let h = contains_behind [] xs behind x (k, omega (arith, below), is) in let b = h.1 in (suc h.0, omega (arith, b), h.2)
-contains_behind (y ∷ before) xs behind x c = let h = contains_behind before xs behind x c in let b = h.1 in (suc h.0, omega (arith, b), h.2)
-
--- a fault of some of them is one of all
-pub unrelated_so : (pins : List PinEntry) (names all more left left' : List (List ℕ)) (places : List ℕ) (fault : CellFault) → left ≡ more ++ left' → (so : ArePlacesSo pins names all left places) → IsUnrelated pins more fault → IsUnrelated pins all fault
-unrelated_so pins names all more left left' places fault e so no_places_memory = no_places_memory
-unrelated_so pins names all more left left' places fault e so (unknown_name {name} among unknown) =
-    unknown_name (subst (λ l. Contains l name) (sym (so.split ∙ ap (λ l. so.done ++ l) e)) (contains_behind so.done more left' name among)) unknown
+-- a fault of one of them is one of all
+pub unrelated_so : (pins : List PinEntry) (names all left : List (List ℕ)) (name : List ℕ) (others : List (List ℕ)) (places : List ℕ) (fault : CellFault) → left ≡ name ∷ others
+    → (so : ArePlacesSo pins names all left places) → IsUnrelated pins (name ∷ []) fault → IsUnrelated pins all fault
+unrelated_so pins names all left name others places fault e so no_places_memory = no_places_memory
+unrelated_so pins names all left name others places fault e so (unknown_name {name = unknown} among is) =
+    unknown_name (subst (λ l. Contains l unknown) (sym (so.split ∙ ap (λ l. so.done ++ l) e))
+    (Contains-append_right so.done (name ∷ others) unknown (Contains-append_left (name ∷ []) others unknown among))) is
 
 pub unknown_sole : (pins : List PinEntry) (name : List ℕ) → is_pin_in pins name ≡ false → IsUnrelated pins (name ∷ []) UnknownRelatedPin
 unknown_sole pins name unknown = unknown_name {name = name} (0, omega arith, refl) unknown

@@ -7,7 +7,7 @@ use Rattle.delay_units.specs.Amounts.{IsAmountOf, unread, below, within, past}
 use Rattle.delay_units.specs.declared.amounts.Amount.{Amount}
 use Rattle.delay_units.specs.declared.amounts.Amount.TheVariants.{Unread, Below, Within, Past}
 use Rattle.delay_units.specs.declared.numbers.Unit.{Unit}
-use Rattle.delay_units.proofs.AmountLemmas.{one_text_reading}
+use Rattle.delay_units.proofs.ReadingLemmas.{one_text_reading}
 use Rattle.nldm_lookup.specs.Axes.{most}
 use Rattle.timing_arcs.specs.PinModel.{IsLargest, no_text, one_text, first_text, second_text, IsCapacitance}
 use Rattle.timing_arcs.specs.Sizes.{larger_size, grains_within}

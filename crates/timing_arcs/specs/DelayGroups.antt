@@ -1,15 +1,15 @@
 -- The delay groups of a cell and their arcs (Liberty, timing).
 use Rattle.std.specs.Prelude.{◌≡◌, ℕ, Bool, true, ◌&&◌, ◌||◌, if◌then◌else◌, List, [], ◌∷◌, map, filter, flat_map, slice_get, Option, Some, None, Ok, unwrap_or, is_some, bytes_eq, codes}
-use Rattle.std.specs.List.{list_any, slice_split}
+use Rattle.std.specs.List.{list_any}
 use Rattle.liberty_groups.specs.Groups.{Group, groups_of}
 use Rattle.token_texts.specs.Blanks.{is_blank}
+use Rattle.token_texts.specs.Pieces.{pieces_between}
 use Rattle.timing_arcs.specs.declared.cell.ArcKind.{ArcKind}
 use Rattle.timing_arcs.specs.declared.cell.ArcKind.TheVariants.{Positive, Negative, Both, RisingEdge, FallingEdge}
 use Rattle.timing_arcs.specs.declared.cell.EdgeTables.{EdgeTables}
 use Rattle.timing_arcs.specs.declared.cell.Arc.{Arc}
 use Rattle.timing_arcs.specs.Library.{is_named, first_group, value_in}
 use Rattle.timing_arcs.specs.PinModel.{PinEntry, is_pin_of, is_input, is_output, direction_of, pins_of}
-use Rattle.timing_arcs.specs.NumberLists.{is_filled}
 use Rattle.timing_arcs.specs.LibraryUnits.{AreUnits}
 use Rattle.timing_arcs.specs.TableModel.{TableMeans, TransitionMeans}
 use Rattle.timing_arcs.specs.declared.library_units.LibraryUnits.{LibraryUnits}
@@ -41,12 +41,9 @@ delays_in entry =
 unfoldable pub delays_of : Group → List DelayGroup
 delays_of cell = flat_map delays_in (pins_of cell)
 
--- the names in a text, parted by blanks
-unfoldable pub names_in : List ℕ → List (List ℕ)
-names_in text = filter is_filled (slice_split is_blank text)
-
+-- the names of the related pins, parted by blanks
 unfoldable pub related_names : Group → List (List ℕ)
-related_names timing = names_in (unwrap_or (value_in (codes "related_pin") timing) [])
+related_names timing = pieces_between is_blank (unwrap_or (value_in (codes "related_pin") timing) [])
 
 -- Which edges of the input an edge of the output follows. The edge of a clock decides before the sense.
 abbrev pub kind_by : List ℕ → List ℕ → ArcKind

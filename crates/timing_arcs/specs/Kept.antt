@@ -1,5 +1,5 @@
 -- What is kept of the pieces of a list that have been read.
-use Rattle.std.specs.Prelude.{ℕ, Bool, true, false, ℤ, List, [], ◌∷◌, All, Option, unwrap_or, if◌then◌else◌}
+use Rattle.std.specs.Prelude.{ℕ, Bool, true, false, ℤ, List, [], ◌++◌, All, Option, unwrap_or}
 use Rattle.std.specs.Option.{option_map}
 use Rattle.delay_units.specs.declared.numbers.Unit.{Unit}
 use Rattle.liberty_groups.specs.Tables.{Tables, attribute_at}
@@ -7,7 +7,8 @@ use Rattle.liberty_groups.specs.declared.rows.AttrId.{AttrId}
 use Rattle.nldm_lookup.specs.Tables.{IsSmall}
 use Rattle.nldm_lookup.specs.declared.faults.TableFault.{TableFault}
 use Rattle.nldm_lookup.specs.declared.faults.TableFault.TheVariants.{ValueCount, OutOfMemory as NoRoom}
-use Rattle.timing_arcs.specs.NumberLists.{AreReadings, HasNoNumber, is_filled}
+use Rattle.timing_arcs.specs.NumberLists.{AreReadings, HasNoNumber}
+use Rattle.timing_arcs.specs.declared.number_lists.Readings.{Readings}
 use Rattle.timing_arcs.specs.declared.faults.CellFault.{CellFault}
 use Rattle.timing_arcs.specs.declared.faults.CellFault.TheVariants.{BadNumber, BadAxis, BadTable, OutOfMemory}
 use Rattle.nldm_lookup.specs.declared.faults.AxisFault.{AxisFault}
@@ -18,14 +19,15 @@ pub data AreKept (unit : Unit) (pieces : List (List ℕ)) : Bool → List ℤ �
   all_within : (values : List ℤ) → AreReadings unit pieces values → All IsSmall values → AreKept unit pieces true values
   one_past : (values readings : List ℤ) → AreReadings unit pieces readings → ¬ All IsSmall readings → AreKept unit pieces false values
 
+-- the readings of these pieces too
+abbrev pub KeepsMore : Unit → List (List ℕ) → Readings → Readings → Type 0
+KeepsMore unit more before after =
+    (pieces : List (List ℕ)) → AreKept unit pieces before.within before.values.items → AreKept unit (pieces ++ more) after.within after.values.items
+
 -- why there are no readings
 pub data IsListFault (pieces : List (List ℕ)) : CellFault → Type 0 where
   unread_piece : HasNoNumber pieces → IsListFault pieces BadNumber
   no_memory : IsListFault pieces OutOfMemory
-
--- the piece of these bytes, if there are any
-abbrev pub pieces_filled : List ℕ → List (List ℕ)
-pieces_filled piece = if is_filled piece then piece ∷ [] else []
 
 -- the texts of an attribute, if it stands
 abbrev pub texts_of : Tables → Option AttrId → List (List ℕ)

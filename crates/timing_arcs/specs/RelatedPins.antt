@@ -1,5 +1,5 @@
 -- The names of related pins as they are looked up: the places of those that are input pins.
-use Rattle.std.specs.Prelude.{◌≡◌, ℕ, true, false, List, [], ◌∷◌, All, Contains, filter, slice_get, Option, Some, None}
+use Rattle.std.specs.Prelude.{◌≡◌, ℕ, true, false, List, All, Contains, filter, slice_get, Option, Some, None}
 use Rattle.std.specs.List.{AllZip}
 use Rattle.timing_arcs.specs.declared.faults.CellFault.{CellFault}
 use Rattle.timing_arcs.specs.declared.faults.CellFault.TheVariants.{UnknownRelatedPin, OutOfMemory}
@@ -24,8 +24,3 @@ pub record ArePlaces (pins : List PinEntry) (names : List (List ℕ)) (done : Li
 pub data IsUnrelated (pins : List PinEntry) (done : List (List ℕ)) : CellFault → Type 0 where
   unknown_name : {name : List ℕ} → Contains done name → is_pin_in pins name ≡ false → IsUnrelated pins done UnknownRelatedPin
   no_places_memory : IsUnrelated pins done OutOfMemory
-
--- the name of these bytes, if there are any
-abbrev pub name_filled : List ℕ → List (List ℕ)
-name_filled [] = []
-name_filled (byte ∷ bytes) = (byte ∷ bytes) ∷ []

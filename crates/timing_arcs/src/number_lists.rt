@@ -1,14 +1,16 @@
 //! Lists of numbers (Liberty, `index_1`, `index_2` and `values`).
-ghost use Rattle.std.specs.Prelude.{◌≡◌, ◌<◌, ◌++◌, ◌∷◌, [], ℕ, List, length, position, OnOk, IfOk, IfErr, IfSome};
+ghost use Rattle.std.specs.Prelude.{◌∷◌, [], OnOk, IfOk, IfErr, IfSome};
 ghost use Rattle.delay_units.specs.declared.numbers.Unit.{Unit};
 ghost use Rattle.liberty_groups.specs.Tables.{attribute_at, IsAttribute};
-ghost use Rattle.timing_arcs.specs.NumberLists.{is_parting, pieces_in, pieces_of};
-ghost use Rattle.timing_arcs.specs.Kept.{AreKept, IsListFault, pieces_filled, texts_of};
+ghost use Rattle.token_texts.specs.Pieces.{pieces_between};
+ghost use Rattle.timing_arcs.specs.NumberLists.{is_parting, pieces_of};
+ghost use Rattle.timing_arcs.specs.Kept.{AreKept, KeepsMore, IsListFault, texts_of};
 
 use crate::faults::CellFault;
-use delay_units::{Atto, Unit, read_decimal, scale};
+use delay_units::{Atto, SignedAmount, Unit, read_signed_amount};
 use liberty_groups::{AttrId, GroupTree};
 use std::alloc::Global;
+use token_texts::{ByteClass, first_piece, is_blank};
 
 /// The readings of some pieces, in grains, and whether each is at most 10^12 in size. Where one is not, the values do not count.
 #[derive(Drop)]
@@ -17,12 +19,16 @@ pub(crate) struct Readings {
     pub within: bool,
 }
 
-// The place of the first byte that parts pieces: a comma or a blank.
-fn first_parting(text: &[u8]) -> Option<usize>
-    ensures place { result ≡ position is_parting text.now }
-    ensures within { IfSome result (λ place. place < length text.now) }
-{
-    text.iter().position(|byte| *byte == b',' || (*byte >= 9 && *byte <= 13) || *byte == b' ')
+/// The bytes that part the numbers of a list: commas and blanks.
+struct Parting;
+
+impl ByteClass for Parting {
+    ghost is_in = { is_parting };
+
+    #[inline]
+    fn has(byte: u8) -> bool {
+        byte == b',' || is_blank(byte)
+    }
 }
 
 impl Readings {
@@ -38,44 +44,32 @@ impl Readings {
 
     // Reads a piece.
     fn read_number(&mut self, unit: &Unit, piece: &[u8]) -> Result<(), CellFault>
-        ensures kept { OnOk result ((pieces : List (List ℕ)) → AreKept unit.now pieces self.old.within self.old.values.items → AreKept unit.now (pieces ++ piece.now ∷ []) self.new.within self.new.values.items) }
+        ensures kept { OnOk result (KeepsMore unit.now (piece.now ∷ []) self.old self.new) }
         ensures fault { IfErr result (IsListFault (piece.now ∷ [])) }
     {
-        let Ok(number) = read_decimal(piece) else {
-            return Err(CellFault::BadNumber);
-        };
-        let Some(value) = scale(&number, unit, Atto::MOST as i128) else {
-            self.within = false;
-            return Ok(());
-        };
-        match self.values.push(value as i64) {
-            Ok(_) => Ok(()),
-            Err(_) => Err(CellFault::OutOfMemory),
-        }
-    }
-
-    // Reads the bytes between two that part pieces: a piece, if there are any.
-    fn read_piece(&mut self, unit: &Unit, piece: &[u8]) -> Result<(), CellFault>
-        ensures kept { OnOk result ((pieces : List (List ℕ)) → AreKept unit.now pieces self.old.within self.old.values.items → AreKept unit.now (pieces ++ pieces_filled piece.now) self.new.within self.new.values.items) }
-        ensures fault { IfErr result (IsListFault (pieces_filled piece.now)) }
-    {
-        match piece {
-            [] => Ok(()),
-            [_, ..] => self.read_number(unit, piece),
+        match read_signed_amount(unit, Atto::MOST as u128, piece) {
+            SignedAmount::Unread => Err(CellFault::BadNumber),
+            SignedAmount::Below | SignedAmount::Past => {
+                self.within = false;
+                Ok(())
+            }
+            SignedAmount::Within(value) => match self.values.push(value as i64) {
+                Ok(_) => Ok(()),
+                Err(_) => Err(CellFault::OutOfMemory),
+            },
         }
     }
 
     // Reads the pieces of a text.
     fn read_text(&mut self, unit: &Unit, text: &[u8]) -> Result<(), CellFault>
-        ensures kept { OnOk result ((pieces : List (List ℕ)) → AreKept unit.now pieces self.old.within self.old.values.items → AreKept unit.now (pieces ++ pieces_in text.now) self.new.within self.new.values.items) }
-        ensures fault { IfErr result (IsListFault (pieces_in text.now)) }
+        ensures kept { OnOk result (KeepsMore unit.now (pieces_between is_parting text.now) self.old self.new) }
+        ensures fault { IfErr result (IsListFault (pieces_between is_parting text.now)) }
     {
         let mut rest = text;
-        while let Some(place) = first_parting(rest) {
-            self.read_piece(unit, rest.split_at(place).0)?;
-            rest = rest.split_at(place + 1).1;
+        while let Some((piece, others)) = first_piece::<Parting>(rest) {
+            self.read_number(unit, piece)?;
+            rest = others;
         }
-        self.read_piece(unit, rest)?;
         Ok(())
     }
 }

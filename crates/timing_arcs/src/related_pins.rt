@@ -1,12 +1,13 @@
 //! The pins that the arcs of a delay group lead from (Liberty, `related_pin`).
-ghost use Rattle.std.specs.Prelude.{◌≡◌, ℕ, ◌<◌, ◌++◌, ◌∷◌, [], length, List, All, Some, IfOk, OnOk, IfErr, IfSome, IfNone, position, unwrap_or};
+ghost use Rattle.std.specs.Prelude.{◌≡◌, ℕ, ◌<◌, ◌++◌, ◌∷◌, [], length, List, All, Some, IfOk, OnOk, IfErr, unwrap_or};
 ghost use Rattle.std.specs.List.{AllZip};
 ghost use Rattle.liberty_groups.specs.Tables.{tree_of, group_at, IsGroup};
 ghost use Rattle.token_texts.specs.Blanks.{is_blank};
 ghost use Rattle.timing_arcs.specs.PinModel.{is_input, IsPin};
 ghost use Rattle.timing_arcs.specs.PinTable.{entries_in};
-ghost use Rattle.timing_arcs.specs.DelayGroups.{names_in, related_names};
-ghost use Rattle.timing_arcs.specs.RelatedPins.{IsPlaceOf, ArePlaces, IsUnrelated, name_filled};
+ghost use Rattle.token_texts.specs.Pieces.{pieces_between};
+ghost use Rattle.timing_arcs.specs.DelayGroups.{related_names};
+ghost use Rattle.timing_arcs.specs.RelatedPins.{IsPlaceOf, ArePlaces, IsUnrelated};
 
 use crate::cell::{Direction, Pin};
 use crate::faults::CellFault;
@@ -14,6 +15,7 @@ use crate::groups::value_in;
 use crate::pins::PinTable;
 use liberty_groups::{GroupId, GroupTree};
 use std::alloc::Global;
+use token_texts::{Blank, first_piece};
 
 fn is_input(direction: Direction) -> bool
     ensures { result ≡ is_input (Some direction) }
@@ -48,7 +50,7 @@ fn place_of(
     }
 }
 
-// The place of a name, which may be empty: that is none.
+// The place of a name, if that is an input pin, goes last.
 fn add_place(
     tree: &GroupTree,
     table: &PinTable,
@@ -59,28 +61,17 @@ fn add_place(
     requires even { length table.now.names ≡ length table.now.groups.items }
     requires pins { AllZip (IsPin (tree_of tree.now)) (entries_in tree.now table.now.names table.now.groups.items) pins.now }
     ensures ok { (done : List (List ℕ)) → ArePlaces (entries_in tree.now table.now.names table.now.groups.items) table.now.names done places.old.items
-        → OnOk result (ArePlaces (entries_in tree.now table.now.names table.now.groups.items) table.now.names (done ++ name_filled name.now) places.new.items) }
-    ensures err { IfErr result (IsUnrelated (entries_in tree.now table.now.names table.now.groups.items) (name_filled name.now)) }
+        → OnOk result (ArePlaces (entries_in tree.now table.now.names table.now.groups.items) table.now.names (done ++ name.now ∷ []) places.new.items) }
+    ensures err { IfErr result (IsUnrelated (entries_in tree.now table.now.names table.now.groups.items) (name.now ∷ [])) }
 {
-    match name {
-        [] => Ok(()),
-        [_, ..] => match place_of(tree, table, pins, name) {
-            Ok(None) => Ok(()),
-            Ok(Some(place)) => match places.push(place) {
-                Ok(_) => Ok(()),
-                Err(_) => Err(CellFault::OutOfMemory),
-            },
-            Err(fault) => Err(fault),
+    match place_of(tree, table, pins, name) {
+        Ok(None) => Ok(()),
+        Ok(Some(place)) => match places.push(place) {
+            Ok(_) => Ok(()),
+            Err(_) => Err(CellFault::OutOfMemory),
         },
+        Err(fault) => Err(fault),
     }
-}
-
-fn first_blank(text: &[u8]) -> Option<usize>
-    ensures place { result ≡ position is_blank text.now }
-    ensures within { IfSome result (λ place. place < length text.now) }
-{
-    text.iter()
-        .position(|byte| (*byte >= 9 && *byte <= 13) || *byte == b' ')
 }
 
 // The places of the names in a text.
@@ -93,16 +84,15 @@ fn places_in(
 ) -> Result<Vec<usize>, CellFault>
     requires even { length table.now.names ≡ length table.now.groups.items }
     requires pins { AllZip (IsPin (tree_of tree.now)) (entries_in tree.now table.now.names table.now.groups.items) pins.now }
-    ensures ok { IfOk result (λ places. ArePlaces (entries_in tree.now table.now.names table.now.groups.items) table.now.names (names_in text.now) places.items) }
-    ensures err { IfErr result (IsUnrelated (entries_in tree.now table.now.names table.now.groups.items) (names_in text.now)) }
+    ensures ok { IfOk result (λ places. ArePlaces (entries_in tree.now table.now.names table.now.groups.items) table.now.names (pieces_between is_blank text.now) places.items) }
+    ensures err { IfErr result (IsUnrelated (entries_in tree.now table.now.names table.now.groups.items) (pieces_between is_blank text.now)) }
 {
     let mut places = Vec::new(alloc);
     let mut rest = text;
-    while let Some(place) = first_blank(rest) {
-        add_place(tree, table, pins, rest.split_at(place).0, &mut places)?;
-        rest = rest.split_at(place + 1).1;
+    while let Some((name, others)) = first_piece::<Blank>(rest) {
+        add_place(tree, table, pins, name, &mut places)?;
+        rest = others;
     }
-    add_place(tree, table, pins, rest, &mut places)?;
     Ok(places)
 }
 

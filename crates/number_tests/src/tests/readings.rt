@@ -1,5 +1,8 @@
 //! Readings in a unit at ties and at the bound, units at their seven digits, and halves rounded up.
-use delay_units::{Farads, Ohms, Unit, half_up, read_decimal, scale, unit};
+use delay_units::{
+    Amount, Farads, Ohms, SignedAmount, Unit, half_up, read_amount, read_decimal,
+    read_signed_amount, scale, unit,
+};
 use std::test::Fail;
 
 /// A literal, the exponent of a unit of mantissa 1, and the capacitance in grains, where it is within the bound.
@@ -25,29 +28,59 @@ const READINGS: [(&[u8], i32, Option<i128>); 11] = [
     (b"0e99", 99, Some(0)),
 ];
 
+/// The grains of what a text reads as in a unit, where they are within the bound of a capacitance.
+fn grains(unit: &Unit, text: &[u8]) -> Option<i128> {
+    match read_signed_amount(unit, Farads::MOST as u128, text) {
+        SignedAmount::Within(grains) => Some(grains),
+        _ => None,
+    }
+}
+
 #[test]
 fn readings_round_half_up_and_keep_the_bound(rt: HostRuntime) -> Result<(), Fail> {
-    for (text, exponent, grains) in READINGS {
+    for (text, exponent, expected) in READINGS {
         assert!(rt; -99 <= exponent && exponent <= 99);
         let one = Unit {
             mantissa: 1,
             exponent,
         };
-        let found = scale(&read_decimal(text)?, &one, Farads::MOST as i128);
-        assert!(rt; found == grains, "{text:?}");
+        assert!(rt; grains(&one, text) == expected, "{text:?}");
     }
     let three_tenths = Unit {
         mantissa: 3,
         exponent: -1,
     };
-    let found = scale(&read_decimal(b"2.5")?, &three_tenths, Farads::MOST as i128);
-    assert!(rt; found == Some(1));
+    assert!(rt; grains(&three_tenths, b"2.5") == Some(1));
     let least = Unit {
         mantissa: 9_999_999,
         exponent: -99,
     };
-    let number = read_decimal(b"123456789012345678901234567891e-99")?;
-    assert!(rt; scale(&number, &least, Farads::MOST as i128) == Some(0));
+    assert!(rt; grains(&least, b"123456789012345678901234567891e-99") == Some(0));
+    Ok(())
+}
+
+#[test]
+fn amounts_tell_each_case(rt: HostRuntime) -> Result<(), Fail> {
+    let one = Unit {
+        mantissa: 1,
+        exponent: 0,
+    };
+    assert!(rt; matches!(read_amount(&one, 9, b"x"), Amount::Unread));
+    assert!(rt; matches!(read_amount(&one, 9, b"-0.6"), Amount::Below));
+    assert!(rt; matches!(read_amount(&one, 9, b"-0.5"), Amount::Within(0)));
+    assert!(rt; matches!(read_amount(&one, 9, b"9.4"), Amount::Within(9)));
+    assert!(rt; matches!(read_amount(&one, 9, b"9.5"), Amount::Past));
+    assert!(rt; matches!(read_signed_amount(&one, 9, b"1e-100"), SignedAmount::Unread));
+    assert!(rt; matches!(read_signed_amount(&one, 9, b"-9.6"), SignedAmount::Below));
+    assert!(rt;
+        matches!(
+            read_signed_amount(&one, 9, b"-9.5"),
+            SignedAmount::Within(-9)
+        )
+    );
+    assert!(rt; matches!(read_signed_amount(&one, 9, b"10"), SignedAmount::Past));
+    assert!(rt; scale(&read_decimal(b"-9.5")?, &one, 9) == Some(-9));
+    assert!(rt; scale(&read_decimal(b"-9.6")?, &one, 9) == None);
     Ok(())
 }
 

@@ -14,5 +14,5 @@ returns-in_err-read_text-clause-fault c =
 
 pub loop-place-preserved : goal.loop-place-preserved
 loop-place-preserved c =
-    texts_more c.args.unit.now (attribute_at c.args.tree.now c.in-Some.attribute.0).values c.loop-place.place c.value.result.now c.bytes.result.now c.loop-place.readings.within c.loop-place.readings.values.items c.read_text.new.self.within c.read_text.new.self.values.items
+    texts_more c.args.unit.now (attribute_at c.args.tree.now c.in-Some.attribute.0).values c.loop-place.place c.value.result.now c.bytes.result.now c.loop-place.readings c.read_text.new.self
     c.value.ensures c.bytes.ensures c.loop-place.invariant c.in_ok-read_text.ensures.kept

@@ -1,6 +1,8 @@
 use Rattle.std.proofs.Common.{[], List, ℕ, IfOk, IfErr, unwrap_or, ap, subst}
 use Rattle.timing_arcs.specs.PinTable.{entries_in}
-use Rattle.timing_arcs.specs.DelayGroups.{names_in, related_names}
+use Rattle.token_texts.specs.Blanks.{is_blank}
+use Rattle.token_texts.specs.Pieces.{pieces_between}
+use Rattle.timing_arcs.specs.DelayGroups.{related_names}
 use Rattle.timing_arcs.specs.RelatedPins.{ArePlaces, IsUnrelated}
 use Rattle.timing_arcs.proofs.related_pins.related_places.Goals as goal
 
@@ -8,22 +10,22 @@ pub returns-in-Some-clause-ok : goal.returns-in-Some-clause-ok
 unfolding related_names
 returns-in-Some-clause-ok c =
     let e = ap (λ v. unwrap_or v []) c.in-Some.ensures in
-    subst (λ (text : List ℕ). IfOk c.places_in.result (λ places. ArePlaces (entries_in c.args.tree.now c.args.table.now.names c.args.table.now.groups.items) c.args.table.now.names (names_in text) places.items)) e c.places_in.ensures.ok
+    subst (λ (text : List ℕ). IfOk c.places_in.result (λ places. ArePlaces (entries_in c.args.tree.now c.args.table.now.names c.args.table.now.groups.items) c.args.table.now.names (pieces_between is_blank text) places.items)) e c.places_in.ensures.ok
 
 pub returns-in-Some-clause-err : goal.returns-in-Some-clause-err
 unfolding related_names
 returns-in-Some-clause-err c =
     let e = ap (λ v. unwrap_or v []) c.in-Some.ensures in
-    subst (λ (text : List ℕ). IfErr c.places_in.result (IsUnrelated (entries_in c.args.tree.now c.args.table.now.names c.args.table.now.groups.items) (names_in text))) e c.places_in.ensures.err
+    subst (λ (text : List ℕ). IfErr c.places_in.result (IsUnrelated (entries_in c.args.tree.now c.args.table.now.names c.args.table.now.groups.items) (pieces_between is_blank text))) e c.places_in.ensures.err
 
 pub returns-in-None-clause-ok : goal.returns-in-None-clause-ok
 unfolding related_names
 returns-in-None-clause-ok c =
     let e = ap (λ v. unwrap_or v []) c.in-None.ensures in
-    subst (λ (text : List ℕ). IfOk c.places_in-in-None.result (λ places. ArePlaces (entries_in c.args.tree.now c.args.table.now.names c.args.table.now.groups.items) c.args.table.now.names (names_in text) places.items)) e c.places_in-in-None.ensures.ok
+    subst (λ (text : List ℕ). IfOk c.places_in-in-None.result (λ places. ArePlaces (entries_in c.args.tree.now c.args.table.now.names c.args.table.now.groups.items) c.args.table.now.names (pieces_between is_blank text) places.items)) e c.places_in-in-None.ensures.ok
 
 pub returns-in-None-clause-err : goal.returns-in-None-clause-err
 unfolding related_names
 returns-in-None-clause-err c =
     let e = ap (λ v. unwrap_or v []) c.in-None.ensures in
-    subst (λ (text : List ℕ). IfErr c.places_in-in-None.result (IsUnrelated (entries_in c.args.tree.now c.args.table.now.names c.args.table.now.groups.items) (names_in text))) e c.places_in-in-None.ensures.err
+    subst (λ (text : List ℕ). IfErr c.places_in-in-None.result (IsUnrelated (entries_in c.args.tree.now c.args.table.now.names c.args.table.now.groups.items) (pieces_between is_blank text))) e c.places_in-in-None.ensures.err

@@ -1,7 +1,7 @@
 -- The product that fits is the reading.
 use Rattle.std.proofs.Common.{◌≡◌, ◌*◌, rules}
 use Rattle.delay_units.proofs.ShortLemmas.{short_product}
-use Rattle.delay_units.proofs.amounts.short_reading.Goals as goal
+use Rattle.delay_units.proofs.short_literals.short_reading.Goals as goal
 
 pub returns : goal.returns
 returns c =

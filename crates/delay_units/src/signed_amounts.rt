@@ -1,0 +1,86 @@
+//! The reading of a text as a value with a sign: in a unit, up to a bound in size.
+ghost use Rattle.std.specs.Prelude.{◌≡◌, ◌≤◌, ◌^◌, ℕ, List, pos, ◌≤ℤ◌, ◌<ℤ◌};
+ghost use Rattle.delay_units.specs.Reading.{ReadsAs};
+ghost use Rattle.delay_units.specs.SignedAmounts.{IsSignedAmountOf};
+ghost use Rattle.delay_units.specs.declared.signed_amounts.SignedAmount.TheVariants.{Below, Past};
+
+use crate::literal::read_decimal;
+use crate::numbers::{Decimal, Unit};
+use crate::readings::scale;
+use crate::short_literals::short_reading;
+
+/// What a text reads as in a unit, rounded half up to whole grains, up to a bound in size.
+#[derive(Clone, Copy)]
+pub enum SignedAmount {
+    /// No number that is read: no decimal literal, or one of more than 30 significant digits, or with an exponent past 99
+    /// in size.
+    Unread,
+    /// Less than 0, and past the bound in size.
+    Below,
+    /// Of the bound's size at most: so many grains.
+    Within(i128),
+    /// More than the bound.
+    Past,
+}
+
+/// What `text` reads as in `unit`, with a bound of `most` grains in size, which is at most 10^36. Each answer comes exactly
+/// where it is right.
+#[inline]
+#[tactic(auto, using(crate::proofs::SignedAmountLemmas::one_signed_amount))]
+pub fn read_signed_amount(unit: &Unit, most: u128, text: &[u8]) -> SignedAmount
+    requires { most ≤ 10 ^ 36 }
+    ensures amount { IsSignedAmountOf unit.now most text.now result }
+    ensures only { (other : SignedAmount) → IsSignedAmountOf unit.now most text.now other → other ≡ result }
+{
+    match short_reading(unit, text) {
+        Some(grains) => up_to(most, grains),
+        None => read_any_signed(unit, most, text),
+    }
+}
+
+/// What a reading of so many grains is.
+#[inline]
+fn up_to(most: u128, grains: u64) -> SignedAmount
+    ensures { (unit : Unit) (text : List ℕ) → ReadsAs unit text (pos grains) → IsSignedAmountOf unit most text result }
+{
+    if grains as u128 <= most {
+        SignedAmount::Within(grains as i128)
+    } else {
+        SignedAmount::Past
+    }
+}
+
+/// The bound, as a number with a sign.
+fn limit(most: u128) -> i128
+    requires { most ≤ 10 ^ 36 }
+    ensures { result ≡ pos most }
+{
+    most as i128
+}
+
+/// The same as [`read_signed_amount`], for each literal.
+#[tactic(auto, using(crate::proofs::SignedAmountLemmas::signed_unread))]
+pub fn read_any_signed(unit: &Unit, most: u128, text: &[u8]) -> SignedAmount
+    requires { most ≤ 10 ^ 36 }
+    ensures { IsSignedAmountOf unit.now most text.now result }
+{
+    let Ok(number) = read_decimal(text) else {
+        return SignedAmount::Unread;
+    };
+    match scale(&number, unit, limit(most)) {
+        Some(grains) => SignedAmount::Within(grains),
+        None => past_in_size(&number),
+    }
+}
+
+/// What a number reads as whose reading is past the bound in size.
+fn past_in_size(number: &Decimal) -> SignedAmount
+    ensures below { number.now.digits <ℤ pos 0 → result ≡ Below }
+    ensures above { pos 0 ≤ℤ number.now.digits → result ≡ Past }
+{
+    if number.digits < 0 {
+        SignedAmount::Below
+    } else {
+        SignedAmount::Past
+    }
+}
