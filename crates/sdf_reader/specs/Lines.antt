@@ -55,8 +55,11 @@ names_text from to = from ++ (codes " " ++ (to ++ codes " "))
 abbrev pub wire_line : List ℕ → List ℕ → Value → Value → List ℕ
 wire_line from to rise fall = codes "wire " ++ names_text from to ++ wire_values_text rise fall ++ 10 ∷ []
 
+abbrev pub path_names_text : List ℕ → List ℕ → List ℕ → List ℕ
+path_names_text instance from to = codes "path " ++ (instance_text instance ++ codes " ") ++ names_text from to
+
 abbrev pub path_line : List ℕ → List ℕ → List ℕ → Value → Value → List ℕ
-path_line instance from to rise fall = codes "path " ++ (instance_text instance ++ codes " ") ++ names_text from to ++ both_text rise fall ++ 10 ∷ []
+path_line instance from to rise fall = path_names_text instance from to ++ both_text rise fall ++ 10 ∷ []
 
 abbrev pub row_line : SdfRow → List ℕ
 row_line (Wire from to rise fall) = wire_line from to rise fall

@@ -2,7 +2,7 @@
 ghost use Rattle.edge_io.specs.Gathering.{Pushes};
 ghost use Rattle.edge_io.specs.Writing.{Writes};
 ghost use Rattle.std.specs.Prelude.{◌≡◌, ◌∷◌, ◌++◌, true, false, codes};
-ghost use Rattle.sdf_reader.specs.Lines.{member_text, is_single, members_text, value_text, instance_text, both_text, same_member, same_value, wire_values_text, names_text, wire_line, path_line, row_line, rows_text};
+ghost use Rattle.sdf_reader.specs.Lines.{member_text, is_single, members_text, value_text, instance_text, both_text, same_member, same_value, wire_values_text, names_text, wire_line, path_names_text, path_line, row_line, rows_text};
 
 use crate::rows::{SdfRow, SdfRows, Value};
 use crate::times::print_time;
@@ -135,6 +135,22 @@ fn print_wire<O: Sink>(
     Ok(())
 }
 
+/// The names of a path behind the word for it, each with a blank behind it.
+fn print_path_names<O: Sink>(
+    instance: &[u8],
+    from: &[u8],
+    to: &[u8],
+    sink: &mut O,
+) -> Result<(), Failed>
+    ensures writes { Writes (path_names_text instance.now from.now to.now)
+        (O.written sink.old) (O.written sink.new) (O.faults sink.old) (O.faults sink.new) result }
+{
+    write_all(sink, b"path ")?;
+    print_instance(instance, sink)?;
+    print_names(from, to, sink)?;
+    Ok(())
+}
+
 /// The line of a path.
 fn print_path<O: Sink>(
     instance: &[u8],
@@ -144,11 +160,10 @@ fn print_path<O: Sink>(
     fall: &Value,
     sink: &mut O,
 ) -> Result<(), Failed>
-    ensures writes { Writes (path_line instance.now from.now to.now rise.now fall.now) (O.written sink.old) (O.written sink.new) (O.faults sink.old) (O.faults sink.new) result }
+    ensures writes { Writes (path_line instance.now from.now to.now rise.now fall.now)
+        (O.written sink.old) (O.written sink.new) (O.faults sink.old) (O.faults sink.new) result }
 {
-    write_all(sink, b"path ")?;
-    print_instance(instance, sink)?;
-    print_names(from, to, sink)?;
+    print_path_names(instance, from, to, sink)?;
     print_both(rise, fall, sink)?;
     write_all(sink, b"\n")?;
     Ok(())

@@ -1,14 +1,15 @@
 //! The reader: takes one token after another, whole or not at all.
-ghost use Rattle.std.specs.Prelude.{◌≡◌, ℕ, ◌+◌, ◌<◌, ◌≤◌, ◌^◌, List, length, Option, IfOk, OnOk};
+ghost use Rattle.std.specs.Prelude.{◌≡◌, ℕ, ◌+◌, ◌<◌, ◌≤◌, ◌^◌, List, [], length, Option, Some, IfOk, OnOk};
+ghost use Rattle.name_table.specs.SdfNames.{canonical};
 ghost use Rattle.sdf_reader.specs.Rows.{within, row_in};
 ghost use Rattle.sdf_reader.specs.Numbers.{IsValue};
 ghost use Rattle.sdf_reader.specs.Sizes.{IsValueWithin};
 ghost use Rattle.sdf_reader.specs.Grammar.{instance_of};
 ghost use Rattle.sdf_reader.specs.Steps.{does};
-ghost use Rattle.sdf_reader.specs.Modes.{first_state, in_instance, begun, with_entry, with_value, with_rows, shallower, numbered_by, applied, finish, Decides};
+ghost use Rattle.sdf_reader.specs.Modes.{first_state, typed, in_instance, begun, from_name, to_name, with_entry, with_value, with_rows, shallower, numbered_by, applied, finish, Decides};
 ghost use Rattle.sdf_reader.specs.ReaderStates.{state_of, Steps};
 ghost use Rattle.token_texts.specs.Readings.{OnTaken};
-ghost use Rattle.sdf_reader.specs.Tokens.{cut_at};
+ghost use Rattle.sdf_reader.specs.Tokens.{cut_at, meaning};
 ghost use Rattle.sdf_reader.specs.Leading.{Leads, Stops, Makes, IsSound};
 ghost use Rattle.sdf_reader.specs.Within.{cut_within};
 ghost use Rattle.sdf_reader.specs.declared.rows.Value.{Value};
@@ -88,6 +89,15 @@ impl Reader {
         }
     }
 
+    /// Keeps the type of the cell.
+    fn name_type(&mut self, word: &[u8]) -> Result<(), OutOfMemory>
+        ensures state { OnOk result (state_of self.new ≡ typed (meaning word.now) (state_of self.old)) }
+    {
+        self.cell = meaning(self.alloc, word)?;
+        self.mode = Mode::TypeEnd;
+        Ok(())
+    }
+
     /// Keeps the instance of the cell.
     fn name_instance(&mut self, word: &[u8]) -> Result<(), OutOfMemory>
         ensures state { OnOk result (state_of self.new ≡ in_instance Mode.InstanceEnd (instance_of self.old.divider word.now) (state_of self.old)) }
@@ -102,6 +112,14 @@ impl Reader {
         Ok(())
     }
 
+    /// Keeps the instance of a cell that has none: the empty text.
+    fn leave_out_instance(&mut self)
+        ensures { state_of self.new ≡ in_instance Mode.Specs (Some []) (state_of self.old) }
+    {
+        self.instance = Some(Text::new(self.alloc));
+        self.mode = Mode::Specs;
+    }
+
     /// Begins an entry.
     fn begin(&mut self, shape: Shape)
         ensures { state_of self.new ≡ with_entry (Mode.From shape) (begun (state_of self.old).entry) (state_of self.old) }
@@ -110,6 +128,26 @@ impl Reader {
         self.rise = NO_VALUE;
         self.fall = NO_VALUE;
         self.mode = Mode::From(shape);
+    }
+
+    /// Keeps the name that the entry leads from.
+    fn name_from(&mut self, shape: Shape, word: &[u8]) -> Result<(), OutOfMemory>
+        ensures state { OnOk result (state_of self.new
+            ≡ with_entry (Mode.To shape) (from_name (canonical self.old.divider word.now) (state_of self.old).entry) (state_of self.old)) }
+    {
+        self.from = canonical_sdf(self.alloc, word, self.divider)?;
+        self.mode = Mode::To(shape);
+        Ok(())
+    }
+
+    /// Keeps the name that the entry leads to.
+    fn name_to(&mut self, shape: Shape, word: &[u8]) -> Result<(), OutOfMemory>
+        ensures state { OnOk result (state_of self.new
+            ≡ with_entry (Mode.FirstValue shape) (to_name (canonical self.old.divider word.now) (state_of self.old).entry) (state_of self.old)) }
+    {
+        self.to = canonical_sdf(self.alloc, word, self.divider)?;
+        self.mode = Mode::FirstValue(shape);
+        Ok(())
     }
 
     /// Keeps a value of the entry: the first is its rise, and its fall, unless there is a second. Others are not acted on.
@@ -233,24 +271,12 @@ impl Reader {
                 self.scale = scale;
                 self.mode = mode;
             }
-            Step::SetType => {
-                self.cell = meaning(self.alloc, bytes)?;
-                self.mode = Mode::TypeEnd;
-            }
+            Step::SetType => self.name_type(bytes)?,
             Step::Instance => self.name_instance(bytes)?,
-            Step::NoInstance => {
-                self.instance = Some(Text::new(self.alloc));
-                self.mode = Mode::Specs;
-            }
+            Step::NoInstance => self.leave_out_instance(),
             Step::Begin(shape) => self.begin(shape),
-            Step::From(shape) => {
-                self.from = canonical_sdf(self.alloc, bytes, self.divider)?;
-                self.mode = Mode::To(shape);
-            }
-            Step::To(shape) => {
-                self.to = canonical_sdf(self.alloc, bytes, self.divider)?;
-                self.mode = Mode::FirstValue(shape);
-            }
+            Step::From(shape) => self.name_from(shape, bytes)?,
+            Step::To(shape) => self.name_to(shape, bytes)?,
             Step::Empty(shape) => {
                 self.keep(NO_VALUE);
                 self.mode = Mode::Values(shape);
