@@ -1,4 +1,5 @@
 pub mod Amounts
+pub mod Bounds
 pub mod Literal
 pub mod Parts
 pub mod PlaceSteps

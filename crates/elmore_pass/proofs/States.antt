@@ -5,7 +5,8 @@ use Rattle.corner_set.specs.Places.{place, value_at}
 use Rattle.delay_units.specs.declared.quantities.Farads.{Farads}
 use Rattle.rc_tree.specs.Sums.{sum_below, one}
 use Rattle.rc_tree.specs.TreeSums.{gathered, farads_below, delay_of}
-use Rattle.rc_tree.specs.Arenas.{Arena, IsArena, node_count, parent_of, most_elements, most_ohms, most_load}
+use Rattle.delay_units.specs.Bounds.{most_ohms}
+use Rattle.rc_tree.specs.Arenas.{Arena, IsArena, node_count, parent_of, most_elements, most_load}
 use Rattle.rc_tree.proofs.Sums.{one-is, one-other}
 use Rattle.rc_tree.proofs.Passes.{gathered_none, gathered_step, gathered_most, delay_root, delay_step, delay_most}
 use Rattle.rc_tree.proofs.ArenaNets.{farads_read, arena_load, arena_down}

@@ -17,7 +17,8 @@ use Rattle.spef_text.specs.Heads.{HeadText, text_of}
 use Rattle.spef_nets.specs.Values.{triple_of, picked, IsAmount}
 use Rattle.spef_nets.specs.Nodes.{key_of, AreDistinctNodes}
 use Rattle.spef_nets.specs.Elements.{connections, capacitances, resistors}
-use Rattle.spef_nets.specs.NetElements.{NetElements, AreWhole, most_farads, most_ohms}
+use Rattle.delay_units.specs.Bounds.{most_farads, most_ohms}
+use Rattle.spef_nets.specs.NetElements.{NetElements, AreWhole}
 use Rattle.spef_nets.specs.Sections.{HasValue, HasLoad, HasGrains, listing, listing_of, key_at, ends_of, ends_at, IsNet}
 use Rattle.spef_nets.specs.declared.parts.Listed.{Listed}
 use Rattle.spef_nets.specs.declared.parts.Ends.{Ends}

@@ -6,7 +6,7 @@ use Rattle.corner_set.specs.Places.{place, HasRow, value_at}
 use Rattle.delay_units.specs.declared.quantities.Farads.{Farads}
 use Rattle.delay_units.specs.declared.quantities.Ohms.{Ohms}
 use Rattle.spef_nets.specs.NetElements.{NetElements as SectionElements}
-use Rattle.rc_tree.specs.Arenas.{most_farads, most_ohms}
+use Rattle.delay_units.specs.Bounds.{most_farads, most_ohms}
 use Rattle.rc_tree.specs.Values.{farads_at, ohms_at}
 use Rattle.rc_tree.specs.Sums.{sum_below, one}
 use Rattle.rc_tree.specs.Filling.{KeepsOhms, KeepsFarads}

@@ -6,7 +6,8 @@ use Rattle.corner_set.specs.Places.{place}
 use Rattle.delay_units.specs.declared.quantities.Farads.{Farads}
 use Rattle.delay_units.specs.declared.quantities.Ohms.{Ohms}
 use Rattle.spef_nets.specs.NetElements.{NetElements as SectionElements}
-use Rattle.rc_tree.specs.Arenas.{IsArena, most_farads, most_ohms}
+use Rattle.delay_units.specs.Bounds.{most_farads, most_ohms}
+use Rattle.rc_tree.specs.Arenas.{IsArena}
 use Rattle.rc_tree.specs.Pins.{Pins}
 use Rattle.rc_tree.specs.Values.{farads_at, ohms_at}
 use Rattle.rc_tree.specs.Sums.{sum_below, one}

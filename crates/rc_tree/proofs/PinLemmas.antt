@@ -7,7 +7,7 @@ use Rattle.corner_set.specs.Places.{HasRow}
 use Rattle.delay_units.specs.declared.quantities.Farads.{Farads}
 use Rattle.name_table.specs.declared.spef_names.NodeName.{NodeName}
 use Rattle.rc_tree.specs.Nodes.{node_of}
-use Rattle.rc_tree.specs.Arenas.{most_farads}
+use Rattle.delay_units.specs.Bounds.{most_farads}
 use Rattle.rc_tree.specs.Pins.{Pins, pin_nodes, row_of, AreSound}
 
 length-row_of : (count : ℕ) (values : List Farads) (row : ℕ) → HasRow count values row → length (row_of count values row) ≡ count

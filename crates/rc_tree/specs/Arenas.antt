@@ -1,6 +1,7 @@
 -- A tree as it is kept: its nodes numbered so that a parent comes before its children, the driver's first.
 use Rattle.std.specs.Prelude.{◌≡◌, ℕ, ◌+◌, ◌-◌, ◌*◌, ◌^◌, ◌<◌, ◌≤◌, ◌==◌, if◌then◌else◌, List, length, map, slice_index, Option, Some, None, All}
 use Rattle.std.specs.List.{range_with_len}
+use Rattle.delay_units.specs.Bounds.{most_farads, most_ohms}
 use Rattle.delay_units.specs.declared.quantities.Farads.{Farads}
 use Rattle.delay_units.specs.declared.quantities.Ohms.{Ohms}
 use Rattle.rc_tree.specs.NetElements.{NetElements}
@@ -41,13 +42,6 @@ arena_elements count arena number = record {
 -- how many resistors a net may have, and how many written capacitances and pins together
 abbrev pub most_elements : ℕ
 most_elements = 2 ^ 19
-
--- the largest resistance of one resistor, and the largest capacitance of one capacitor
-abbrev pub most_ohms : ℕ
-most_ohms = 10 ^ 14
-
-abbrev pub most_farads : ℕ
-most_farads = 10 ^ 12
 
 -- a written capacitance counts at two nodes at most
 abbrev pub most_load : ℕ

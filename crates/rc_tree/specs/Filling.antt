@@ -3,7 +3,8 @@ use Rattle.std.specs.Prelude.{◌≡◌, ◌≢◌, ℕ, ◌+◌, ◌*◌, ◌<�
 use Rattle.delay_units.specs.declared.quantities.Farads.{Farads}
 use Rattle.delay_units.specs.declared.quantities.Ohms.{Ohms}
 use Rattle.spef_nets.specs.NetElements.{NetElements as SectionElements}
-use Rattle.rc_tree.specs.Arenas.{most_elements, most_ohms, most_load}
+use Rattle.delay_units.specs.Bounds.{most_ohms}
+use Rattle.rc_tree.specs.Arenas.{most_elements, most_load}
 use Rattle.rc_tree.specs.Sums.{sum_below}
 use Rattle.rc_tree.specs.Pins.{Pins}
 use Rattle.rc_tree.specs.Values.{farads_at, ohms_at}

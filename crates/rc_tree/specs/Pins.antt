@@ -3,7 +3,7 @@ use Rattle.std.specs.Prelude.{◌≡◌, ◌≢◌, ℕ, ◌*◌, ◌≤◌, Lis
 use Rattle.delay_units.specs.declared.quantities.Farads.{Farads}
 use Rattle.name_table.specs.declared.spef_names.NodeName.{NodeName}
 use Rattle.rc_tree.specs.Nodes.{Node, node_of}
-use Rattle.rc_tree.specs.Arenas.{most_farads}
+use Rattle.delay_units.specs.Bounds.{most_farads}
 
 pub record Pins : Type 0 where
   pub driver : NodeName

@@ -1,7 +1,8 @@
 //! The values of a tree, corner by corner.
 ghost use Rattle.std.specs.Prelude.{◌≡◌, ℕ, ◌+◌, ◌*◌, ◌<◌, ◌≤◌, length, slice_index, slice_index_or, slice_set};
 ghost use Rattle.corner_set.specs.Places.{place, HasRow};
-ghost use Rattle.rc_tree.specs.Arenas.{most_elements, most_farads, most_ohms};
+ghost use Rattle.delay_units.specs.Bounds.{most_farads, most_ohms};
+ghost use Rattle.rc_tree.specs.Arenas.{most_elements};
 ghost use Rattle.rc_tree.specs.Values.{farads_at, ohms_at};
 ghost use Rattle.rc_tree.specs.Numbering.{section_farads, sink_farads};
 ghost use Rattle.rc_tree.specs.Filling.{KeepsOhms, KeepsFarads};

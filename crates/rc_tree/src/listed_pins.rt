@@ -2,7 +2,7 @@
 ghost use Rattle.std.specs.Prelude.{◌≡◌, ℕ, ◌+◌, ◌-◌, ◌^◌, ◌<◌, ◌≤◌, length, slice_get, slice_index, Some, IfOk};
 ghost use Rattle.corner_set.specs.Places.{value_at};
 ghost use Rattle.spef_nets.specs.NodeNames.{IsSdfAt};
-ghost use Rattle.rc_tree.specs.Arenas.{most_farads};
+ghost use Rattle.delay_units.specs.Bounds.{most_farads};
 ghost use Rattle.rc_tree.specs.ListedPins.{listed_pins, other_place};
 ghost use Rattle.rc_tree.specs.Pins.{pin_nodes};
 ghost use Rattle.rc_tree.specs.SectionNets.{AreListed};

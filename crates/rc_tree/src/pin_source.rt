@@ -2,7 +2,7 @@
 ghost use Rattle.std.specs.Prelude.{◌≡◌, ℕ, ◌+◌, ◌<◌, ◌≤◌, length, slice_index, ◌^◌, Some, IfOk};
 ghost use Rattle.corner_set.specs.Places.{value_at};
 ghost use Rattle.spef_nets.specs.NetElements.{NetElements as SectionElements};
-ghost use Rattle.rc_tree.specs.Arenas.{most_farads};
+ghost use Rattle.delay_units.specs.Bounds.{most_farads};
 ghost use Rattle.rc_tree.specs.Pins.{Pins};
 ghost use Rattle.rc_tree.specs.ListedPins.{listed_pins};
 ghost use Rattle.rc_tree.specs.Searched.{IsNumbered, IsNameAt, AreSinks};

@@ -1,7 +1,7 @@
 //! The pins of a net.
 ghost use Rattle.std.specs.Prelude.{◌≡◌, ℕ, ◌+◌, ◌<◌, ◌≤◌, [], ◌∷◌, ◌++◌, length, Some, All, Contains, OnOk, OnErr, IfOk, slice_get, slice_index};
 ghost use Rattle.corner_set.specs.Places.{HasRow, value_at};
-ghost use Rattle.rc_tree.specs.Arenas.{most_farads};
+ghost use Rattle.delay_units.specs.Bounds.{most_farads};
 ghost use Rattle.rc_tree.specs.Nodes.{node_of};
 ghost use Rattle.rc_tree.specs.Pins.{pin_nodes, row_of};
 ghost use Rattle.rc_tree.specs.Searched.{IsNumbered, IsNameAt, AreSinks};

@@ -1,7 +1,8 @@
 //! The tree of a net in an arena.
 ghost use Rattle.std.specs.Prelude.{◌≡◌, ◌+◌, ◌*◌, ◌<◌, ◌≤◌, length, slice_get, IfSome, Some};
 ghost use Rattle.corner_set.specs.Places.{value_at};
-ghost use Rattle.rc_tree.specs.Arenas.{IsArena, node_count, parent_at, arena_elements, most_load, most_ohms};
+ghost use Rattle.delay_units.specs.Bounds.{most_ohms};
+ghost use Rattle.rc_tree.specs.Arenas.{IsArena, node_count, parent_at, arena_elements, most_load};
 ghost use Rattle.rc_tree.specs.NetLoad.{net_load};
 
 use crate::node_ids::NodeId;

@@ -15,7 +15,8 @@ use Rattle.spef_text.specs.declared.entries.Res.{Res}
 use Rattle.spef_nets.specs.Values.{triple_of, AreGrains}
 use Rattle.spef_nets.specs.Nodes.{Key, node_at, nodes_at, belongs, has_head, is_among}
 use Rattle.spef_nets.specs.Elements.{Connection, Grounded, first_of_each, joint_at, places_of, grounded}
-use Rattle.spef_nets.specs.NetElements.{NetElements, most_farads}
+use Rattle.delay_units.specs.Bounds.{most_farads}
+use Rattle.spef_nets.specs.NetElements.{NetElements}
 use Rattle.spef_nets.specs.Sections.{Corners}
 use Rattle.spef_nets.specs.Faults.{Point, reference, coupling, amount, IsValueAt, IsGood, cap_points}
 use Rattle.spef_nets.specs.Refs.{Refs, Belongs, AreRefs, IsRef, Grows, conn_keys, res_keys}

@@ -15,7 +15,7 @@ use Rattle.spef_text.specs.declared.entries.Cap.{Cap}
 use Rattle.spef_text.specs.declared.entries.Res.{Res}
 use Rattle.spef_text.proofs.MapLemmas.{contains_at}
 use Rattle.spef_text.proofs.SectionOrder.{Between, ends_above, rising}
-use Rattle.spef_nets.specs.NetElements.{most_farads, most_ohms}
+use Rattle.delay_units.specs.Bounds.{most_farads, most_ohms}
 use Rattle.spef_nets.specs.Nodes.{net_at}
 use Rattle.spef_nets.specs.Faults.{Point, reference, naming, coupling, amount, is_later, load_points, conn_points, cap_points, res_points, points_of, IsFaultAt, IsGood, IsFirstFault, AreFaultless, IsFirstOfAll, IsSectionEnd, token_of, rank_of, HasFault, IsLeastFault}
 use Rattle.spef_nets.specs.declared.ends.SectionEnd.{SectionEnd}

@@ -12,7 +12,8 @@ use Rattle.spef_text.specs.declared.entries.Conn.{Conn}
 use Rattle.spef_nets.specs.Values.{triple_of, AreGrains}
 use Rattle.spef_nets.specs.Nodes.{Key, key_of, among, named, first_places}
 use Rattle.spef_nets.specs.Elements.{Connection, Grounded, Joint}
-use Rattle.spef_nets.specs.NetElements.{NetElements, most_farads, most_ohms}
+use Rattle.delay_units.specs.Bounds.{most_farads, most_ohms}
+use Rattle.spef_nets.specs.NetElements.{NetElements}
 use Rattle.spef_nets.specs.Sections.{Corners, HasLoad, HasGrains, listing, listing_of, key_at, ends_of, ends_at}
 use Rattle.spef_nets.specs.Refs.{Refs, AreRefs}
 use Rattle.spef_nets.specs.Drafts.{Drafted, FaradsOf, OhmsOf, PutsConn, PutsCap, PutsRes, element_nodes, AreKept}

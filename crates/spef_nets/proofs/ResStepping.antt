@@ -15,7 +15,8 @@ use Rattle.spef_text.specs.declared.entries.Res.{Res}
 use Rattle.spef_nets.specs.Values.{triple_of, AreGrains}
 use Rattle.spef_nets.specs.Nodes.{Key, node_at, net_at}
 use Rattle.spef_nets.specs.Elements.{Joint, first_of_each, joint_of, joint_at, grounded, connections, capacitances, resistors}
-use Rattle.spef_nets.specs.NetElements.{NetElements, AreWhole, most_ohms}
+use Rattle.delay_units.specs.Bounds.{most_ohms}
+use Rattle.spef_nets.specs.NetElements.{NetElements, AreWhole}
 use Rattle.spef_nets.specs.Sections.{Corners, IsNet}
 use Rattle.spef_nets.specs.Faults.{Point, reference, naming, amount, IsValueAt, IsGood, res_points, IsFaultless}
 use Rattle.spef_nets.specs.Refs.{AreRefs, IsRef, conn_keys, res_keys}

@@ -16,7 +16,8 @@ use Rattle.spef_text.specs.declared.entries.Conn.{Conn}
 use Rattle.spef_nets.specs.Values.{grains_at}
 use Rattle.spef_nets.specs.Nodes.{Key, key_of, among, node_at, nodes_at}
 use Rattle.spef_nets.specs.Elements.{Connection, connection_at, first_of_each}
-use Rattle.spef_nets.specs.NetElements.{NetElements, most_farads}
+use Rattle.delay_units.specs.Bounds.{most_farads}
+use Rattle.spef_nets.specs.NetElements.{NetElements}
 use Rattle.spef_nets.specs.Sections.{Corners, HasLoad}
 use Rattle.spef_nets.specs.Faults.{Point, reference, naming, coupling, amount, IsUnknownAt, IsValueAt, IsFaultAt, IsGood, IsFirstFault, is_later, load_points, points_of}
 use Rattle.spef_nets.specs.Refs.{Refs, Lists, Numbers, held, fresh, AreRefs, IsRef, Grows, conn_keys, res_keys}

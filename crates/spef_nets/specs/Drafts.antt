@@ -14,7 +14,8 @@ use Rattle.spef_text.specs.declared.entries.Res.{Res}
 use Rattle.spef_nets.specs.Values.{triple_of, AreGrains, grains_at}
 use Rattle.spef_nets.specs.Nodes.{Key, key_of, first_places, named, net_at}
 use Rattle.spef_nets.specs.Elements.{Connection, Grounded, Joint, connection_at, first_of_each, grounded, joint_at}
-use Rattle.spef_nets.specs.NetElements.{NetElements, most_farads, most_ohms}
+use Rattle.delay_units.specs.Bounds.{most_farads, most_ohms}
+use Rattle.spef_nets.specs.NetElements.{NetElements}
 use Rattle.spef_nets.specs.Sections.{Corners, HasValue, HasLoad, HasGrains, listing, listing_of, key_at, ends_of, ends_at}
 use Rattle.spef_nets.specs.Faults.{Point, reference, naming, IsGood, IsFirstFault, IsValueAt, conn_points, cap_points, res_points, points_of}
 use Rattle.spef_nets.specs.Refs.{Refs, no_refs, IsPut, Belongs, Joins, Numbers, IsRef, AreRefs, conn_keys, res_keys}

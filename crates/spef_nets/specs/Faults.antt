@@ -12,7 +12,7 @@ use Rattle.spef_text.specs.declared.entries.Res.{Res}
 use Rattle.spef_nets.specs.Values.{IsValueFault}
 use Rattle.spef_nets.specs.Nodes.{node_at, nodes_at, net_at, is_among}
 use Rattle.spef_nets.specs.Elements.{places_of}
-use Rattle.spef_nets.specs.NetElements.{most_farads, most_ohms}
+use Rattle.delay_units.specs.Bounds.{most_farads, most_ohms}
 use Rattle.spef_nets.specs.declared.amounts.AmountFault.TheVariants.{BadNumber as Bad, ValueTooLarge as Large}
 use Rattle.spef_nets.specs.declared.ends.SectionEnd.{SectionEnd}
 use Rattle.spef_nets.specs.declared.ends.SectionEnd.TheVariants.{UnknownIndex, BadNumber, ValueTooLarge, RepeatedNet, ForeignCoupling, OutOfMemory}

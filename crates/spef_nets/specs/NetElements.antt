@@ -1,5 +1,6 @@
 -- The elements of a net as a section keeps them: nodes by number, values row after row, and in each row by corner.
-use Rattle.std.specs.Prelude.{◌≡◌, ℕ, ◌*◌, ◌^◌, ◌<◌, ◌≤◌, List, length, map, All}
+use Rattle.std.specs.Prelude.{◌≡◌, ℕ, ◌*◌, ◌<◌, ◌≤◌, List, length, map, All}
+use Rattle.delay_units.specs.Bounds.{most_farads, most_ohms}
 use Rattle.delay_units.specs.declared.quantities.Farads.{Farads}
 use Rattle.delay_units.specs.declared.quantities.Ohms.{Ohms}
 use Rattle.name_table.specs.declared.spef_names.NodeName.{NodeName}
@@ -22,13 +23,6 @@ pub record NetElements : Type 0 where
   pub ohms : List Ohms
   -- how many capacitances are written
   pub written : ℕ
-
--- the most grains of one capacitance, and of one resistance
-abbrev pub most_farads : ℕ
-most_farads = 10 ^ 12
-
-abbrev pub most_ohms : ℕ
-most_ohms = 10 ^ 14
 
 -- each row has its values, each number is that of a node, no value is past its bound, no two nodes are one, and a written capacitance counts at two places at the most
 pub record AreWhole (count : ℕ) (net : NetElements) : Type 0 where

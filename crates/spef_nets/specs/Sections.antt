@@ -10,7 +10,8 @@ use Rattle.spef_text.specs.Heads.{HeadText, text_of}
 use Rattle.spef_nets.specs.Values.{triple_of, picked, IsAmount}
 use Rattle.spef_nets.specs.Nodes.{Key, key_of, net_at}
 use Rattle.spef_nets.specs.Elements.{Connection, Grounded, Joint, connections, capacitances, resistors, section_nodes}
-use Rattle.spef_nets.specs.NetElements.{NetElements, most_farads, most_ohms}
+use Rattle.delay_units.specs.Bounds.{most_farads, most_ohms}
+use Rattle.spef_nets.specs.NetElements.{NetElements}
 use Rattle.spef_nets.specs.declared.parts.Listed.{Listed}
 use Rattle.spef_nets.specs.declared.parts.Ends.{Ends}
 

@@ -1,7 +1,8 @@
 //! A net, wherever the names of its nodes are.
 ghost use Rattle.std.specs.Prelude.{◌≡◌, ◌+◌, ◌*◌, ◌<◌, ◌≤◌, length, slice_get, Some, IfOk};
 ghost use Rattle.corner_set.specs.Places.{value_at};
-ghost use Rattle.spef_nets.specs.NetElements.{NetElements, most_farads, most_ohms};
+ghost use Rattle.delay_units.specs.Bounds.{most_farads, most_ohms};
+ghost use Rattle.spef_nets.specs.NetElements.{NetElements};
 ghost use Rattle.spef_nets.specs.Nodes.{AreDistinctNodes};
 ghost use Rattle.spef_nets.specs.NodeNames.{IsSdfAt};
 

@@ -4,7 +4,7 @@ ghost use Rattle.spef_text.specs.Heads.{IsHeadOf, text_of};
 ghost use Rattle.spef_text.specs.Entries.{section_at};
 ghost use Rattle.spef_nets.specs.Values.{AreGrains, triple_of};
 ghost use Rattle.spef_nets.specs.Nodes.{named, net_at};
-ghost use Rattle.spef_nets.specs.NetElements.{most_farads, most_ohms};
+ghost use Rattle.delay_units.specs.Bounds.{most_farads, most_ohms};
 ghost use Rattle.spef_nets.specs.Faults.{IsUnknownAt, IsValueAt};
 ghost use Rattle.spef_nets.specs.NodeKeys.{IsKeyAt};
 ghost use Rattle.spef_nets.specs.RefsOf.{refs_of};
