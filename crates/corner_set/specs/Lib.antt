@@ -1,3 +1,4 @@
+pub mod Grids
 pub mod Places
 pub mod SoleCorner
 pub mod TripleCorners

@@ -7,7 +7,7 @@ use crate::pick::Pick;
 
 /// The corners of one run: conditions of process, voltage and temperature for which each delay is
 /// computed side by side. There are one or three of them, numbered from 0.
-pub trait CornerSet {
+pub trait CornerSet: Drop {
     /// Names a corner of the set.
     type Index: Copy;
 

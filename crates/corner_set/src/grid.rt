@@ -1,4 +1,4 @@
-ghost use Rattle.std.specs.Prelude.{◌≡◌, ℕ, ◌*◌, ◌≤◌, length, IfOk, Some, replicate, slice_set};
+ghost use Rattle.std.specs.Prelude.{◌≡◌, ℕ, ◌*◌, ◌≤◌, length, IfOk, Some, replicate, slice_set, vec_capacity};
 ghost use Rattle.corner_set.specs.Places.{place, HasRow, value_at};
 
 use crate::corner::CornerSet;
@@ -7,39 +7,32 @@ use std::alloc::Global;
 use std::marker::{Model, PhantomData};
 
 /// A value for each row and corner, all in one vector: rows one after another, and in each row the
-/// corners by number. A contract sees the list of these values.
+/// corners by number. A contract sees the list of these values, and how many rows fit without taking memory.
+#[derive(Drop)]
 pub struct Grid<C: CornerSet, T: Copy> {
     values: Vec<T>,
     rows: usize,
+    room: usize,
     corners: PhantomData<C>,
 }
 
-// A derived one would ask for `C: Drop`.
-impl<C: CornerSet, T: Copy> Drop for Grid<C, T> {
-    fn drop(self) {
-        let Grid {
-            values: _,
-            rows: _,
-            corners: _,
-        } = self;
-    }
-}
-
 impl<C: CornerSet, T: Copy> Model for Grid<C, T> {
-    ghost use Rattle.std.specs.Prelude.{◌≡◌, ◌*◌, List, length};
+    ghost use Rattle.std.specs.Prelude.{◌≡◌, ◌*◌, ◌≤◌, length, vec_capacity};
+    ghost use Rattle.corner_set.specs.Grids.{GridOf};
 
-    ghost Value = { List T };
+    ghost Value = { GridOf T };
 
-    ghost view = { λ grid. grid.values.items };
+    ghost view = { λ grid. record { values = grid.values.items; room = grid.room } };
 
-    ghost invariant = { λ grid. length grid.values.items ≡ grid.rows * C.COUNT };
+    ghost invariant = { λ grid. (length grid.values.items ≡ grid.rows * C.COUNT) × (grid.rows ≤ grid.room) × (grid.room * C.COUNT ≤ vec_capacity grid.values) };
 }
 
 impl<C: CornerSet, T: Copy> Grid<C, T> {
-    /// A grid of so many rows, with `fill` in each place. More places than a `usize` counts are out
-    /// of memory.
+    /// A grid of so many rows, with `fill` in each place, and room for no more. More places than a `usize`
+    /// counts are out of memory.
     pub fn with_rows(alloc: Global, rows: usize, fill: T) -> Result<Grid<C, T>, OutOfMemory>
-        ensures { IfOk result (λ grid. grid ≡ replicate (rows * C.COUNT) fill) }
+        ensures values { IfOk result (λ grid. grid.values ≡ replicate (rows * C.COUNT) fill) }
+        ensures room { IfOk result (λ grid. grid.room ≡ rows) }
     {
         let Some(places) = rows.checked_mul(C::COUNT) else {
             return Err(OutOfMemory);
@@ -47,46 +40,59 @@ impl<C: CornerSet, T: Copy> Grid<C, T> {
         Ok(Grid {
             values: filled(alloc, places, fill)?,
             rows,
+            room: rows,
             corners: PhantomData,
         })
     }
 
+    /// Makes it a grid of so many rows, with `fill` in each place. The rows are at most its room. It takes no memory.
+    pub fn reuse(&mut self, rows: usize, fill: T)
+        requires room { rows ≤ self.old.room }
+        ensures values { self.new.values ≡ replicate (rows * C.COUNT) fill }
+        ensures room { self.new.room ≡ self.old.room }
+    {
+        fill_within(&mut self.values, rows * C::COUNT, fill);
+        self.rows = rows;
+    }
+
     /// How many rows it has.
     pub fn rows(&self) -> usize
-        ensures { result * C.COUNT ≡ length self.now }
+        ensures { result * C.COUNT ≡ length self.now.values }
     {
         self.rows
     }
 
     /// How many rows it can hold without taking memory.
     pub fn room(&self) -> usize
-        ensures { length self.now ≤ result * C.COUNT }
+        ensures room { result ≡ self.now.room }
+        ensures fits { length self.now.values ≤ result * C.COUNT }
     {
-        self.values.capacity() / C::COUNT
+        self.room
     }
 
     /// All values, row after row, and in each row by corner.
     pub fn as_slice(&self) -> &[T]
-        ensures { result.now ≡ self.now }
+        ensures { result.now ≡ self.now.values }
     {
         self.values.as_slice()
     }
 
     /// The value of a row at a corner.
     pub fn get(&self, row: usize, index: C::Index) -> T
-        requires { HasRow C.COUNT self.now row }
-        ensures { value_at C.COUNT self.now row (C.number_of index) ≡ Some result }
+        requires { HasRow C.COUNT self.now.values row }
+        ensures { value_at C.COUNT self.now.values row (C.number_of index) ≡ Some result }
     {
         self.values[row * C::COUNT + C::number(index)]
     }
 
     /// Sets the value of a row at a corner, and leaves all other places as they were.
     pub fn set(&mut self, row: usize, index: C::Index, value: T)
-        requires { HasRow C.COUNT self.old row }
-        ensures written { self.new ≡ slice_set self.old (place C.COUNT row (C.number_of index)) value }
-        ensures held { value_at C.COUNT self.new row (C.number_of index) ≡ Some value }
+        requires { HasRow C.COUNT self.old.values row }
+        ensures written { self.new.values ≡ slice_set self.old.values (place C.COUNT row (C.number_of index)) value }
+        ensures held { value_at C.COUNT self.new.values row (C.number_of index) ≡ Some value }
         ensures others { (other : ℕ) (corner : C.Index) → ¬ ((other ≡ row) × (C.number_of corner ≡ C.number_of index)) →
-            value_at C.COUNT self.new other (C.number_of corner) ≡ value_at C.COUNT self.old other (C.number_of corner) }
+            value_at C.COUNT self.new.values other (C.number_of corner) ≡ value_at C.COUNT self.old.values other (C.number_of corner) }
+        ensures room { self.new.room ≡ self.old.room }
     {
         let values = &mut self.values;
         values[row * C::COUNT + C::number(index)] = value;
@@ -95,11 +101,21 @@ impl<C: CornerSet, T: Copy> Grid<C, T> {
 
 // So many copies of a value.
 fn filled<T: Copy>(alloc: Global, places: usize, fill: T) -> Result<Vec<T>, OutOfMemory>
-    ensures { IfOk result (λ values. values.items ≡ replicate places fill) }
+    ensures items { IfOk result (λ values. values.items ≡ replicate places fill) }
+    ensures room { IfOk result (λ values. places ≤ vec_capacity values) }
 {
     let mut values = Vec::with_capacity(alloc, places).map_err(|_| OutOfMemory)?;
-    for _ in 0..places {
-        values.push(fill).map_err(|_| OutOfMemory)?;
-    }
+    fill_within(&mut values, places, fill);
     Ok(values)
+}
+
+// Makes a list so many copies of a value, in the memory that it has.
+fn fill_within<T: Copy>(values: &mut Vec<T>, places: usize, fill: T)
+    requires { places ≤ vec_capacity values.old }
+    ensures items { values.new.items ≡ replicate places fill }
+    ensures room { vec_capacity values.old ≤ vec_capacity values.new }
+{
+    values.clear();
+    // There is room for them.
+    let _ = values.resize(places, fill);
 }

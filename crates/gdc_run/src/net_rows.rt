@@ -21,8 +21,8 @@ use verdict_phases::NoFileEnd;
 
 // Puts a time in the one place of a grid.
 fn put_delay(delay: &mut Grid<Single, Femto>, time: Femto)
-    requires { length delay.old ≡ 1 }
-    ensures { delay.new ≡ time ∷ [] }
+    requires { length delay.old.values ≡ 1 }
+    ensures { delay.new.values ≡ time ∷ [] }
 {
     delay.set(0, (), time);
 }
@@ -41,13 +41,13 @@ fn add_row<L: Ledger>(
     steps: &mut Steps<L>,
 ) -> Result<(), OutOfMemory>
     requires from { from.now ≡ (listed_pins 1 net.now pins.now.driver).driver.sdf }
-    requires one_row { length delay.old ≡ 1 }
+    requires one_row { length delay.old.values ≡ 1 }
     requires delays { HasDelays tree.now delays.now }
     requires sinks { length tree.now.sinks ≡ length (listed_pins 1 net.now pins.now.driver).sinks }
     requires within { sink < length (listed_pins 1 net.now pins.now.driver).sinks }
     requires fits { sink + 1 < 2 ^ 64 }
     ensures row { OnOk result (AddsRow (listed_pins 1 net.now pins.now.driver) tree.now sink rows.old rows.new) }
-    ensures one_row { length delay.new ≡ 1 }
+    ensures one_row { length delay.new.values ≡ 1 }
     ensures step { steps.new ≡ steps.old + 1 }
 {
     let elmore = delays.value(tree.sink(sink), (), steps);
@@ -69,11 +69,11 @@ fn add_rows<L: Ledger>(
     steps: &mut Steps<L>,
 ) -> Result<(), OutOfMemory>
     requires driver { pins.now.driver < length net.now.conns }
-    requires one_row { length delay.old ≡ 1 }
+    requires one_row { length delay.old.values ≡ 1 }
     requires delays { HasDelays tree.now delays.now }
     requires sinks { length tree.now.sinks ≡ length (listed_pins 1 net.now pins.now.driver).sinks }
     ensures rows { OnOk result (AddsRows (listed_pins 1 net.now pins.now.driver) tree.now (length (listed_pins 1 net.now pins.now.driver).sinks) rows.old rows.new) }
-    ensures one_row { length delay.new ≡ 1 }
+    ensures one_row { length delay.new.values ≡ 1 }
     ensures steps { steps.new ≤ steps.old + length (listed_pins 1 net.now pins.now.driver).sinks }
 {
     let driver = pins.driver_sdf(alloc, net)?;
@@ -167,10 +167,10 @@ pub fn add_net_rows<L: Ledger>(
     rows: &mut Rows<Single>,
     steps: &mut Steps<L>,
 ) -> Result<(), NoFileEnd<Refusal>>
-    requires one_row { length delay.old ≡ 1 }
+    requires one_row { length delay.old.values ≡ 1 }
     ensures rows { OnOk result (AddsNetRows net.now rows.old rows.new) }
     ensures refused { OnRefusal result (λ refusal. NetGives net.now (Err refusal)) }
-    ensures one_row { length delay.new ≡ 1 }
+    ensures one_row { length delay.new.values ≡ 1 }
     ensures steps { steps.new ≤ steps.old + most_steps net.now }
 {
     let driver = sole_driver(alloc, net)?;

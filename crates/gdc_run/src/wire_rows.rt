@@ -43,7 +43,7 @@ impl Model for WireRows {
 
     ghost view = { λ w. rows_so_far w.rows w.refused };
 
-    ghost invariant = { λ w. length w.delay ≡ 1 };
+    ghost invariant = { λ w. length w.delay.values ≡ 1 };
 }
 
 impl WireRows {

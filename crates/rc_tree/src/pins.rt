@@ -20,24 +20,13 @@ use std::marker::{Model, PhantomData};
 
 /// The driver of a net, and its sinks with their loads at each corner, in the order in which they are added. No two are one
 /// node. Contracts see these.
+#[derive(Drop)]
 pub struct PinLoads<C: CornerSet> {
     pub(crate) driver: NodeName,
     pub(crate) sinks: Vec<NodeName>,
     // row after row, and in each row by corner
     pub(crate) loads: Vec<Farads>,
     corners: PhantomData<C>,
-}
-
-// A derived one would ask for `C: Drop`.
-impl<C: CornerSet> Drop for PinLoads<C> {
-    fn drop(self) {
-        let PinLoads {
-            driver: _,
-            sinks: _,
-            loads: _,
-            corners: _,
-        } = self;
-    }
 }
 
 impl<C: CornerSet> Model for PinLoads<C> {
@@ -71,10 +60,10 @@ impl<C: CornerSet> PinLoads<C> {
         loads: &Grid<C, Farads>,
         row: usize,
     ) -> Result<(), OutOfMemory>
-        requires row { HasRow C.COUNT loads.now row }
+        requires row { HasRow C.COUNT loads.now.values row }
         requires other { ¬ Contains (pin_nodes self.old) (node_of sink) }
-        requires small { All (λ load. load.0 ≤ most_farads) (row_of C.COUNT loads.now row) }
-        ensures ok { OnOk result (self.new ≡ record { driver = self.old.driver; sinks = self.old.sinks ++ sink ∷ []; loads = self.old.loads ++ row_of C.COUNT loads.now row }) }
+        requires small { All (λ load. load.0 ≤ most_farads) (row_of C.COUNT loads.now.values row) }
+        ensures ok { OnOk result (self.new ≡ record { driver = self.old.driver; sinks = self.old.sinks ++ sink ∷ []; loads = self.old.loads ++ row_of C.COUNT loads.now.values row }) }
         ensures err { OnErr result (self.new ≡ self.old) }
     {
         let values = loads.as_slice();

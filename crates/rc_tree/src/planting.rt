@@ -55,13 +55,13 @@ fn fill_all<C: CornerSet, P: PinSource<C>, L: Ledger>(
     steps: &mut Steps<L>,
 )
     requires layout { IsLayout section.now (P.pins pins.now section.now) (layout_of layout.now) }
-    requires ohms_rows { length ohms.old ≡ length layout.now.parents.now * C.COUNT }
-    requires farads_rows { length farads.old ≡ length layout.now.parents.now * C.COUNT }
-    requires no_ohms { (row number : ℕ) → ohms_at C.COUNT ohms.old row number ≡ 0 }
-    requires no_farads { (row number : ℕ) → farads_at C.COUNT farads.old row number ≡ 0 }
-    ensures filled { (number : ℕ) → number < C.COUNT → IsFilled C.COUNT section.now (P.pins pins.now section.now) (layout_of layout.now) ohms.new farads.new number }
-    ensures ohms_size { length ohms.new ≡ length ohms.old }
-    ensures farads_size { length farads.new ≡ length farads.old }
+    requires ohms_rows { length ohms.old.values ≡ length layout.now.parents.now * C.COUNT }
+    requires farads_rows { length farads.old.values ≡ length layout.now.parents.now * C.COUNT }
+    requires no_ohms { (row number : ℕ) → ohms_at C.COUNT ohms.old.values row number ≡ 0 }
+    requires no_farads { (row number : ℕ) → farads_at C.COUNT farads.old.values row number ≡ 0 }
+    ensures filled { (number : ℕ) → number < C.COUNT → IsFilled C.COUNT section.now (P.pins pins.now section.now) (layout_of layout.now) ohms.new.values farads.new.values number }
+    ensures ohms_size { length ohms.new.values ≡ length ohms.old.values }
+    ensures farads_size { length farads.new.values ≡ length farads.old.values }
     ensures steps { steps.new + C.COUNT ≤ steps.old + C.COUNT * (length layout.now.parents.now + length section.now.caps) }
 {
     for number in 0..C::COUNT {
@@ -82,13 +82,13 @@ fn fill_corner<C: CornerSet, P: PinSource<C>, L: Ledger>(
     steps: &mut Steps<L>,
 )
     requires layout { IsLayout section.now (P.pins pins.now section.now) (layout_of layout.now) }
-    requires ohms_rows { length ohms.old ≡ length layout.now.parents.now * C.COUNT }
-    requires farads_rows { length farads.old ≡ length layout.now.parents.now * C.COUNT }
-    requires no_ohms { (row : ℕ) → ohms_at C.COUNT ohms.old row (C.number_of corner) ≡ 0 }
-    requires no_farads { (row : ℕ) → farads_at C.COUNT farads.old row (C.number_of corner) ≡ 0 }
-    ensures filled { IsFilled C.COUNT section.now (P.pins pins.now section.now) (layout_of layout.now) ohms.new farads.new (C.number_of corner) }
-    ensures ohms { KeepsOhms C.COUNT ohms.old ohms.new (C.number_of corner) }
-    ensures farads { KeepsFarads C.COUNT farads.old farads.new (C.number_of corner) }
+    requires ohms_rows { length ohms.old.values ≡ length layout.now.parents.now * C.COUNT }
+    requires farads_rows { length farads.old.values ≡ length layout.now.parents.now * C.COUNT }
+    requires no_ohms { (row : ℕ) → ohms_at C.COUNT ohms.old.values row (C.number_of corner) ≡ 0 }
+    requires no_farads { (row : ℕ) → farads_at C.COUNT farads.old.values row (C.number_of corner) ≡ 0 }
+    ensures filled { IsFilled C.COUNT section.now (P.pins pins.now section.now) (layout_of layout.now) ohms.new.values farads.new.values (C.number_of corner) }
+    ensures ohms { KeepsOhms C.COUNT ohms.old.values ohms.new.values (C.number_of corner) }
+    ensures farads { KeepsFarads C.COUNT farads.old.values farads.new.values (C.number_of corner) }
     ensures steps { steps.new + 1 ≤ steps.old + (length layout.now.parents.now + length section.now.caps) }
 {
     fill_ohms(section, layout.vias, corner, ohms, steps);

@@ -10,15 +10,9 @@ use std::marker::Model;
 use std::sync::ledger::Ledger;
 
 /// A number for each node and corner. Contracts see the list of them, node after node, and for each node by corner.
+#[derive(Drop)]
 pub struct Scratch<C: CornerSet> {
     values: Grid<C, u128>,
-}
-
-// A derived one would ask for `C: Drop`.
-impl<C: CornerSet> Drop for Scratch<C> {
-    fn drop(self) {
-        let Scratch { values: _ } = self;
-    }
 }
 
 impl<C: CornerSet> Model for Scratch<C> {
@@ -26,7 +20,7 @@ impl<C: CornerSet> Model for Scratch<C> {
 
     ghost Value = { List ℕ };
 
-    ghost view = { λ s. s.values };
+    ghost view = { λ s. s.values.values };
 }
 
 impl<C: CornerSet> Scratch<C> {

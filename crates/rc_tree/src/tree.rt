@@ -17,6 +17,7 @@ use std::sync::ledger::Ledger;
 ///
 /// There are at most 2^19 + 1 nodes. A resistance is at most 10^14, and at each corner the capacitances are at most
 /// 2^20 * 10^12 together.
+#[derive(Drop)]
 pub struct RcTree<C: CornerSet> {
     pub(crate) parents: Vec<u32>,
     pub(crate) ohms: Grid<C, Ohms>,
@@ -24,26 +25,14 @@ pub struct RcTree<C: CornerSet> {
     pub(crate) sinks: Vec<NodeId>,
 }
 
-// A derived one would ask for `C: Drop`.
-impl<C: CornerSet> Drop for RcTree<C> {
-    fn drop(self) {
-        let RcTree {
-            parents: _,
-            ohms: _,
-            farads: _,
-            sinks: _,
-        } = self;
-    }
-}
-
 impl<C: CornerSet> Model for RcTree<C> {
     ghost use Rattle.rc_tree.specs.Arenas.{Arena, IsArena};
 
     ghost Value = { Arena };
 
-    ghost view = { λ t. record { parents = t.parents.items; ohms = t.ohms; farads = t.farads; sinks = t.sinks.items } };
+    ghost view = { λ t. record { parents = t.parents.items; ohms = t.ohms.values; farads = t.farads.values; sinks = t.sinks.items } };
 
-    ghost invariant = { λ t. IsArena C.COUNT (record { parents = t.parents.items; ohms = t.ohms; farads = t.farads; sinks = t.sinks.items }) };
+    ghost invariant = { λ t. IsArena C.COUNT (record { parents = t.parents.items; ohms = t.ohms.values; farads = t.farads.values; sinks = t.sinks.items }) };
 }
 
 impl<C: CornerSet> RcTree<C> {

@@ -2,6 +2,8 @@
 use Rattle.std.specs.Prelude.{◌≡◌, ℕ, ◌+◌, ◌<◌, ◌≤◌, Bool, ◌&&◌, if◌then◌else◌, List, [], ◌∷◌, ◌++◌, map, length, get_or, take, drop, Option, Some, None, codes, ⊤}
 use Rattle.std.specs.List.{flat_map}
 use Rattle.std.specs.Str.{bytes_eq}
+use Rattle.std.proofs.Common.{Bor}
+use Rattle.corner_set.specs.Grids.{GridOf}
 use Rattle.delay_units.specs.declared.Femto.{Femto}
 use Rattle.sdf_writer.specs.Bounds.{AreWithin}
 use Rattle.sdf_writer.specs.SdfText.{PathRow, edge_text, path_line, cells_of, cell_opening, cell_closing, cell_lines, lines_text}
@@ -55,6 +57,11 @@ pub record ExtendsTimes (old new : List Femto) : Type 0 where
   pub more : List Femto
   pub is : new ≡ old ++ more
   pub within : AreWithin more
+
+-- the times of an edge
+abbrev pub edge_times : Option (Bor (GridOf Femto)) → Option (List Femto)
+edge_times None = None
+edge_times (Some grid) = Some grid.now.values
 
 -- one value a corner, or none
 abbrev pub IsEdge : ℕ → Option (List Femto) → Type 0

@@ -1,7 +1,6 @@
 //! The rows of paths through cells, as they are collected.
 ghost use Rattle.std.specs.Prelude.{◌≡◌, ◌-◌, ◌≤◌, [], ◌∷◌, ◌++◌, length, IsTrue, IfOk, OnOk, OnErr};
-ghost use Rattle.std.specs.Option.{option_copied};
-ghost use Rattle.sdf_writer.specs.PathRows.{cell_at, is_same, IsEdge, Extends, ExtendsTimes, KeepsEdge, KeepsCell, KeepsRow};
+ghost use Rattle.sdf_writer.specs.PathRows.{cell_at, is_same, IsEdge, edge_times, Extends, ExtendsTimes, KeepsEdge, KeepsCell, KeepsRow};
 
 use corner_set::{CornerSet, Grid};
 use delay_units::Femto;
@@ -10,6 +9,7 @@ use std::alloc::Global;
 use std::marker::{Model, PhantomData};
 
 // Contracts see the list of the rows.
+#[derive(Drop)]
 pub(crate) struct Paths<C: CornerSet> {
     // a cell once for the paths of it that were added one after another
     pub(crate) cells: Vec<Cell>,
@@ -17,18 +17,6 @@ pub(crate) struct Paths<C: CornerSet> {
     // the times of all edges, of each its corners by number
     pub(crate) times: Vec<Femto>,
     pub(crate) corners: PhantomData<C>,
-}
-
-// A derived one would ask for `C: Drop`.
-impl<C: CornerSet> Drop for Paths<C> {
-    fn drop(self) {
-        let Paths {
-            cells: _,
-            paths: _,
-            times: _,
-            corners: _,
-        } = self;
-    }
 }
 
 // The type of a cell, and its instance in the spelling of SDF.
@@ -84,9 +72,9 @@ impl<C: CornerSet> Paths<C> {
         rise: Option<&Grid<C, Femto>>,
         fall: Option<&Grid<C, Femto>>,
     ) -> Result<(), OutOfMemory>
-        requires rise { IsEdge C.COUNT (option_copied rise) }
-        requires fall { IsEdge C.COUNT (option_copied fall) }
-        ensures ok { OnOk result (self.new ≡ self.old ++ record { cell = cell.kind; instance = cell.instance; from = from; to = to; rise = option_copied rise.entry; fall = option_copied fall.entry } ∷ []) }
+        requires rise { IsEdge C.COUNT (edge_times rise) }
+        requires fall { IsEdge C.COUNT (edge_times fall) }
+        ensures ok { OnOk result (self.new ≡ self.old ++ record { cell = cell.kind; instance = cell.instance; from = from; to = to; rise = edge_times rise.entry; fall = edge_times fall.entry } ∷ []) }
         ensures err { OnErr result (self.new ≡ self.old) }
     {
         self.paths.reserve(1)?;
@@ -107,9 +95,9 @@ fn keep_path<C: CornerSet>(
     rise: Option<&Grid<C, Femto>>,
     fall: Option<&Grid<C, Femto>>,
 ) -> Result<Path, OutOfMemory>
-    requires rise { IsEdge C.COUNT (option_copied rise) }
-    requires fall { IsEdge C.COUNT (option_copied fall) }
-    ensures kept { IfOk result (KeepsRow C.COUNT cells.new.items times.new.items (record { cell = cell.kind; instance = cell.instance; from = from; to = to; rise = option_copied rise.entry; fall = option_copied fall.entry })) }
+    requires rise { IsEdge C.COUNT (edge_times rise) }
+    requires fall { IsEdge C.COUNT (edge_times fall) }
+    ensures kept { IfOk result (KeepsRow C.COUNT cells.new.items times.new.items (record { cell = cell.kind; instance = cell.instance; from = from; to = to; rise = edge_times rise.entry; fall = edge_times fall.entry })) }
     ensures cells { Extends cells.old.items cells.new.items }
     ensures times { ExtendsTimes times.old.items times.new.items }
 {
@@ -130,8 +118,8 @@ fn keep_edge<C: CornerSet>(
     times: &mut Vec<Femto>,
     edge: Option<&Grid<C, Femto>>,
 ) -> Result<Option<usize>, OutOfMemory>
-    requires { IsEdge C.COUNT (option_copied edge) }
-    ensures kept { IfOk result (KeepsEdge C.COUNT times.new.items (option_copied edge.entry)) }
+    requires { IsEdge C.COUNT (edge_times edge) }
+    ensures kept { IfOk result (KeepsEdge C.COUNT times.new.items (edge_times edge.entry)) }
     ensures times { ExtendsTimes times.old.items times.new.items }
 {
     match edge {

@@ -1,8 +1,7 @@
 //! The rows of one file, as they are collected.
 ghost use Rattle.std.specs.Prelude.{◌≡◌, [], ◌∷◌, ◌++◌, length, OnOk, OnErr};
-ghost use Rattle.std.specs.Option.{option_copied};
 ghost use Rattle.sdf_writer.specs.Bounds.{AreWithin};
-ghost use Rattle.sdf_writer.specs.PathRows.{IsEdge};
+ghost use Rattle.sdf_writer.specs.PathRows.{IsEdge, edge_times};
 
 use crate::paths::{Cell, Paths};
 use corner_set::{CornerSet, Grid};
@@ -13,24 +12,13 @@ use std::marker::Model;
 
 /// The rows of one SDF file: the name of the design, a row for each wire with its delay at each
 /// corner, and a row for each path through a cell with the delays of its rise and its fall. Contracts see these.
+#[derive(Drop)]
 pub struct Rows<C: CornerSet> {
     pub(crate) design: Text,
     pub(crate) wires: Vec<Wire>,
     // the delays of all wires one after another, of each its corners by number
     pub(crate) delays: Vec<Femto>,
     pub(crate) paths: Paths<C>,
-}
-
-// A derived one would ask for `C: Drop`.
-impl<C: CornerSet> Drop for Rows<C> {
-    fn drop(self) {
-        let Rows {
-            design: _,
-            wires: _,
-            delays: _,
-            paths: _,
-        } = self;
-    }
 }
 
 // The names of a wire's ends, in the spelling of SDF.
@@ -76,9 +64,9 @@ impl<C: CornerSet> Rows<C> {
         to: Text,
         delay: &Grid<C, Femto>,
     ) -> Result<(), OutOfMemory>
-        requires one_row { length delay.now ≡ C.COUNT }
-        requires within { AreWithin delay.now }
-        ensures ok { OnOk result (self.new ≡ record self.old { wires = self.old.wires ++ record { from = from; to = to; delay = delay.now } ∷ [] }) }
+        requires one_row { length delay.now.values ≡ C.COUNT }
+        requires within { AreWithin delay.now.values }
+        ensures ok { OnOk result (self.new ≡ record self.old { wires = self.old.wires ++ record { from = from; to = to; delay = delay.now.values } ∷ [] }) }
         ensures err { OnErr result (self.new ≡ self.old) }
     {
         self.wires.reserve(1)?;
@@ -102,9 +90,9 @@ impl<C: CornerSet> Rows<C> {
         rise: Option<&Grid<C, Femto>>,
         fall: Option<&Grid<C, Femto>>,
     ) -> Result<(), OutOfMemory>
-        requires rise { IsEdge C.COUNT (option_copied rise) }
-        requires fall { IsEdge C.COUNT (option_copied fall) }
-        ensures ok { OnOk result (self.new ≡ record self.old { paths = self.old.paths ++ record { cell = cell; instance = instance; from = from; to = to; rise = option_copied rise.entry; fall = option_copied fall.entry } ∷ [] }) }
+        requires rise { IsEdge C.COUNT (edge_times rise) }
+        requires fall { IsEdge C.COUNT (edge_times fall) }
+        ensures ok { OnOk result (self.new ≡ record self.old { paths = self.old.paths ++ record { cell = cell; instance = instance; from = from; to = to; rise = edge_times rise.entry; fall = edge_times fall.entry } ∷ [] }) }
         ensures err { OnErr result (self.new ≡ self.old) }
     {
         let cell = Cell {

@@ -19,23 +19,12 @@ use std::sync::ledger::Ledger;
 
 /// One net: its nodes, numbered from 0 by first place, its connections, its capacitances to ground and its resistors. Contracts see
 /// these. The names of the nodes are made when they are asked for.
+#[derive(Drop)]
 pub struct Net<'s, 'f, C: CornerSet> {
     pub(crate) net: &'s Text,
     pub(crate) names: NodeNames<'s, 'f>,
     pub(crate) elements: &'s Elements,
     pub(crate) corners: PhantomData<C>,
-}
-
-// A derived one would ask for `C: Drop`.
-impl<'s, 'f, C: CornerSet> Drop for Net<'s, 'f, C> {
-    fn drop(self) {
-        let Net {
-            net: _,
-            names: _,
-            elements: _,
-            corners: _,
-        } = self;
-    }
 }
 
 impl<'s, 'f, C: CornerSet> Model for Net<'s, 'f, C> {

@@ -19,23 +19,12 @@ use std::sync::ledger::Ledger;
 
 /// The elements of one net: its nodes, numbered from 0 by first place, its connections, its capacitances to ground and its
 /// resistors. Contracts see these.
+#[derive(Drop)]
 pub struct Section<C: CornerSet> {
     pub(crate) net: Text,
     pub(crate) nodes: Vec<NodeName>,
     pub(crate) elements: Elements,
     pub(crate) corners: PhantomData<C>,
-}
-
-// A derived one would ask for `C: Drop`.
-impl<C: CornerSet> Drop for Section<C> {
-    fn drop(self) {
-        let Section {
-            net: _,
-            nodes: _,
-            elements: _,
-            corners: _,
-        } = self;
-    }
 }
 
 impl<C: CornerSet> Model for Section<C> {

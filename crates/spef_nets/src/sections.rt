@@ -9,20 +9,11 @@ use name_table::Names;
 use std::marker::Model;
 
 /// The nets of a file, one for each section, in the file's order. Contracts see the list of them.
+#[derive(Drop)]
 pub struct Sections<C: CornerSet> {
     pub(crate) sections: Vec<Section<C>>,
     // the names of the nets, each numbered by its section's place
     pub(crate) nets: Names,
-}
-
-// A derived one would ask for `C: Drop`.
-impl<C: CornerSet> Drop for Sections<C> {
-    fn drop(self) {
-        let Sections {
-            sections: _,
-            nets: _,
-        } = self;
-    }
 }
 
 impl<C: CornerSet> Model for Sections<C> {

@@ -12,23 +12,12 @@ use std::marker::{Model, PhantomData};
 
 /// The elements of one net as its section was read: the names of its nodes stand in the file alone. Contracts see what they see of a
 /// [`Section`].
+#[derive(Drop)]
 pub struct SpelledSection<'r, 'f, C: CornerSet> {
     pub(crate) net: Text,
     pub(crate) nodes: NodeTokens<'r, 'f>,
     pub(crate) elements: Elements,
     pub(crate) corners: PhantomData<C>,
-}
-
-// A derived one would ask for `C: Drop`.
-impl<'r, 'f, C: CornerSet> Drop for SpelledSection<'r, 'f, C> {
-    fn drop(self) {
-        let SpelledSection {
-            net: _,
-            nodes: _,
-            elements: _,
-            corners: _,
-        } = self;
-    }
 }
 
 impl<'r, 'f, C: CornerSet> Model for SpelledSection<'r, 'f, C> {

@@ -9,19 +9,10 @@ use std::marker::{Model, PhantomData};
 
 /// The timing models of one cell, one at each corner. Contracts see the list of them, by the numbers of the corners: all have
 /// one shape.
+#[derive(Drop)]
 pub struct CellSet<C: CornerSet> {
     cells: Vec<Cell>,
     corners: PhantomData<C>,
-}
-
-// A derived one would ask for `C: Drop`.
-impl<C: CornerSet> Drop for CellSet<C> {
-    fn drop(self) {
-        let CellSet {
-            cells: _,
-            corners: _,
-        } = self;
-    }
 }
 
 impl<C: CornerSet> Model for CellSet<C> {

@@ -14,16 +14,10 @@ use std::marker::Model;
 const MOST_NAMES: usize = 1 << 30;
 
 // A cell with its name.
+#[derive(Drop)]
 struct NamedSet<C: CornerSet> {
     name: Text,
     set: CellSet<C>,
-}
-
-// A derived one would ask for `C: Drop`.
-impl<C: CornerSet> Drop for NamedSet<C> {
-    fn drop(self) {
-        let NamedSet { name: _, set: _ } = self;
-    }
 }
 
 impl<C: CornerSet> Model for NamedSet<C> {
@@ -35,22 +29,12 @@ impl<C: CornerSet> Model for NamedSet<C> {
 }
 
 /// Cells by their names, in the order in which they are added. Contracts see the list of them, each with its name.
+#[derive(Drop)]
 pub struct CellSets<C: CornerSet> {
     sets: Vec<NamedSet<C>>,
     // the names, each numbered by the place of its cell
     names: Names,
     alloc: Global,
-}
-
-// A derived one would ask for `C: Drop`.
-impl<C: CornerSet> Drop for CellSets<C> {
-    fn drop(self) {
-        let CellSets {
-            sets: _,
-            names: _,
-            alloc: _,
-        } = self;
-    }
 }
 
 impl<C: CornerSet> Model for CellSets<C> {

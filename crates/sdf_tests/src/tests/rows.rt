@@ -1,7 +1,7 @@
 //! Rows of wires and of paths.
-ghost use Rattle.std.specs.Prelude.{◌≡◌, ◌≤◌, ◌^◌, unsigned_abs, length, option_copied, IfOk};
+ghost use Rattle.std.specs.Prelude.{◌≡◌, ◌≤◌, ◌^◌, unsigned_abs, length, IfOk};
 ghost use Rattle.sdf_writer.specs.Bounds.{AreWithin};
-ghost use Rattle.sdf_writer.specs.PathRows.{IsEdge};
+ghost use Rattle.sdf_writer.specs.PathRows.{IsEdge, edge_times};
 
 use corner_set::{Grid, Single};
 use delay_units::Femto;
@@ -12,7 +12,7 @@ use std::alloc::Global;
 /// One row with this time.
 pub fn row_of(alloc: Global, femtoseconds: i128) -> Result<Grid<Single, Femto>, OutOfMemory>
     requires { unsigned_abs femtoseconds ≤ 10 ^ 27 }
-    ensures { IfOk result (λ grid. (length grid ≡ 1) × AreWithin grid) }
+    ensures { IfOk result (λ grid. (length grid.values ≡ 1) × AreWithin grid.values) }
 {
     Grid::<Single, Femto>::with_rows(alloc, 1, Femto(femtoseconds))
 }
@@ -65,8 +65,8 @@ pub fn add_path(
     rise: Option<&Grid<Single, Femto>>,
     fall: Option<&Grid<Single, Femto>>,
 ) -> Result<(), OutOfMemory>
-    requires rise { IsEdge 1 (option_copied rise) }
-    requires fall { IsEdge 1 (option_copied fall) }
+    requires rise { IsEdge 1 (edge_times rise) }
+    requires fall { IsEdge 1 (edge_times fall) }
 {
     let cell = Text::from_bytes(alloc, names.cell)?;
     let instance = Text::from_bytes(alloc, names.instance)?;

@@ -3,4 +3,4 @@ use Rattle.gdc_run.proofs.Places.{sole_set}
 use Rattle.gdc_run.proofs.net_rows.put_delay.Goals as goal
 
 pub returns : goal.returns
-returns c = c.set.ensures.written ∙ sole_set c.args.delay.now c.args.time c.requires
+returns c = c.set.ensures.written ∙ sole_set c.args.delay.now.values c.args.time c.requires

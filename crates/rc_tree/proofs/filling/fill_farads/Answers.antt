@@ -13,7 +13,7 @@ loop-place-preserved g c =
     let node_is = get_or_from_slice_get c.args.section.now.caps c.loop-place.place c.cap-node.result.0 0 c.cap-node.ensures.node in
     record {
       state = adding_step g.C.CornerSet.COUNT number (λ q. slice_index c.args.spots.now (slice_index c.args.section.now.caps q)) (λ q. farads_at g.C.CornerSet.COUNT c.args.section.now.farads q number)
-          c.args.farads.now c.loop-place.farads c.add_farads.new.farads c.loop-place.place (slice_index c.args.spots.now c.cap-node.result.0) c.cap-node.result.1.0 (g.met.C.CornerSet.number_below c.args.corner)
+          c.args.farads.now.values c.loop-place.farads.values c.add_farads.new.farads.values c.loop-place.place (slice_index c.args.spots.now c.cap-node.result.0) c.cap-node.result.1.0 (g.met.C.CornerSet.number_below c.args.corner)
           (c.requires.spots c.cap-node.result.0 (omega (arith, c.cap-node.ensures.within, c.requires.spots_len))) (ap (slice_index c.args.spots.now) (sym node_is)) (sym (farads_read g.C.CornerSet.COUNT c.args.section.now.farads c.loop-place.place number c.cap-node.result.1 c.cap-node.ensures.value)) c.cap-node.ensures.most
           c.add_farads.ensures c.loop-place.invariant.state;
       within = λ q below. elim (cases_eq q c.loop-place.place) [

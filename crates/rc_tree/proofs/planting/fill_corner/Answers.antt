@@ -9,8 +9,8 @@ returns-clause-filled g c =
     let count = g.C.CornerSet.COUNT in
     let number = g.C.CornerSet.number_of c.args.corner in
     let n = length c.args.layout.now.parents.now in
-    filled_corner count c.args.section.now (g.P.PinSource.pins c.args.pins.now c.args.section.now) (layout_of c.args.layout.now) c.fill_ohms.new.ohms c.fill_farads.new.farads c.fill_loads.new.farads number c.requires.layout
-    (subst (λ s. CornerFacts count c.args.section.now (g.P.PinSource.pins c.args.pins.now c.args.section.now) n c.args.layout.now.vias.now c.args.layout.now.spots.now s c.fill_ohms.new.ohms c.fill_farads.new.farads c.fill_loads.new.farads number) c.deref.ensures.value
+    filled_corner count c.args.section.now (g.P.PinSource.pins c.args.pins.now c.args.section.now) (layout_of c.args.layout.now) c.fill_ohms.new.ohms.values c.fill_farads.new.farads.values c.fill_loads.new.farads.values number c.requires.layout
+    (subst (λ s. CornerFacts count c.args.section.now (g.P.PinSource.pins c.args.pins.now c.args.section.now) n c.args.layout.now.vias.now c.args.layout.now.spots.now s c.fill_ohms.new.ohms.values c.fill_farads.new.farads.values c.fill_loads.new.farads.values number) c.deref.ensures.value
     (record {
       root = c.fill_ohms.ensures.root ∙ c.requires.no_ohms 0;
       links = c.fill_ohms.ensures.links;

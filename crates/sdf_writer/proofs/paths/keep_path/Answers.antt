@@ -1,5 +1,5 @@
 -- The times of the rise stay where those of the fall are put behind them.
-use Rattle.std.specs.Option.{option_copied}
+use Rattle.sdf_writer.specs.PathRows.{edge_times}
 use Rattle.sdf_writer.proofs.Keeping.{times_then, edge_later, row_kept}
 use Rattle.sdf_writer.proofs.paths.keep_path.Goals as goal
 
@@ -14,5 +14,5 @@ returns-clause-times g c = times_then c.keep_edge.ensures.times c.keep_edge-2.en
 
 pub returns-clause-kept : goal.returns-clause-kept
 returns-clause-kept g c =
-    row_kept g.C.CornerSet.COUNT c.keep_cell.new.cells.items c.keep_edge-2.new.times.items c.args.cell _ (option_copied c.args.rise) (option_copied c.args.fall)
+    row_kept g.C.CornerSet.COUNT c.keep_cell.new.cells.items c.keep_edge-2.new.times.items c.args.cell _ (edge_times c.args.rise) (edge_times c.args.fall)
     c.in_ok-cell.ensures.kept (edge_later c.keep_edge-2.ensures.times c.in_ok-rise.ensures.kept) c.in_ok-fall.ensures.kept

@@ -12,8 +12,8 @@ same_row count one two row values loads is_one is_two is =
 -- src/pins.rt
 pub invariant_of-self : goal.invariant_of-self
 invariant_of-self g c =
-    sound_after c.push_both.result g.C.CornerSet.COUNT (record { driver = c.self.inside.driver; sinks = c.self.inside.sinks.items; loads = c.self.inside.loads.items }) c.args.sink c.args.loads.now c.args.row
+    sound_after c.push_both.result g.C.CornerSet.COUNT (record { driver = c.self.inside.driver; sinks = c.self.inside.sinks.items; loads = c.self.inside.loads.items }) c.args.sink c.args.loads.now.values c.args.row
     c.self.invariant c.requires.row (subst (λ p. Contains (pin_nodes p) (node_of c.args.sink) → ⊥) (sym c.self.view_is) c.requires.other) c.requires.small
     c.push_both.new.sinks.items c.push_both.new.loads.items c.push_both.ensures.sinks
-    (subst (λ r. OnOk c.push_both.result (c.push_both.new.loads.items ≡ c.self.inside.loads.items ++ r)) (same_row g.C.CornerSet.COUNT c.COUNT.result c.COUNT-2.result c.args.row c.as_slice-values.result.now c.args.loads.now c.COUNT.ensures c.COUNT-2.ensures c.as_slice-values.ensures) c.push_both.ensures.loads)
+    (subst (λ r. OnOk c.push_both.result (c.push_both.new.loads.items ≡ c.self.inside.loads.items ++ r)) (same_row g.C.CornerSet.COUNT c.COUNT.result c.COUNT-2.result c.args.row c.as_slice-values.result.now c.args.loads.now.values c.COUNT.ensures c.COUNT-2.ensures c.as_slice-values.ensures) c.push_both.ensures.loads)
     c.push_both.ensures.err_sinks c.push_both.ensures.err_loads

@@ -9,7 +9,7 @@ invariant_of-self-2 g c =
     let wires = pushed ∙ ap (λ ws. ws ++ record { from = c.args.from; to = c.args.to } ∷ []) c.reserve.ensures.items in
     let more = c.in_ok-extend_from_slice.ensures.items in (
       added_sizes g.C.CornerSet.COUNT c.self.inside.wires.items c.self.inside.delays.items (record { from = c.args.from; to = c.args.to }) wires more c.as_slice.ensures c.self.invariant.0 c.requires.one_row,
-      rw (more, c.as_slice.ensures) (within_append c.self.inside.delays.items c.args.delay.now c.self.invariant.1 c.requires.within),
+      rw (more, c.as_slice.ensures) (within_append c.self.inside.delays.items c.args.delay.now.values c.self.invariant.1 c.requires.within),
     )
 
 pub returns-clause-ok : goal.returns-clause-ok
