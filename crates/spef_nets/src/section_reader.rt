@@ -1,5 +1,5 @@
 //! The sections of a file, one after another.
-ghost use Rattle.std.specs.Prelude.{◌≡◌, ◌⊎◌, ◌<◌, [], ◌∷◌, ◌++◌, length, Contains, IfOk, IfErr, OnOk, OnErr};
+ghost use Rattle.std.specs.Prelude.{◌≡◌, ◌⊎◌, ◌^◌, ◌<◌, [], ◌∷◌, ◌++◌, length, Contains, IfOk, IfErr, OnOk, OnErr};
 ghost use Rattle.spef_text.specs.Heads.{IsHeadOf};
 ghost use Rattle.spef_text.specs.Entries.{section_at};
 ghost use Rattle.spef_nets.specs.Sections.{Corners, IsNet};
@@ -17,9 +17,6 @@ use name_table::Names;
 use spef_text::{Head, SpefFile};
 use std::alloc::Global;
 use std::marker::Model;
-
-/// A table of names holds no more; a file of less than 2^30 bytes has fewer sections.
-const MOST_NETS: usize = 1 << 30;
 
 /// Reads the sections of a file one after another, so that each can be let go of before the next is read. Contracts see the file, its
 /// head, which member of a triple counts, and the names of the nets whose sections have been read.
@@ -56,13 +53,11 @@ fn new_net(nets: &Names, net: Text, token: u64) -> Result<Text, SectionEnd>
 
 // Numbers a net by its section's place.
 fn put_net(nets: &mut Names, net: &Text) -> Result<(), OutOfMemory>
-    requires { ¬ Contains nets.old net.now }
+    requires new { ¬ Contains nets.old net.now }
+    requires room { length nets.old < 2 ^ 30 }
     ensures put { OnOk result (nets.new ≡ nets.old ++ net.now ∷ []) }
     ensures same { OnErr result (nets.new ≡ nets.old) }
 {
-    if nets.len() >= MOST_NETS {
-        return Err(OutOfMemory);
-    }
     match nets.intern(net.bytes()) {
         Ok(_) => Ok(()),
         Err(_) => Err(OutOfMemory),
@@ -77,6 +72,7 @@ fn read_behind<'r, 'f, C: CornerSet>(
 ) -> Result<SpelledSection<'r, 'f, C>, SectionEnd>
     requires reading { IsReading (record { file = source.now.file.now; head = source.now.head.now; pick = source.now.pick; nets = nets.old }) }
     requires left { length nets.old < length source.now.file.now.reading.sections }
+    requires few { length source.now.file.now.reading.sections < 2 ^ 30 }
     ensures ok { IfOk result (IsNet (corners_of C.COUNT C.number_of C.member_of source.now.pick) source.now.file.now source.now.head.now (section_at source.now.file.now.reading.sections (length nets.old))) }
     ensures put { IfOk result (λ section. nets.new ≡ nets.old ++ section.net ∷ []) }
     ensures reading { OnOk result (IsReading (record { file = source.now.file.now; head = source.now.head.now; pick = source.now.pick; nets = nets.new })) }

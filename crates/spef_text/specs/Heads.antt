@@ -19,9 +19,9 @@ pub record HeadText : Type 0 where
   -- the digits of the map's indices, in the order of its entries
   pub indices : List (List ℕ)
 
--- the text of a token, which counts from 1
+-- the text of a token, which counts from 1; no text is that of a number of none
 abbrev pub text_of : SpefText → ℕ → List ℕ
-text_of file number = slice_index_or file.texts (number - 1) []
+text_of file number = if number == 0 then [] else slice_index_or file.texts (number - 1) []
 
 -- a text without the quotes round it
 abbrev pub unquoted : List ℕ → List ℕ

@@ -1,5 +1,5 @@
 -- What the bytes of a SPEF file (IEEE 1481) say, and the token at which bytes are none.
-use Rattle.std.specs.Prelude.{◌≡◌, ℕ, ◌-◌, Bool, true, false, List, slice_get, Option, Some, ⊤}
+use Rattle.std.specs.Prelude.{◌≡◌, ℕ, ◌-◌, ◌^◌, ◌<◌, Bool, true, false, List, length, slice_get, Option, Some, ⊤}
 use Rattle.token_fronts.specs.Tokens.{numbered}
 use Rattle.token_fronts.specs.Reading.{Says, Leaves}
 use Rattle.spef_text.specs.Tokens.{AreTokens, IsToken}
@@ -27,6 +27,11 @@ pub record SpefText : Type 0 where
 -- what the file says is what its tokens say by the grammar
 abbrev pub IsFormed : SpefText → Type 0
 IsFormed file = IsSpef (numbered 1 file.texts) file.reading
+
+-- what is kept of a file: it says what its tokens say, and they are fewer than 2^30
+pub record IsKept (file : SpefText) : Type 0 where
+  pub formed : IsFormed file
+  pub few : length file.texts < 2 ^ 30
 
 -- the file is these bytes' tokens, and what they say
 pub record Reads (bytes : List ℕ) (file : SpefText) : Type 0 where

@@ -1,8 +1,8 @@
 //! A SPEF file that has been read.
-ghost use Rattle.std.specs.Prelude.{◌≡◌, ◌-◌, ◌<◌, ◌≤◌, length, slice_get, Some};
+ghost use Rattle.std.specs.Prelude.{◌≡◌, ◌-◌, ◌^◌, ◌<◌, ◌≤◌, length, slice_get, Some};
 ghost use Rattle.spef_text.specs.Spans.{texts};
 ghost use Rattle.spef_text.specs.Entries.{section_at};
-ghost use Rattle.spef_text.specs.SpefFiles.{SpefText, IsFormed};
+ghost use Rattle.spef_text.specs.SpefFiles.{SpefText, IsFormed, IsKept};
 
 use crate::entries::{Cap, Conn, Res};
 use crate::head_items::HeadItems;
@@ -24,8 +24,8 @@ impl<'a> Model for SpefFile<'a> {
 
     ghost view = { λ f. record { texts = texts f.bytes.now f.spans.items; reading = record { head = f.head; sections = f.sections.done } } };
 
-    // what is kept is what the tokens say
-    ghost invariant = { λ f. IsFormed (record { texts = texts f.bytes.now f.spans.items; reading = record { head = f.head; sections = f.sections.done } }) };
+    // what is kept is what the tokens say, and they are few
+    ghost invariant = { λ f. IsKept (record { texts = texts f.bytes.now f.spans.items; reading = record { head = f.head; sections = f.sections.done } }) };
 }
 
 impl<'a> SpefFile<'a> {
@@ -38,10 +38,12 @@ impl<'a> SpefFile<'a> {
         self.spans[t as usize - 1].of(self.bytes)
     }
 
-    /// The law of files, which its contract states: a file says what its tokens say by the grammar. It does nothing when it is
-    /// called.
+    /// The law of files, which its contract states: a file says what its tokens say by the grammar, has fewer than 2^30 of them,
+    /// and no more sections. It does nothing when it is called.
     pub fn formed(&self)
-        ensures { IsFormed self.now }
+        ensures formed { IsFormed self.now }
+        ensures few { length self.now.texts < 2 ^ 30 }
+        ensures sections { length self.now.reading.sections ≤ length self.now.texts }
     {
         let _ = &self.bytes;
     }

@@ -9,7 +9,10 @@ impl<'a> SpefFile<'a> {
     pub fn text_of(&self, number: u64) -> &[u8]
         ensures { result.now ≡ text_of self.now number }
     {
-        match self.spans.get((number as usize).saturating_sub(1)) {
+        if number == 0 {
+            return &[];
+        }
+        match self.spans.get(number as usize - 1) {
             Some(span) => span.of(self.bytes),
             None => &[],
         }

@@ -1,5 +1,5 @@
 //! The indices of the name map.
-ghost use Rattle.std.specs.Prelude.{◌≡◌, ◌++◌, ◌∷◌, [], true, false, Contains, IfOk, IfErr, OnOk};
+ghost use Rattle.std.specs.Prelude.{◌≡◌, ◌^◌, ◌<◌, ◌++◌, ◌∷◌, [], true, false, length, Contains, IfOk, IfErr, OnOk};
 ghost use Rattle.name_table.specs.Names.{AreDistinct};
 ghost use Rattle.spef_text.specs.Heads.{indices_of, IsRepeat};
 
@@ -9,9 +9,6 @@ use crate::head_ends::HeadEnd;
 use edge_io::OutOfMemory;
 use name_table::Names;
 use std::alloc::Global;
-
-/// A table of names holds no more; a file of less than 2^30 bytes has fewer indices.
-const MOST_INDICES: usize = 1 << 30;
 
 /// The digits of the map's indices without leading zeros, each numbered by the place of its entry.
 pub fn read_indices(alloc: Global, file: &SpefFile) -> Result<Names, HeadEnd>
@@ -34,15 +31,13 @@ pub fn read_indices(alloc: Global, file: &SpefFile) -> Result<Names, HeadEnd>
 
 // Puts the digits of an index at the end, where they do not stand yet, and tells whether they do not.
 fn put_index(indices: &mut Names, digits: &[u8]) -> Result<bool, OutOfMemory>
+    requires room { length indices.old < 2 ^ 30 }
     ensures put { IfOk result (λ is_new. is_new ≡ true → indices.new ≡ indices.old ++ digits.now ∷ []) }
     ensures held { IfOk result (λ is_new. is_new ≡ false → Contains indices.old digits.now) }
     ensures distinct { OnOk result (AreDistinct indices.new) }
 {
     if indices.find(digits).is_some() {
         return Ok(false);
-    }
-    if indices.len() >= MOST_INDICES {
-        return Err(OutOfMemory);
     }
     indices.intern(digits)?;
     Ok(true)

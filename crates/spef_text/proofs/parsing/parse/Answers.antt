@@ -11,7 +11,10 @@ read-requires c =
     rw c.as_slice.ensures.value (omega (arith, length-map c.in-Ok.spans.items (text_at c.args.bytes.now)))
 
 pub invariant_of-result : goal.invariant_of-result
-invariant_of-result c = (reads c.args.bytes.now _ c.in-Ok.ensures _ (rw c.as_slice.ensures.value at c.in-Ok-read.ensures)).formed
+invariant_of-result c = record {
+  formed = (reads c.args.bytes.now _ c.in-Ok.ensures _ (rw c.as_slice.ensures.value at c.in-Ok-read.ensures)).formed;
+  few = let few = few_tokens c.in-Ok.ensures in omega (arith, few, c.requires);
+}
 
 pub returns-in-Ok-read-clause-ok : goal.returns-in-Ok-read-clause-ok
 returns-in-Ok-read-clause-ok c = reads c.args.bytes.now _ c.in-Ok.ensures _ (rw c.as_slice.ensures.value at c.in-Ok-read.ensures)

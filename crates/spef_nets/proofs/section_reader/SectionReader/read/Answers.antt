@@ -20,4 +20,4 @@ returns-clause-faultless g c =
 pub returns-clause-least : goal.returns-clause-least
 returns-clause-least g c =
     subst (λ (r : Reading). IfErr c.read_behind.result (λ end. (end ≡ OutOfMemory) ⊎ IsLeastFault r.file r.head end)) c.self.view_is
-    (err_least c.self.inside.source.file.now c.self.inside.source.head.now c.read_behind.result c.formed.ensures c.read_behind.ensures.refused)
+    (err_least c.self.inside.source.file.now c.self.inside.source.head.now c.read_behind.result c.formed.ensures.formed c.read_behind.ensures.refused)
