@@ -15,7 +15,8 @@ use Rattle.spef_text.specs.Entries.{Section}
 use Rattle.spef_text.specs.SpefFiles.{SpefText}
 use Rattle.spef_text.specs.Heads.{HeadText, text_of}
 use Rattle.spef_nets.specs.Values.{triple_of, picked, IsAmount}
-use Rattle.spef_nets.specs.Nodes.{key_of, AreDistinctNodes}
+use Rattle.name_table.specs.NodeKeys.{key_of}
+use Rattle.spef_nets.specs.Nodes.{AreDistinctNodes}
 use Rattle.spef_nets.specs.Elements.{connections, capacitances, resistors}
 use Rattle.delay_units.specs.Bounds.{most_farads, most_ohms}
 use Rattle.spef_nets.specs.NetElements.{NetElements, AreWhole}

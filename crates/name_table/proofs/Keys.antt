@@ -13,6 +13,23 @@ use Rattle.indexmap.proofs.CallerLemmas.{Contains-list_any}
 use Rattle.indexmap.specs.IndexSet.{insert_key}
 use Rattle.name_table.specs.Names.{AreDistinct}
 
+-- what is found passes the test, and where nothing is found nothing does
+pub none_found : {K : Type 0} (test : K → Bool) (keys : List K) → find test keys ≡ None → list_any test keys ≡ false
+none_found test [] none = refl
+none_found {K = K} test (key ∷ keys) none = by (test key) (none_found test keys) none
+  where
+    by : (here : Bool) → (find test keys ≡ None → list_any test keys ≡ false) → cond here (Some key) (find test keys) ≡ None → (here || list_any test keys) ≡ false
+    by true rest none = absurd (cc)
+    by false rest none = rest none
+
+pub passes : {K : Type 0} (test : K → Bool) (keys : List K) (key : K) → find test keys ≡ Some key → test key ≡ true
+passes test [] key found = cc
+passes {K = K} test (first ∷ keys) key found = by (test first) refl (passes test keys key) found
+  where
+    by : (here : Bool) → test first ≡ here → (find test keys ≡ Some key → test key ≡ true) → cond here (Some first) (find test keys) ≡ Some key → test key ≡ true
+    by true is rest found = let same : first ≡ key = cc in ap test (sym same) ∙ is
+    by false is rest found = rest found
+
 module _ {K : Type 0} (text_of : K → List ℕ) where
   -- keys are equal where their texts are
   abbrev pub same_text : K → K → Bool
@@ -34,22 +51,6 @@ module _ {K : Type 0} (text_of : K → List ℕ) where
   list_any_text : (text : List ℕ) (keys : List K) → list_any (λ key. bytes_eq text (text_of key)) keys ≡ list_any (bytes_eq text) (map text_of keys)
   list_any_text text [] = refl
   list_any_text text (key ∷ keys) = ap (λ rest. bytes_eq text (text_of key) || rest) (list_any_text text keys)
-
-  none_found : (test : K → Bool) (keys : List K) → find test keys ≡ None → list_any test keys ≡ false
-  none_found test [] none = refl
-  none_found test (key ∷ keys) none = by (test key) (none_found test keys) none
-    where
-      by : (here : Bool) → (find test keys ≡ None → list_any test keys ≡ false) → cond here (Some key) (find test keys) ≡ None → (here || list_any test keys) ≡ false
-      by true rest none = absurd (cc)
-      by false rest none = rest none
-
-  passes : (test : K → Bool) (keys : List K) (key : K) → find test keys ≡ Some key → test key ≡ true
-  passes test [] key found = cc
-  passes test (first ∷ keys) key found = by (test first) refl (passes test keys key) found
-    where
-      by : (here : Bool) → test first ≡ here → (find test keys ≡ Some key → test key ≡ true) → cond here (Some first) (find test keys) ≡ Some key → test key ≡ true
-      by true is rest found = let same : first ≡ key = cc in ap test (sym same) ∙ is
-      by false is rest found = rest found
 
   -- a text is not among those of the keys where no key has it
   pub not_among : (text : List ℕ) (keys : List K) → find (λ key. bytes_eq text (text_of key)) keys ≡ None → Contains (map text_of keys) text → ⊥

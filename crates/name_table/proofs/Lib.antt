@@ -1,5 +1,6 @@
 pub mod Cutting
 pub mod FromBehind
+pub mod KeyTests
 pub mod Keys
 pub mod Reading
 pub mod Spelling

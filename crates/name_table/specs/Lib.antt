@@ -7,3 +7,4 @@ pub mod WellSpelled
 pub mod WrittenNames
 pub mod NodeKeys
 pub mod SameKeys
+pub mod KeyOf

@@ -1,5 +1,5 @@
 -- What makes a node of a SPEF file (IEEE 1481) the one that it is: its head and its tail, however they are written.
-use Rattle.std.specs.Prelude.{ℕ, Bool, true, false, not, if◌then◌else◌, List, [], ◌∷◌, filter, Option, Some, None}
+use Rattle.std.specs.Prelude.{ℕ, Bool, true, false, not, if◌then◌else◌, List, [], ◌∷◌, filter, Option, Some, None, option_to_list}
 use Rattle.std.specs.List.{list_any}
 use Rattle.std.specs.Str.{bytes_eq}
 use Rattle.name_table.specs.declared.spef_names.NodeName.{NodeName}
@@ -23,6 +23,10 @@ same_key one other = if bytes_eq one.head other.head then same_tail one.tail oth
 -- the same head and the same tail are the same node
 abbrev pub same_node : NodeName → NodeName → Bool
 same_node one other = same_key (key_of one) (key_of other)
+
+-- what a hash takes of a key: the head, and then the tail, if there is one
+abbrev pub key_writes : Key → List (List ℕ)
+key_writes key = key.head ∷ option_to_list key.tail
 
 abbrev pub among : Key → List Key → Bool
 among key keys = list_any (same_key key) keys

@@ -1,11 +1,12 @@
--- Keys that are found the same are one key; so they can be compared.
+-- Keys that are found the same are one key; so they can be compared and hashed.
 use Rattle.std.specs.Prelude.{◌≡◌, ℕ, Bool, true, false, List, Option, Some, None}
 use Rattle.std.specs.Bool.{Decides}
 use Rattle.std.specs.Cmp.{IsEquivalence, decided}
+use Rattle.std.specs.Hash.{Alike, same_Alike}
 use Rattle.std.specs.Str.{bytes_eq}
 use Rattle.std.proofs.Common.{refl, sym, ap, ◌∙◌, cond, true≢false}
 use Rattle.std.proofs.lemmas.Slice.Eq.{bytes_eq-Decides}
-use Rattle.name_table.specs.NodeKeys.{Key, same_tail, same_key}
+use Rattle.name_table.specs.NodeKeys.{Key, same_tail, same_key, key_writes}
 
 same_tail_is : (one other : Option (List ℕ)) → same_tail one other ≡ true → one ≡ other
 same_tail_is None None e = refl
@@ -37,3 +38,6 @@ same_key-Decides one other = (same_key_is one other, λ e. ap (same_key one) (sy
 
 pub keys_equiv : IsEquivalence same_key
 keys_equiv = decided same_key same_key-Decides
+
+pub hashed_alike : Alike same_key key_writes
+hashed_alike = same_Alike key_writes same_key-Decides

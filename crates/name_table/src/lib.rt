@@ -5,12 +5,14 @@
 
 mod laws;
 mod names;
+mod node_keys;
 mod sdf_names;
 mod spef_names;
 mod written_names;
 
 pub use laws::{one_cut, one_reading, well_spelled_stays};
 pub use names::{NameId, Names};
+pub use node_keys::NodeKey;
 pub use sdf_names::{canonical_sdf, escape_sdf};
 pub use spef_names::{NodeName, SpefMarks, copy_name, cut_node, read_spef_node};
 pub use written_names::{WrittenName, written_halves, written_name, written_whole};

@@ -9,7 +9,8 @@ use Rattle.rc_tree.specs.NetElements.{NetElements, NetResistor, nodes_of}
 use Rattle.rc_tree.specs.Walk.{Reached, ReachedWithout}
 use Rattle.rc_tree.specs.RcTree.{IsUnreached, IsMesh}
 use Rattle.rc_tree.specs.Joins.{Joined}
-use Rattle.rc_tree.specs.Nodes.{Node, node_of, same, first_places}
+use Rattle.name_table.specs.NodeKeys.{same_key}
+use Rattle.rc_tree.specs.Nodes.{Node, node_of, first_places}
 use Rattle.rc_tree.specs.Pins.{Pins}
 use Rattle.rc_tree.specs.Values.{ohms_at}
 use Rattle.rc_tree.specs.SectionNets.{section_node, joint_at, net_elements}
@@ -39,7 +40,7 @@ module _ (count : ℕ) (section : SectionElements) (pins : Pins) (nodes : List N
 
   pub nodes_are : nodes_of (net_elements count section pins number) ≡ nodes
   nodes_are =
-      ap (λ b. node_of pins.driver ∷ (if b then [] else filter (λ other. not (same (node_of pins.driver) other)) (first_places (map node_of pins.sinks ++ map node_of section.nodes)))) joined_so
+      ap (λ b. node_of pins.driver ∷ (if b then [] else filter (λ other. not (same_key (node_of pins.driver) other)) (first_places (map node_of pins.sinks ++ map node_of section.nodes)))) joined_so
       ∙ sym searched.numbered
 
   pub node_at : (i : ℕ) → i < length section.nodes → section_node section pins i ≡ F (slice_index spots i)

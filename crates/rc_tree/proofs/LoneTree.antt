@@ -7,7 +7,8 @@ use Rattle.rc_tree.specs.NetElements.{NetCapacitance, nodes_of}
 use Rattle.rc_tree.specs.Walk.{Reached}
 use Rattle.rc_tree.specs.RcTree.{IsTree}
 use Rattle.rc_tree.specs.Elmore.{IsElmore}
-use Rattle.rc_tree.specs.Nodes.{Node, node_of, same, first_places}
+use Rattle.name_table.specs.NodeKeys.{same_key}
+use Rattle.rc_tree.specs.Nodes.{Node, node_of, first_places}
 use Rattle.rc_tree.specs.Pins.{Pins}
 use Rattle.rc_tree.specs.Sums.{sum_below}
 use Rattle.rc_tree.specs.TreeSums.{pair_sum}
@@ -26,7 +27,7 @@ use Rattle.rc_tree.proofs.Elements.{Numbered, Weighs, elmore_is}
 use Rattle.rc_tree.proofs.ArenaNets.{arena_load, arena_down}
 use Rattle.rc_tree.proofs.ArenaElmore.{arena_pairs}
 use Rattle.rc_tree.proofs.Filled.{spread_sum}
-use Rattle.rc_tree.proofs.NodeLemmas.{same-Decides}
+use Rattle.name_table.specs.SameKeys.{same_key-Decides}
 use Rattle.rc_tree.proofs.Growing.{few_caps}
 use Rattle.rc_tree.proofs.TreeOf.{sum_both}
 
@@ -60,7 +61,7 @@ module _ (count : ℕ) (section : SectionElements) (pins : Pins) (layout : Layou
   at_driver node = ap (λ b. if b then node_of pins.driver else node) none
 
   nodes_are : (number : ℕ) → nodes_of (net_elements count section pins number) ≡ node_of pins.driver ∷ []
-  nodes_are number = ap (λ b. node_of pins.driver ∷ (if b then [] else filter (λ other. not (same (node_of pins.driver) other)) (first_places (map node_of pins.sinks ++ map node_of section.nodes)))) none
+  nodes_are number = ap (λ b. node_of pins.driver ∷ (if b then [] else filter (λ other. not (same_key (node_of pins.driver) other)) (first_places (map node_of pins.sinks ++ map node_of section.nodes)))) none
 
   no_resistor : (number : ℕ) → length (net_elements count section pins number).resistors ≡ 0
   no_resistor number = length-map-range_with_len _ 0 (length section.joints) ∙ bare
@@ -95,16 +96,16 @@ module _ (count : ℕ) (section : SectionElements) (pins : Pins) (layout : Layou
   }
 
   abbrev number_of : Node → ℕ
-  number_of v = if same v (node_of pins.driver) then 0 else 1
+  number_of v = if same_key v (node_of pins.driver) then 0 else 1
 
   numbered : Numbered (λ (j : ℕ). node_of pins.driver) 1 number_of
   numbered = record {
-    there = λ i below. ap (λ b. if b then 0 else 1) ((same-Decides (node_of pins.driver) (node_of pins.driver)).1 refl) ∙ (let z : 0 ≡ i = omega (arith, below) in z);
-    back = λ v below. by v (same v (node_of pins.driver)) refl below;
+    there = λ i below. ap (λ b. if b then 0 else 1) ((same_key-Decides (node_of pins.driver) (node_of pins.driver)).1 refl) ∙ (let z : 0 ≡ i = omega (arith, below) in z);
+    back = λ v below. by v (same_key v (node_of pins.driver)) refl below;
   }
     where
-      by : (v : Node) (b : Bool) → same v (node_of pins.driver) ≡ b → (if b then 0 else 1) < 1 → node_of pins.driver ≡ v
-      by v true is below = sym ((same-Decides v (node_of pins.driver)).0 is)
+      by : (v : Node) (b : Bool) → same_key v (node_of pins.driver) ≡ b → (if b then 0 else 1) < 1 → node_of pins.driver ≡ v
+      by v true is below = sym ((same_key-Decides v (node_of pins.driver)).0 is)
       by v false is below = absurd (omega (arith, below))
 
   module _ (number : ℕ) (below : number < count) where

@@ -7,7 +7,8 @@ use Rattle.std.proofs.lemmas.Option.{slice_get-map, slice_get-get_or, get_or_fro
 use Rattle.name_table.specs.declared.spef_names.NodeName.{NodeName}
 use Rattle.spef_nets.specs.NetElements.{NetElements as SectionElements}
 use Rattle.spef_nets.specs.Nodes.{AreDistinctNodes}
-use Rattle.rc_tree.specs.Nodes.{Node, node_of, is_among, with_node, with_nodes}
+use Rattle.name_table.specs.NodeKeys.{among}
+use Rattle.rc_tree.specs.Nodes.{Node, node_of, with_node, with_nodes}
 use Rattle.rc_tree.specs.Pins.{Pins, pin_nodes}
 use Rattle.rc_tree.specs.Marking.{Marks, fresh, held, Marked}
 use Rattle.rc_tree.specs.Searched.{IsNumbered, all_nodes}
@@ -16,18 +17,18 @@ use Rattle.rc_tree.proofs.Numbers.{with_held, with_new, among_cases, get_front, 
 use Rattle.rc_tree.proofs.Nets.{Apart, same_cases, first_all}
 
 -- a node that is at a place is among the others
-at_among : (nodes : List Node) (k : ℕ) (x : Node) → slice_get nodes k ≡ Some x → is_among x nodes ≡ true
+at_among : (nodes : List Node) (k : ℕ) (x : Node) → slice_get nodes k ≡ Some x → among x nodes ≡ true
 at_among nodes k x at = among_is x nodes (k, slice_get_within nodes k x at, get_or_from_slice_get nodes k x x at)
 
-not_among : (nodes : List Node) (k : ℕ) (x : Node) → is_among x nodes ≡ false → slice_get nodes k ≡ Some x → ⊥
+not_among : (nodes : List Node) (k : ℕ) (x : Node) → among x nodes ≡ false → slice_get nodes k ≡ Some x → ⊥
 not_among nodes k x new at = true≢false (sym (at_among nodes k x at) ∙ new)
 
 -- a node that is neither among some nodes nor the last is not among them
-still_new : (nodes : List Node) (last x : Node) → is_among x nodes ≡ false → (x ≡ last → ⊥) → is_among x (nodes ++ last ∷ []) ≡ false
+still_new : (nodes : List Node) (last x : Node) → among x nodes ≡ false → (x ≡ last → ⊥) → among x (nodes ++ last ∷ []) ≡ false
 still_new [] last x new differ = elim (same_cases x last) [ inl h ↦ absurd (differ h.0) | inr h ↦ ap (λ b. b || false) h.1 ]
 still_new (first ∷ nodes) last x new differ = elim (same_cases x first) [
-  | inl h ↦ absurd (true≢false (sym (ap (λ b. b || is_among x nodes) h.1) ∙ new))
-  | inr h ↦ ap (λ b. b || is_among x (nodes ++ last ∷ [])) h.1 ∙ still_new nodes last x (sym (ap (λ b. b || is_among x nodes) h.1) ∙ new) differ
+  | inl h ↦ absurd (true≢false (sym (ap (λ b. b || among x nodes) h.1) ∙ new))
+  | inr h ↦ ap (λ b. b || among x (nodes ++ last ∷ [])) h.1 ∙ still_new nodes last x (sym (ap (λ b. b || among x nodes) h.1) ∙ new) differ
 ]
 
 last_of : (nodes : List Node) (x : Node) → slice_get (nodes ++ x ∷ []) (length nodes) ≡ Some x
@@ -75,8 +76,8 @@ mark_step none names nodes node name spots spots' count count' distinct named (f
     set_other : (i : ℕ) → (i ≡ node → ⊥) → slice_index (slice_set spots node count) i ≡ slice_index spots i
     set_other i ne = get_or-set_other spots node i count 0 ne
 
-    new : is_among (node_of name) nodes ≡ false
-    new = ap (λ n. is_among (node_of n) nodes) (sym (get_or_from_slice_get names node name name named)) ∙ state.free node name below free
+    new : among (node_of name) nodes ≡ false
+    new = ap (λ n. among (node_of n) nodes) (sym (get_or_from_slice_get names node name name named)) ∙ state.free node name below free
 
 -- no node yet
 pub none_marked : (none : ℕ) (names : List NodeName) (spots : List ℕ) → spots ≡ replicate (length names) none → Marked none names [] spots 0
@@ -89,7 +90,7 @@ none_marked none names spots is = record {
 }
 
 -- each of the nodes that are put in is among them
-among_all : (before later : List Node) (k : ℕ) (x : Node) → slice_get later k ≡ Some x → is_among x (with_nodes before later) ≡ true
+among_all : (before later : List Node) (k : ℕ) (x : Node) → slice_get later k ≡ Some x → among x (with_nodes before later) ≡ true
 among_all before [] k x at = absurd (let b = slice_get_within {A = Node} [] k x at in omega (arith, b))
 among_all before (y ∷ later) zero x at = elim (among_cases y before) [
   | inl old ↦ (let c = among_from y before old in keep c.0 (ap (λ l. slice_get l c.0) (with_held before y old) ∙ slice_get-get_or before c.0 y c.1 ∙ ap Some c.2))
@@ -99,7 +100,7 @@ among_all before (y ∷ later) zero x at = elim (among_cases y before) [
     same : y ≡ x
     same = get_or_from_slice_get (y ∷ later) 0 x y at
 
-    keep : (place : ℕ) → slice_get (with_node before y) place ≡ Some y → is_among x (with_nodes (with_node before y) later) ≡ true
+    keep : (place : ℕ) → slice_get (with_node before y) place ≡ Some y → among x (with_nodes (with_node before y) later) ≡ true
     keep place there = at_among (with_nodes (with_node before y) later) place x (all_keep (with_node before y) later place x (there ∙ ap Some same))
 among_all before (y ∷ later) (suc k) x at = among_all (with_node before y) later k x at
 

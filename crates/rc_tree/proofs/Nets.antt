@@ -1,8 +1,9 @@
 -- The nodes of a net and their numbers.
 use Rattle.std.proofs.Common.{◌≡◌, ◌≢◌, ℕ, zero, suc, ◌<◌, ◌≤◌, ◌⊎◌, Bool, true, false, not, ◌||◌, if◌then◌else◌, List, [], ◌∷◌, ◌++◌, filter, length, get_or, AllPairs, append-nil, append_assoc, refl, sym, ◌∙◌, ap, ap₂, arith, inl, inr, true≢false}
 use Rattle.std.proofs.lemmas.Bool.{cases_lt}
-use Rattle.rc_tree.specs.Nodes.{Node, same, is_among, first_places, with_node, with_nodes}
-use Rattle.rc_tree.proofs.NodeLemmas.{same-Decides}
+use Rattle.name_table.specs.NodeKeys.{same_key, among}
+use Rattle.rc_tree.specs.Nodes.{Node, first_places, with_node, with_nodes}
+use Rattle.name_table.specs.SameKeys.{same_key-Decides}
 use Rattle.rc_tree.proofs.Numbers.{with_held, with_new, among_cases, with_apart}
 
 abbrev pub Apart : List Node → Type 0
@@ -11,14 +12,14 @@ Apart nodes = AllPairs (λ one other. one ≢ other) nodes
 -- the first place of a node, or past all
 abbrev pub where_is : Node → List Node → ℕ
 where_is node [] = 0
-where_is node (first ∷ nodes) = if same node first then 0 else suc (where_is node nodes)
+where_is node (first ∷ nodes) = if same_key node first then 0 else suc (where_is node nodes)
 
-pub same_cases : (one other : Node) → ((one ≡ other) × (same one other ≡ true)) ⊎ ((one ≡ other → ⊥) × (same one other ≡ false))
-same_cases one other = by (same one other) refl
+pub same_cases : (one other : Node) → ((one ≡ other) × (same_key one other ≡ true)) ⊎ ((one ≡ other → ⊥) × (same_key one other ≡ false))
+same_cases one other = by (same_key one other) refl
   where
-    by : (b : Bool) → same one other ≡ b → ((one ≡ other) × (same one other ≡ true)) ⊎ ((one ≡ other → ⊥) × (same one other ≡ false))
-    by true is = inl ((same-Decides one other).0 is, is)
-    by false is = inr ((λ e. true≢false (sym ((same-Decides one other).1 e) ∙ is)), is)
+    by : (b : Bool) → same_key one other ≡ b → ((one ≡ other) × (same_key one other ≡ true)) ⊎ ((one ≡ other → ⊥) × (same_key one other ≡ false))
+    by true is = inl ((same_key-Decides one other).0 is, is)
+    by false is = inr ((λ e. true≢false (sym ((same_key-Decides one other).1 e) ∙ is)), is)
 
 pub where_in : (node : Node) (nodes : List Node) (d : Node) → where_is node nodes < length nodes → get_or nodes (where_is node nodes) d ≡ node
 where_in node [] d below = absurd (omega arith)
@@ -29,7 +30,7 @@ where_in node (first ∷ nodes) d below = elim (same_cases node first) [
 
 pub where_most : (node : Node) (nodes : List Node) (d : Node) (k : ℕ) → k < length nodes → get_or nodes k d ≡ node → where_is node nodes ≤ k
 where_most node [] d k below at = absurd (omega arith)
-where_most node (first ∷ nodes) d zero below at = let is : where_is node (first ∷ nodes) ≡ 0 = ap (λ b. if b then 0 else suc (where_is node nodes)) ((same-Decides node first).1 (sym at)) in omega (arith, is)
+where_most node (first ∷ nodes) d zero below at = let is : where_is node (first ∷ nodes) ≡ 0 = ap (λ b. if b then 0 else suc (where_is node nodes)) ((same_key-Decides node first).1 (sym at)) in omega (arith, is)
 where_most node (first ∷ nodes) d (suc k) below at = elim (same_cases node first) [
   | inl h ↦ (let is : where_is node (first ∷ nodes) ≡ 0 = ap (λ b. if b then 0 else suc (where_is node nodes)) h.1 in omega (arith, is))
   | inr h ↦ (let is : where_is node (first ∷ nodes) ≡ suc (where_is node nodes) = ap (λ b. if b then 0 else suc (where_is node nodes)) h.1 in let ih = where_most node nodes d k (omega arith) at in omega (arith, is, ih))
@@ -60,35 +61,35 @@ filter_push p (y ∷ xs) x = by (filter_push p xs x) (p y)
     by rest true = ap (λ l. y ∷ l) rest
     by rest false = rest
 
-keeps_among : (p : Node → Bool) (node : Node) (nodes : List Node) → p node ≡ true → is_among node (filter p nodes) ≡ is_among node nodes
+keeps_among : (p : Node → Bool) (node : Node) (nodes : List Node) → p node ≡ true → among node (filter p nodes) ≡ among node nodes
 keeps_among p node [] pass = refl
 keeps_among p node (first ∷ nodes) pass = by (keeps_among p node nodes pass) (p first) refl
   where
-    by : is_among node (filter p nodes) ≡ is_among node nodes → (b : Bool) → p first ≡ b → is_among node (if b then first ∷ filter p nodes else filter p nodes) ≡ (same node first || is_among node nodes)
-    by rest true is = ap (λ r. same node first || r) rest
+    by : among node (filter p nodes) ≡ among node nodes → (b : Bool) → p first ≡ b → among node (if b then first ∷ filter p nodes else filter p nodes) ≡ (same_key node first || among node nodes)
+    by rest true is = ap (λ r. same_key node first || r) rest
     by rest false is = rest ∙ elim (same_cases node first) [
       | inl h ↦ absurd (true≢false (sym pass ∙ ap p h.0 ∙ is))
-      | inr h ↦ sym (ap (λ b. b || is_among node nodes) h.1)
+      | inr h ↦ sym (ap (λ b. b || among node nodes) h.1)
     ]
 
 pub first_more : (xs : List Node) (x : Node) → first_places (xs ++ x ∷ []) ≡ with_node (first_places xs) x
 first_more [] x = refl
-first_more (y ∷ xs) x = ap (λ l. y ∷ filter (λ other. not (same y other)) l) (first_more xs x) ∙ elim (same_cases y x) [
+first_more (y ∷ xs) x = ap (λ l. y ∷ filter (λ other. not (same_key y other)) l) (first_more xs x) ∙ elim (same_cases y x) [
   | inl h ↦ elim (among_cases x (first_places xs)) [
-    | inl held ↦ ap (λ l. y ∷ filter (λ other. not (same y other)) l) (with_held (first_places xs) x held) ∙ sym (with_held (y ∷ filter (λ other. not (same y other)) (first_places xs)) x (ap (λ b. b || is_among x (filter (λ other. not (same y other)) (first_places xs))) ((same-Decides x y).1 (sym h.0))))
-    | inr new ↦ ap (λ l. y ∷ filter (λ other. not (same y other)) l) (with_new (first_places xs) x new) ∙ ap (λ l. y ∷ l) (filter_push (λ other. not (same y other)) (first_places xs) x)
-        ∙ ap (λ b. y ∷ (filter (λ other. not (same y other)) (first_places xs) ++ (if not b then x ∷ [] else []))) h.1 ∙ ap (λ l. y ∷ l) (append-nil (filter (λ other. not (same y other)) (first_places xs)))
-        ∙ sym (with_held (y ∷ filter (λ other. not (same y other)) (first_places xs)) x (ap (λ b. b || is_among x (filter (λ other. not (same y other)) (first_places xs))) ((same-Decides x y).1 (sym h.0))))
+    | inl held ↦ ap (λ l. y ∷ filter (λ other. not (same_key y other)) l) (with_held (first_places xs) x held) ∙ sym (with_held (y ∷ filter (λ other. not (same_key y other)) (first_places xs)) x (ap (λ b. b || among x (filter (λ other. not (same_key y other)) (first_places xs))) ((same_key-Decides x y).1 (sym h.0))))
+    | inr new ↦ ap (λ l. y ∷ filter (λ other. not (same_key y other)) l) (with_new (first_places xs) x new) ∙ ap (λ l. y ∷ l) (filter_push (λ other. not (same_key y other)) (first_places xs) x)
+        ∙ ap (λ b. y ∷ (filter (λ other. not (same_key y other)) (first_places xs) ++ (if not b then x ∷ [] else []))) h.1 ∙ ap (λ l. y ∷ l) (append-nil (filter (λ other. not (same_key y other)) (first_places xs)))
+        ∙ sym (with_held (y ∷ filter (λ other. not (same_key y other)) (first_places xs)) x (ap (λ b. b || among x (filter (λ other. not (same_key y other)) (first_places xs))) ((same_key-Decides x y).1 (sym h.0))))
   ]
   | inr h ↦
-      let pass : not (same y x) ≡ true = ap not h.1 in
-      let other : same x y ≡ false = elim (same_cases x y) [ inl g ↦ absurd (h.0 (sym g.0)) | inr g ↦ g.1 ] in
-      let kept = keeps_among (λ z. not (same y z)) x (first_places xs) pass in
+      let pass : not (same_key y x) ≡ true = ap not h.1 in
+      let other : same_key x y ≡ false = elim (same_cases x y) [ inl g ↦ absurd (h.0 (sym g.0)) | inr g ↦ g.1 ] in
+      let kept = keeps_among (λ z. not (same_key y z)) x (first_places xs) pass in
       elim (among_cases x (first_places xs)) [
-        | inl held ↦ ap (λ l. y ∷ filter (λ z. not (same y z)) l) (with_held (first_places xs) x held) ∙ sym (with_held (y ∷ filter (λ z. not (same y z)) (first_places xs)) x (ap₂ ◌||◌ other (kept ∙ held)))
-        | inr new ↦ ap (λ l. y ∷ filter (λ z. not (same y z)) l) (with_new (first_places xs) x new) ∙ ap (λ l. y ∷ l) (filter_push (λ z. not (same y z)) (first_places xs) x)
-            ∙ ap (λ b. y ∷ (filter (λ z. not (same y z)) (first_places xs) ++ (if not b then x ∷ [] else []))) h.1
-            ∙ sym (with_new (y ∷ filter (λ z. not (same y z)) (first_places xs)) x (ap₂ ◌||◌ other (kept ∙ new)))
+        | inl held ↦ ap (λ l. y ∷ filter (λ z. not (same_key y z)) l) (with_held (first_places xs) x held) ∙ sym (with_held (y ∷ filter (λ z. not (same_key y z)) (first_places xs)) x (ap₂ ◌||◌ other (kept ∙ held)))
+        | inr new ↦ ap (λ l. y ∷ filter (λ z. not (same_key y z)) l) (with_new (first_places xs) x new) ∙ ap (λ l. y ∷ l) (filter_push (λ z. not (same_key y z)) (first_places xs) x)
+            ∙ ap (λ b. y ∷ (filter (λ z. not (same_key y z)) (first_places xs) ++ (if not b then x ∷ [] else []))) h.1
+            ∙ sym (with_new (y ∷ filter (λ z. not (same_key y z)) (first_places xs)) x (ap₂ ◌||◌ other (kept ∙ new)))
       ]
 ]
 

@@ -5,21 +5,22 @@ use Rattle.std.proofs.lemmas.List.{get_or_push, get_or_append_left, take_more, m
 use Rattle.std.proofs.lemmas.Option.{slice_get-get_or, get_or_from_slice_get, slice_get_within}
 use Rattle.name_table.specs.declared.spef_names.NodeName.{NodeName}
 use Rattle.spef_nets.specs.NetElements.{NetElements as SectionElements}
-use Rattle.rc_tree.specs.Nodes.{Node, node_of, is_among, with_node, with_nodes}
+use Rattle.name_table.specs.NodeKeys.{among}
+use Rattle.rc_tree.specs.Nodes.{Node, node_of, with_node, with_nodes}
 use Rattle.rc_tree.specs.Numbering.{AreSpots, AreEnds}
 use Rattle.spef_nets.specs.declared.parts.Listed.{Listed}
 use Rattle.rc_tree.specs.SectionNets.{joint_at, IsListed}
 use Rattle.rc_tree.proofs.NodeLemmas.{among_from}
 
 -- a node that is there changes nothing, another goes last
-pub with_held : (nodes : List Node) (node : Node) → is_among node nodes ≡ true → with_node nodes node ≡ nodes
+pub with_held : (nodes : List Node) (node : Node) → among node nodes ≡ true → with_node nodes node ≡ nodes
 with_held nodes node held = ap (λ b. if b then nodes else nodes ++ node ∷ []) held
 
-pub with_new : (nodes : List Node) (node : Node) → is_among node nodes ≡ false → with_node nodes node ≡ nodes ++ node ∷ []
+pub with_new : (nodes : List Node) (node : Node) → among node nodes ≡ false → with_node nodes node ≡ nodes ++ node ∷ []
 with_new nodes node new = ap (λ b. if b then nodes else nodes ++ node ∷ []) new
 
-pub among_cases : (node : Node) (nodes : List Node) → (is_among node nodes ≡ true) ⊎ (is_among node nodes ≡ false)
-among_cases node nodes = by (is_among node nodes)
+pub among_cases : (node : Node) (nodes : List Node) → (among node nodes ≡ true) ⊎ (among node nodes ≡ false)
+among_cases node nodes = by (among node nodes)
   where
     by : (b : Bool) → (b ≡ true) ⊎ (b ≡ false)
     by true = inl refl
@@ -51,14 +52,14 @@ with_apart nodes (node ∷ later) apart =
     let split : nodes ++ node ∷ [] ++ later ≡ nodes ++ (node ∷ later) = append_assoc nodes (node ∷ []) later in
     ap (λ l. with_nodes l later) (with_new nodes node new) ∙ with_apart (nodes ++ node ∷ []) later (subst (AllPairs (λ one other. one ≢ other)) (sym split) apart) ∙ split
   where
-    new : is_among node nodes ≡ false
+    new : among node nodes ≡ false
     new = elim (among_cases node nodes) [
       | inr apart_so ↦ apart_so
       | inl held ↦
-          let among = among_from node nodes held in
+          let at = among_from node nodes held in
           let size = length-append nodes (node ∷ later) in
           let there : get_or (nodes ++ node ∷ later) (length nodes) node ≡ node = get_or_at nodes node later node (length nodes) refl in
-          absurd (apart among.0 (length nodes) node among.1 (omega (arith, size)) (get_or_append_left nodes (node ∷ later) node among.0 among.1 ∙ among.2 ∙ sym there))
+          absurd (apart at.0 (length nodes) node at.1 (omega (arith, size)) (get_or_append_left nodes (node ∷ later) node at.0 at.1 ∙ at.2 ∙ sym there))
     ]
 
 -- the pins, which are apart

@@ -10,7 +10,6 @@ pub mod Arenas
 pub mod TwoPasses
 pub mod Nodes
 pub mod Pins
-pub mod NodeKeys
 pub mod Joins
 pub mod Threads
 pub mod Searches

@@ -6,7 +6,8 @@ use Rattle.spef_nets.specs.NetElements.{NetElements as SectionElements}
 use Rattle.spef_nets.specs.declared.parts.Ends.{Ends}
 use Rattle.spef_nets.specs.declared.parts.Listed.{Listed}
 use Rattle.rc_tree.specs.NetElements.{NetElements}
-use Rattle.rc_tree.specs.Nodes.{Node, node_of, same, first_places}
+use Rattle.name_table.specs.NodeKeys.{same_key}
+use Rattle.rc_tree.specs.Nodes.{Node, node_of, first_places}
 use Rattle.rc_tree.specs.Pins.{Pins, pin_nodes}
 use Rattle.rc_tree.specs.Values.{farads_at, ohms_at}
 use Rattle.rc_tree.specs.Arenas.{most_elements}
@@ -28,7 +29,7 @@ joint_at section place = slice_index_or section.joints place (record { a = 0; b 
 abbrev pub other_nodes : SectionElements → Pins → List Node
 other_nodes section pins =
     if length section.joints == 0 then []
-    else filter (λ other. not (same (node_of pins.driver) other)) (first_places (map node_of pins.sinks ++ map node_of section.nodes))
+    else filter (λ other. not (same_key (node_of pins.driver) other)) (first_places (map node_of pins.sinks ++ map node_of section.nodes))
 
 -- where something at a node is: without a resistor everything is on the driver's node
 abbrev pub on_net : SectionElements → Pins → Node → Node

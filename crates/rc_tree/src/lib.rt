@@ -15,7 +15,6 @@ mod lone;
 mod marking;
 mod names;
 mod node_ids;
-mod node_keys;
 mod node_table;
 mod numbered;
 mod numbering;

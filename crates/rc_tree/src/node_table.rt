@@ -1,42 +1,37 @@
 //! The nodes of a net, numbered by their first places.
-ghost use Rattle.std.specs.Prelude.{◌≡◌, ◌≢◌, ◌<◌, [], ◌++◌, ◌∷◌, length, map, slice_get, Some, MatchOption, IfOk, IfSome, IfNone, OnOk, OnErr, Contains, AllPairs};
-ghost use Rattle.rc_tree.specs.Nodes.{Node, node_of, with_node};
-ghost use Rattle.rc_tree.specs.NodeKeys.{key_node};
+ghost use Rattle.std.specs.Prelude.{◌≡◌, ◌≢◌, ◌<◌, [], length, slice_get, Some, MatchOption, IfOk, IfSome, IfNone, OnOk, Contains, AllPairs};
+ghost use Rattle.rc_tree.specs.Nodes.{with_node};
 
-use crate::node_keys::NodeKey;
 use edge_io::OutOfMemory;
 use indexmap::IndexSet;
-use name_table::NodeName;
+use name_table::NodeKey;
 use std::alloc::Global;
 use std::marker::Model;
 
 /// Nodes, numbered in the order in which they came, each once. Contracts see the list of them.
 #[derive(Drop)]
-pub struct NodeTable {
-    keys: IndexSet<NodeKey>,
-    alloc: Global,
+pub struct NodeTable<'p> {
+    keys: IndexSet<NodeKey<'p>>,
 }
 
-impl Model for NodeTable {
-    ghost use Rattle.std.specs.Prelude.{◌≢◌, List, map, AllPairs};
+impl<'p> Model for NodeTable<'p> {
+    ghost use Rattle.std.specs.Prelude.{◌≢◌, List, AllPairs};
     ghost use Rattle.rc_tree.specs.Nodes.{Node};
-    ghost use Rattle.rc_tree.specs.NodeKeys.{key_node};
 
     ghost Value = { List Node };
 
-    ghost view = { λ t. map key_node t.keys.keys };
+    ghost view = { λ t. t.keys.keys };
 
-    ghost invariant = { λ t. AllPairs (λ one other. one ≢ other) (map key_node t.keys.keys) };
+    ghost invariant = { λ t. AllPairs (λ one other. one ≢ other) t.keys.keys };
 }
 
-impl NodeTable {
+impl<'p> NodeTable<'p> {
     /// No node yet. It takes no memory.
-    pub fn new(alloc: Global) -> NodeTable
+    pub fn new(alloc: Global) -> NodeTable<'p>
         ensures { result ≡ [] }
     {
         NodeTable {
             keys: IndexSet::new(alloc),
-            alloc,
         }
     }
 
@@ -49,41 +44,27 @@ impl NodeTable {
     }
 
     /// The number of a node: its own where it is held, and else that of a new last one. It is one look-up.
-    pub fn intern(&mut self, name: &NodeName) -> Result<usize, OutOfMemory>
-        ensures number { IfOk result (λ number. slice_get self.new number ≡ Some (node_of name.now)) }
-        ensures nodes { OnOk result (self.new ≡ with_node self.old (node_of name.now)) }
+    pub fn intern(&mut self, key: NodeKey<'p>) -> Result<usize, OutOfMemory>
+        ensures number { IfOk result (λ number. slice_get self.new number ≡ Some key.entry) }
+        ensures nodes { OnOk result (self.new ≡ with_node self.old key.entry) }
     {
-        let key = key_of(self.alloc, name)?;
         put(&mut self.keys, key)
     }
 
-    /// The number of a node, or `None` where it is not held. It is one look-up.
-    pub fn find(&self, name: &NodeName) -> Result<Option<usize>, OutOfMemory>
-        ensures { IfOk result (λ found. MatchOption found (¬ Contains self.now (node_of name.now)) (λ number. slice_get self.now number ≡ Some (node_of name.now))) }
+    /// The number of a node, or `None` where it is not held. It is one look-up, and takes no memory.
+    pub fn find(&self, key: &NodeKey<'p>) -> Option<usize>
+        ensures { MatchOption result (¬ Contains self.now key.now) (λ number. slice_get self.now number ≡ Some key.now) }
     {
-        let key = key_of(self.alloc, name)?;
-        Ok(place_of(&self.keys, &key))
+        place_of(&self.keys, key)
     }
 }
 
-// The key of a node.
-fn key_of(alloc: Global, name: &NodeName) -> Result<NodeKey, OutOfMemory>
-    ensures { IfOk result (λ key. key_node key ≡ node_of name.now) }
-{
-    let head = Vec::from_slice(alloc, name.head.bytes())?;
-    let tail = match &name.tail {
-        Some(tail) => Some(Vec::from_slice(alloc, tail.bytes())?),
-        None => None,
-    };
-    Ok(NodeKey { head, tail })
-}
-
 // Puts a key at the end that is not held, and answers its place.
-fn put(keys: &mut IndexSet<NodeKey>, key: NodeKey) -> Result<usize, OutOfMemory>
-    requires { AllPairs (λ one other. one ≢ other) (map key_node keys.old.keys) }
-    ensures number { IfOk result (λ number. slice_get (map key_node keys.new.keys) number ≡ Some (key_node key)) }
-    ensures nodes { OnOk result (map key_node keys.new.keys ≡ with_node (map key_node keys.old.keys) (key_node key)) }
-    ensures apart { AllPairs (λ one other. one ≢ other) (map key_node keys.new.keys) }
+fn put<'p>(keys: &mut IndexSet<NodeKey<'p>>, key: NodeKey<'p>) -> Result<usize, OutOfMemory>
+    requires { AllPairs (λ one other. one ≢ other) keys.old.keys }
+    ensures number { IfOk result (λ number. slice_get keys.new.keys number ≡ Some key.entry) }
+    ensures nodes { OnOk result (keys.new.keys ≡ with_node keys.old.keys key.entry) }
+    ensures apart { AllPairs (λ one other. one ≢ other) keys.new.keys }
 {
     let Ok((place, _)) = keys.insert_full(key) else {
         return Err(OutOfMemory);
@@ -92,9 +73,9 @@ fn put(keys: &mut IndexSet<NodeKey>, key: NodeKey) -> Result<usize, OutOfMemory>
 }
 
 // The place of a key, if it is held.
-fn place_of(keys: &IndexSet<NodeKey>, key: &NodeKey) -> Option<usize>
-    ensures found { IfSome result (λ place. slice_get (map key_node keys.now.keys) place ≡ Some (key_node key.now)) }
-    ensures absent { IfNone result (¬ Contains (map key_node keys.now.keys) (key_node key.now)) }
+fn place_of<'p>(keys: &IndexSet<NodeKey<'p>>, key: &NodeKey<'p>) -> Option<usize>
+    ensures found { IfSome result (λ place. slice_get keys.now.keys place ≡ Some key.now) }
+    ensures absent { IfNone result (¬ Contains keys.now.keys key.now) }
 {
     let (place, _) = keys.get_full(key)?;
     Some(place)

@@ -10,7 +10,7 @@ use crate::pins::PinLoads;
 use corner_set::CornerSet;
 use edge_io::lists::{empty, push, to_u32};
 use edge_io::{OutOfMemory, Steps};
-use name_table::NodeName;
+use name_table::{NodeKey, NodeName};
 use spef_nets::Net;
 use std::alloc::Global;
 use std::sync::ledger::Ledger;
@@ -23,24 +23,24 @@ pub struct Ends {
 }
 
 /// The pins, in order.
-pub fn number_pins<C: CornerSet>(
+pub fn number_pins<'p, C: CornerSet>(
     alloc: Global,
-    pins: &PinLoads<C>,
-) -> Result<NodeTable, OutOfMemory>
+    pins: &'p PinLoads<C>,
+) -> Result<NodeTable<'p>, OutOfMemory>
     ensures { IfOk result (λ table. table ≡ pin_nodes pins.now) }
 {
     let mut table = NodeTable::new(alloc);
-    table.intern(&pins.driver)?;
+    table.intern(NodeKey::of_name(&pins.driver))?;
     intern_all(&mut table, pins.sinks.as_slice())?;
     Ok(table)
 }
 
 // Puts nodes at the end, each where it is not there already.
-fn intern_all(table: &mut NodeTable, names: &[NodeName]) -> Result<(), OutOfMemory>
+fn intern_all<'p>(table: &mut NodeTable<'p>, names: &'p [NodeName]) -> Result<(), OutOfMemory>
     ensures { OnOk result (table.new ≡ with_nodes table.old (map node_of names.now)) }
 {
     for name in names {
-        table.intern(name)?;
+        table.intern(NodeKey::of_name(name))?;
     }
     Ok(())
 }
@@ -54,9 +54,12 @@ pub fn first_strange<C: CornerSet>(
     ensures { IfOk result (λ found. MatchOption found (AreListed section.now table.now) (λ name. IsFirstStrange section.now table.now name)) }
 {
     for place in 0..section.conn_count() {
-        let name = section.node_name(alloc, section.conn(place).node)?;
-        if table.find(&name)?.is_none() {
-            return Ok(Some(name));
+        let node = section.conn(place).node;
+        let name = section.node_name(alloc, node)?;
+        let key = NodeKey::of(alloc, name)?;
+        if table.find(&key).is_none() {
+            let strange = section.node_name(alloc, node)?;
+            return Ok(Some(strange));
         }
     }
     Ok(None)
@@ -75,7 +78,8 @@ pub fn number_section<C: CornerSet>(
     empty(spots, section.node_count())?;
     for node in 0..section.node_count() {
         let name = section.node_name(alloc, node)?;
-        let number = table.intern(&name)?;
+        let key = NodeKey::of(alloc, name)?;
+        let number = table.intern(key)?;
         push(spots, to_u32(number)?)?;
     }
     Ok(())

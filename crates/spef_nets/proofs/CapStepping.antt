@@ -13,7 +13,8 @@ use Rattle.spef_text.specs.declared.entries.Cap.{Cap}
 use Rattle.spef_text.specs.declared.entries.Conn.{Conn}
 use Rattle.spef_text.specs.declared.entries.Res.{Res}
 use Rattle.spef_nets.specs.Values.{triple_of, AreGrains}
-use Rattle.spef_nets.specs.Nodes.{Key, node_at, nodes_at, belongs, has_head, is_among}
+use Rattle.name_table.specs.NodeKeys.{Key}
+use Rattle.spef_nets.specs.Nodes.{node_at, nodes_at, belongs, has_head, is_among}
 use Rattle.spef_nets.specs.Elements.{Connection, Grounded, first_of_each, joint_at, places_of, grounded}
 use Rattle.delay_units.specs.Bounds.{most_farads}
 use Rattle.spef_nets.specs.NetElements.{NetElements}

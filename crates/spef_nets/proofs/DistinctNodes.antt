@@ -2,7 +2,8 @@
 use Rattle.std.proofs.Common.{◌≡◌, ℕ, zero, suc, Bool, true, false, not, cond, List, [], ◌∷◌, filter, refl, sym, ap, ◌∙◌, subst, true≢false}
 use Rattle.std.specs.Prelude.{Some, slice_get}
 use Rattle.name_table.specs.declared.spef_names.NodeName.{NodeName}
-use Rattle.spef_nets.specs.Nodes.{key_of, same_key, same_node, first_places, AreDistinctNodes}
+use Rattle.name_table.specs.NodeKeys.{key_of, same_key, same_node}
+use Rattle.spef_nets.specs.Nodes.{first_places, AreDistinctNodes}
 use Rattle.spef_nets.proofs.RefLemmas.{key_is_same}
 
 some_is : {X : Type 0} (a b : X) → Some a ≡ Some b → a ≡ b

@@ -9,7 +9,8 @@ use Rattle.name_table.specs.declared.spef_names.NodeName.{NodeName}
 use Rattle.spef_text.specs.SpefFiles.{SpefText}
 use Rattle.spef_text.specs.Heads.{HeadText, text_of}
 use Rattle.spef_nets.specs.Values.{triple_of, picked, IsAmount, AreGrains, grains_at}
-use Rattle.spef_nets.specs.Nodes.{Key, key_of, among, AreDistinctNodes}
+use Rattle.name_table.specs.NodeKeys.{Key, key_of, among}
+use Rattle.spef_nets.specs.Nodes.{AreDistinctNodes}
 use Rattle.spef_nets.specs.Elements.{Connection, Grounded, Joint}
 use Rattle.spef_nets.specs.NetElements.{NetElements, AreWhole}
 use Rattle.spef_nets.specs.Sections.{Corners, HasGrains, Listing, listing, listing_of, key_at, KeyEnds, ends_of, ends_at}

@@ -4,7 +4,7 @@ use Rattle.std.specs.Prelude.{Some, slice_get}
 use Rattle.std.proofs.lemmas.List.{take_more, append_assoc, append-nil}
 use Rattle.std.proofs.lemmas.List.Folds.{list_any-append}
 use Rattle.std.proofs.lemmas.Option.{slice_get-get_or}
-use Rattle.spef_nets.specs.Nodes.{Key, same_key, among}
+use Rattle.name_table.specs.NodeKeys.{Key, same_key, among}
 use Rattle.spef_nets.specs.Refs.{IsInterned, held, added}
 use Rattle.spef_nets.proofs.Lists.{get_left, get_right}
 use Rattle.spef_nets.proofs.RefLemmas.{same_key_is}

@@ -10,7 +10,8 @@ use Rattle.spef_text.specs.SpefFiles.{SpefText}
 use Rattle.spef_text.specs.Heads.{HeadText, text_of}
 use Rattle.spef_text.specs.declared.entries.Conn.{Conn}
 use Rattle.spef_nets.specs.Values.{triple_of, AreGrains}
-use Rattle.spef_nets.specs.Nodes.{Key, key_of, among, named, first_places}
+use Rattle.name_table.specs.NodeKeys.{Key, key_of, among}
+use Rattle.spef_nets.specs.Nodes.{named, first_places}
 use Rattle.spef_nets.specs.Elements.{Connection, Grounded, Joint}
 use Rattle.delay_units.specs.Bounds.{most_farads, most_ohms}
 use Rattle.spef_nets.specs.NetElements.{NetElements}

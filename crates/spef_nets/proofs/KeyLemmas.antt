@@ -4,28 +4,10 @@ use Rattle.std.specs.Prelude.{Some, slice_get}
 use Rattle.std.proofs.Common.{Bor}
 use Rattle.std.specs.List.{list_any, position_or_len}
 use Rattle.indexmap.specs.IndexSet.{insert_key}
-use Rattle.std.specs.Str.{bytes_eq}
-use Rattle.spef_nets.specs.Nodes.{Key, same_key, same_tail}
+use Rattle.name_table.specs.NodeKeys.{Key, same_key}
 use Rattle.spef_nets.specs.Refs.{IsInterned, held, added}
 use Rattle.spef_nets.proofs.Lists.{map_at}
 use Rattle.spef_nets.proofs.RefLemmas.{same_key_is}
-
--- where the tails are the same, the heads tell
-pub heads_tell : (one other : Key) → same_tail one.tail other.tail ≡ true → bytes_eq one.head other.head ≡ same_key one other
-unfolding same_key
-heads_tell one other tails = by (bytes_eq one.head other.head)
-  where
-    by : (heads : Bool) → heads ≡ cond heads (same_tail one.tail other.tail) false
-    by true = sym tails
-    by false = refl
-
-pub tails_differ : (one other : Key) → same_tail one.tail other.tail ≡ false → false ≡ same_key one other
-unfolding same_key
-tails_differ one other tails = by (bytes_eq one.head other.head)
-  where
-    by : (heads : Bool) → false ≡ cond heads (same_tail one.tail other.tail) false
-    by true = sym tails
-    by false = refl
 
 past : (key : Key) (keys : List Key) → list_any (same_key key) keys ≡ false → position_or_len (same_key key) keys ≡ length keys
 past key [] e = refl

@@ -14,7 +14,8 @@ use Rattle.spef_text.specs.References.{marks_of, is_starred, index_end, digits_i
 use Rattle.spef_text.specs.declared.entries.MapEntry.{MapEntry}
 use Rattle.spef_text.specs.declared.references.ResolveEnd.TheVariants.{UnknownIndex}
 use Rattle.spef_text.proofs.ReferenceLemmas.{one_node}
-use Rattle.spef_nets.specs.Nodes.{name_in, indexed_node, named, node_at, net_at, same_tail, same_key, same_node}
+use Rattle.name_table.specs.NodeKeys.{same_tail, same_key, same_node}
+use Rattle.spef_nets.specs.Nodes.{name_in, indexed_node, named, node_at, net_at}
 
 -- ---- the name of an index
 

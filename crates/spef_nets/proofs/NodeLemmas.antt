@@ -9,7 +9,8 @@ use Rattle.std.proofs.lemmas.List.Elements.{filter-append}
 use Rattle.name_table.specs.declared.spef_names.NodeName.{NodeName}
 use Rattle.spef_text.specs.SpefFiles.{SpefText}
 use Rattle.spef_text.specs.declared.entries.Conn.{Conn}
-use Rattle.spef_nets.specs.Nodes.{Key, key_of, same_key, among, first_places, named, node_at, nodes_at}
+use Rattle.name_table.specs.NodeKeys.{Key, key_of, same_key, among, each_once}
+use Rattle.spef_nets.specs.Nodes.{first_places, named, node_at, nodes_at}
 use Rattle.spef_nets.specs.Elements.{Connection, Grounded, Joint, connection_at, first_of_each}
 use Rattle.spef_nets.specs.Refs.{Refs, Numbers, held, fresh, with_number, AreRefs, conn_keys}
 use Rattle.spef_nets.specs.Drafts.{element_nodes}
@@ -23,8 +24,7 @@ placed nodes node = if among (key_of node) (map key_of nodes) then nodes else no
 -- items of which the first of each key counts
 module _ {X : Type 0} (key : X → Key) where
   abbrev pub firsts : List X → List X
-  firsts [] = []
-  firsts (x ∷ later) = x ∷ filter (λ other. not (same_key (key x) (key other))) (firsts later)
+  firsts items = each_once (λ one other. same_key (key one) (key other)) items
 
   abbrev pub with_first : List X → X → List X
   with_first items item = if among (key item) (map key items) then items else items ++ item ∷ []
@@ -89,36 +89,23 @@ module _ {X : Type 0} (key : X → Key) where
           stays : filter (λ other. not (same_key (key x) (key other))) (firsts items) ++ filter (λ other. not (same_key (key x) (key other))) (item ∷ []) ≡ filter (λ other. not (same_key (key x) (key other))) (firsts items) ++ item ∷ []
           stays = ap (λ b. filter (λ other. not (same_key (key x) (key other))) (firsts items) ++ cond (not b) (item ∷ []) []) (other_way (key x) (key item) ∙ h)
 
-first_places_are : (nodes : List NodeName) → first_places nodes ≡ firsts key_of nodes
-first_places_are [] = refl
-first_places_are (node ∷ nodes) = ap (λ l. node ∷ filter (λ other. not (same_key (key_of node) (key_of other))) l) (first_places_are nodes)
-
 abbrev pub conn_key : Connection → Key
 conn_key conn = key_of conn.node
 
-first_of_each_are : (conns : List Connection) → first_of_each conns ≡ firsts conn_key conns
-first_of_each_are [] = refl
-first_of_each_are (conn ∷ conns) = ap (λ l. conn ∷ filter (λ other. not (same_key (conn_key conn) (conn_key other))) l) (first_of_each_are conns)
-
 -- the nodes by first place, with one more
 pub first_places_push : (nodes : List NodeName) (node : NodeName) → first_places (nodes ++ node ∷ []) ≡ placed (first_places nodes) node
-first_places_push nodes node =
-    first_places_are (nodes ++ node ∷ []) ∙ firsts_push key_of nodes node
-    ∙ ap (λ b. if b then firsts key_of nodes else firsts key_of nodes ++ node ∷ []) (sym (among_firsts key_of (key_of node) nodes))
-    ∙ ap (λ l. placed l node) (sym (first_places_are nodes))
+first_places_push nodes node = firsts_push key_of nodes node ∙ ap (λ b. if b then first_places nodes else first_places nodes ++ node ∷ []) (sym (among_firsts key_of (key_of node) nodes))
 
 pub among_first_places : (key : Key) (nodes : List NodeName) → among key (map key_of (first_places nodes)) ≡ among key (map key_of nodes)
-among_first_places key nodes = ap (λ l. among key (map key_of l)) (first_places_are nodes) ∙ among_firsts key_of key nodes
+among_first_places key nodes = among_firsts key_of key nodes
 
 -- the connections, with one more
 pub first_of_each_push : (conns : List Connection) (conn : Connection)
     → first_of_each (conns ++ conn ∷ []) ≡ (if among (conn_key conn) (map conn_key conns) then first_of_each conns else first_of_each conns ++ conn ∷ [])
-first_of_each_push conns conn =
-    first_of_each_are (conns ++ conn ∷ []) ∙ firsts_push conn_key conns conn
-    ∙ ap (λ l. if among (conn_key conn) (map conn_key conns) then l else l ++ conn ∷ []) (sym (first_of_each_are conns))
+first_of_each_push conns conn = firsts_push conn_key conns conn
 
 pub among_first_of_each : (key : Key) (conns : List Connection) → among key (map conn_key (first_of_each conns)) ≡ among key (map conn_key conns)
-among_first_of_each key conns = ap (λ l. among key (map conn_key l)) (first_of_each_are conns) ∙ among_firsts conn_key key conns
+among_first_of_each key conns = among_firsts conn_key key conns
 
 -- the keys of the connections so far are those of their nodes
 pub conn_keys_are : (file : SpefText) (conns : List Conn) → map conn_key (flat_map (λ conn. option_to_list (connection_at file conn)) conns) ≡ conn_keys file conns

@@ -8,10 +8,11 @@ use Rattle.std.proofs.lemmas.List.Elements.{All-push}
 use Rattle.std.proofs.lemmas.Option.{slice_get_within, slice_get_read}
 use Rattle.name_table.specs.declared.spef_names.NodeName.{NodeName}
 use Rattle.spef_text.specs.SpefFiles.{SpefText}
-use Rattle.spef_nets.specs.Nodes.{Key, key_of, same_key, among, named}
+use Rattle.name_table.specs.NodeKeys.{Key, key_of, same_key, among}
+use Rattle.spef_nets.specs.Nodes.{named}
 use Rattle.spef_nets.specs.Refs.{IsInterned, Refs, no_refs, ArePlaced, new_mark, with_word, IsPut, held, added, IsFound, stands, IsMarked, with_mark, listed_mark, joined_mark, numbered_mark, with_number, IsSpelled, IsMark, AreRefs}
 use Rattle.spef_nets.specs.declared.marks.Mark.{Mark}
-pub use Rattle.spef_nets.specs.SameKeys.{same_key_is, key_is_same}
+pub use Rattle.name_table.specs.SameKeys.{same_key_is, key_is_same}
 use Rattle.spef_nets.proofs.Lists.{get_left, get_last, get_push, get_set, length_set, all_at, map_at}
 
 pub other_key : (one other : Key) → (one ≡ other → ⊥) → same_key one other ≡ false

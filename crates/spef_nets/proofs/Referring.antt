@@ -8,7 +8,8 @@ use Rattle.std.proofs.lemmas.Option.{slice_get_within, get_or_from_slice_get}
 use Rattle.name_table.specs.declared.spef_names.NodeName.{NodeName}
 use Rattle.spef_text.specs.SpefFiles.{SpefText}
 use Rattle.spef_text.specs.Heads.{text_of}
-use Rattle.spef_nets.specs.Nodes.{Key, key_of, among, named, node_at, nodes_at}
+use Rattle.name_table.specs.NodeKeys.{Key, key_of, among}
+use Rattle.spef_nets.specs.Nodes.{named, node_at, nodes_at}
 use Rattle.spef_nets.specs.Refs.{Refs, IsNamed, IsPut, held, added, IsFound, stands, newest, Lists, AreRefs, IsRef, Grows, keys_at, res_keys}
 use Rattle.spef_nets.specs.Drafts.{Refers, stood, put, unknown, JoinsBy, JoinsAt, AllJoined, AreJoined}
 use Rattle.spef_nets.specs.declared.parts.Joined.{Joined}

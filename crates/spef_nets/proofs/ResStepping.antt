@@ -13,7 +13,8 @@ use Rattle.spef_text.specs.declared.entries.Cap.{Cap}
 use Rattle.spef_text.specs.declared.entries.Conn.{Conn}
 use Rattle.spef_text.specs.declared.entries.Res.{Res}
 use Rattle.spef_nets.specs.Values.{triple_of, AreGrains}
-use Rattle.spef_nets.specs.Nodes.{Key, node_at, net_at}
+use Rattle.name_table.specs.NodeKeys.{Key}
+use Rattle.spef_nets.specs.Nodes.{node_at, net_at}
 use Rattle.spef_nets.specs.Elements.{Joint, first_of_each, joint_of, joint_at, grounded, connections, capacitances, resistors}
 use Rattle.delay_units.specs.Bounds.{most_ohms}
 use Rattle.spef_nets.specs.NetElements.{NetElements, AreWhole}

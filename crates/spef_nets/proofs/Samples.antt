@@ -5,7 +5,8 @@ use Rattle.spef_text.specs.SpefFiles.{SpefText}
 use Rattle.spef_nets.specs.Elements.{Grounded, connections, capacitances}
 use Rattle.corner_set.specs.declared.pick.Pick.TheVariants.{Min, Typ, Max}
 use Rattle.spef_nets.specs.Values.{triple_of, picked}
-use Rattle.spef_nets.specs.Nodes.{named, belongs, same_key, same_node}
+use Rattle.name_table.specs.NodeKeys.{same_key, same_node}
+use Rattle.spef_nets.specs.Nodes.{named, belongs}
 
 one_for_all : picked Max (triple_of (codes "1.5")) ≡ codes "1.5"
 one_for_all = refl

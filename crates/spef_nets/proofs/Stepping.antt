@@ -14,7 +14,8 @@ use Rattle.spef_text.specs.SpefFiles.{SpefText}
 use Rattle.spef_text.specs.Heads.{HeadText, text_of}
 use Rattle.spef_text.specs.declared.entries.Conn.{Conn}
 use Rattle.spef_nets.specs.Values.{grains_at}
-use Rattle.spef_nets.specs.Nodes.{Key, key_of, among, node_at, nodes_at}
+use Rattle.name_table.specs.NodeKeys.{Key, key_of, among}
+use Rattle.spef_nets.specs.Nodes.{node_at, nodes_at}
 use Rattle.spef_nets.specs.Elements.{Connection, connection_at, first_of_each}
 use Rattle.delay_units.specs.Bounds.{most_farads}
 use Rattle.spef_nets.specs.NetElements.{NetElements}

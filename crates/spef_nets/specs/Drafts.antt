@@ -12,7 +12,8 @@ use Rattle.spef_text.specs.Heads.{HeadText, text_of}
 use Rattle.spef_text.specs.declared.entries.Conn.{Conn}
 use Rattle.spef_text.specs.declared.entries.Res.{Res}
 use Rattle.spef_nets.specs.Values.{triple_of, AreGrains, grains_at}
-use Rattle.spef_nets.specs.Nodes.{Key, key_of, first_places, named, net_at}
+use Rattle.name_table.specs.NodeKeys.{Key, key_of}
+use Rattle.spef_nets.specs.Nodes.{first_places, named, net_at}
 use Rattle.spef_nets.specs.Elements.{Connection, Grounded, Joint, connection_at, first_of_each, grounded, joint_at}
 use Rattle.delay_units.specs.Bounds.{most_farads, most_ohms}
 use Rattle.spef_nets.specs.NetElements.{NetElements}

@@ -1,5 +1,5 @@
 -- The elements of a net as its section of a SPEF file (IEEE 1481) gives them: connections, capacitances to ground, resistors. A value stands for itself by its token.
-use Rattle.std.specs.Prelude.{ℕ, Bool, not, List, [], ◌∷◌, ◌++◌, map, filter, Option, Some, None, option_map, option_to_list}
+use Rattle.std.specs.Prelude.{ℕ, Bool, List, [], ◌∷◌, ◌++◌, map, filter, Option, Some, None, option_map, option_to_list}
 use Rattle.std.specs.List.{flat_map}
 use Rattle.name_table.specs.declared.spef_names.NodeName.{NodeName}
 use Rattle.spef_text.specs.Entries.{Section}
@@ -7,7 +7,8 @@ use Rattle.spef_text.specs.SpefFiles.{SpefText}
 use Rattle.spef_text.specs.declared.entries.Conn.{Conn}
 use Rattle.spef_text.specs.declared.entries.Cap.{Cap}
 use Rattle.spef_text.specs.declared.entries.Res.{Res}
-use Rattle.spef_nets.specs.Nodes.{node_at, nodes_at, same_node, first_places, belongs}
+use Rattle.name_table.specs.NodeKeys.{same_node, each_once}
+use Rattle.spef_nets.specs.Nodes.{node_at, nodes_at, first_places, belongs}
 
 pub record Connection : Type 0 where
   pub node : NodeName
@@ -30,8 +31,7 @@ connection_at file conn =
 
 -- of several connections with one node the first alone
 abbrev pub first_of_each : List Connection → List Connection
-first_of_each [] = []
-first_of_each (conn ∷ later) = conn ∷ filter (λ other. not (same_node conn.node other.node)) (first_of_each later)
+first_of_each conns = each_once (λ one other. same_node one.node other.node) conns
 
 abbrev pub connections : SpefText → Section → List Connection
 connections file section = first_of_each (flat_map (λ conn. option_to_list (connection_at file conn)) section.conns)

@@ -13,5 +13,3 @@ pub mod DraftOf
 pub mod Reading
 pub mod NodeNames
 pub mod ElementsOf
-pub mod SameKeys
-pub mod KeyOf

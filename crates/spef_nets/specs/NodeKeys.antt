@@ -1,12 +1,9 @@
--- What the key of a node is, and how it is hashed.
-use Rattle.std.specs.Prelude.{◌≡◌, ℕ, List, ◌∷◌, Option, Some, None, option_to_list}
+-- What the key of the node of a token is.
+use Rattle.std.specs.Prelude.{◌≡◌, ℕ, Option, Some, None}
 use Rattle.name_table.specs.declared.spef_names.NodeName.{NodeName}
 use Rattle.spef_text.specs.SpefFiles.{SpefText}
-use Rattle.spef_nets.specs.Nodes.{Key, key_of, node_at}
-
--- the head, and then the tail, if there is one
-abbrev pub key_writes : Key → List (List ℕ)
-key_writes key = key.head ∷ option_to_list key.tail
+use Rattle.name_table.specs.NodeKeys.{Key, key_of}
+use Rattle.spef_nets.specs.Nodes.{node_at}
 
 -- the key of the node that a token names, or nothing where it names none
 abbrev pub IsKeyAt : SpefText → ℕ → Option Key → Type 0

@@ -1,7 +1,8 @@
 -- The nodes of a section of a SPEF file (IEEE 1481): what a reference names, which nodes are one, and which belong to the section.
-use Rattle.std.specs.Prelude.{◌≡◌, ℕ, Bool, true, false, not, ◌||◌, if◌then◌else◌, List, [], ◌∷◌, map, filter, slice_get, Option, Some, None, option_map, option_to_list}
-use Rattle.std.specs.List.{flat_map, list_any}
+use Rattle.std.specs.Prelude.{◌≡◌, ℕ, Bool, true, false, ◌||◌, if◌then◌else◌, List, [], ◌∷◌, map, slice_get, Option, Some, None, option_map, option_to_list}
+use Rattle.std.specs.List.{flat_map}
 use Rattle.std.specs.Str.{bytes_eq}
+use Rattle.name_table.specs.NodeKeys.{key_of, same_node, among, each_once}
 use Rattle.name_table.specs.SpefNames.{node_name}
 use Rattle.name_table.specs.declared.spef_names.NodeName.{NodeName}
 use Rattle.spef_text.specs.Entries.{Section}
@@ -33,37 +34,13 @@ node_at file token = named file true (text_of file token)
 abbrev pub net_at : SpefText → ℕ → Option (List ℕ)
 net_at file token = option_map (λ node. node.head) (named file false (text_of file token))
 
-abbrev pub same_tail : Option (List ℕ) → Option (List ℕ) → Bool
-same_tail None None = true
-same_tail None (Some other) = false
-same_tail (Some one) None = false
-same_tail (Some one) (Some other) = bytes_eq one other
-
--- what makes a node the one that it is
-pub record Key : Type 0 where
-  pub head : List ℕ
-  pub tail : Option (List ℕ)
-
-abbrev pub key_of : NodeName → Key
-key_of node = record { head = node.head; tail = node.tail }
-
-unfoldable pub same_key : Key → Key → Bool
-same_key one other = if bytes_eq one.head other.head then same_tail one.tail other.tail else false
-
 -- the same head and the same tail are the same node, however they are written
-abbrev pub same_node : NodeName → NodeName → Bool
-same_node one other = same_key (key_of one) (key_of other)
-
-abbrev pub among : Key → List Key → Bool
-among key keys = list_any (same_key key) keys
-
 abbrev pub is_among : NodeName → List NodeName → Bool
 is_among node nodes = among (key_of node) (map key_of nodes)
 
 -- each node once, at its first place
 abbrev pub first_places : List NodeName → List NodeName
-first_places [] = []
-first_places (node ∷ later) = node ∷ filter (λ other. not (same_node node other)) (first_places later)
+first_places nodes = each_once same_node nodes
 
 -- no two nodes are one: different numbers have different heads, or different tails
 abbrev pub AreDistinctNodes : List NodeName → Type 0

@@ -7,7 +7,8 @@ use Rattle.spef_text.specs.SpefFiles.{SpefText}
 use Rattle.spef_text.specs.Heads.{text_of}
 use Rattle.spef_text.specs.declared.entries.Conn.{Conn}
 use Rattle.spef_text.specs.declared.entries.Res.{Res}
-use Rattle.spef_nets.specs.Nodes.{Key, key_of, among, named, nodes_at}
+use Rattle.name_table.specs.NodeKeys.{Key, key_of, among}
+use Rattle.spef_nets.specs.Nodes.{named, nodes_at}
 use Rattle.spef_nets.specs.declared.marks.Mark.{Mark}
 
 -- a table of nodes after one was looked for in it: it stays where it has the node, and else gets it as its last

@@ -8,7 +8,8 @@ use Rattle.spef_text.specs.Entries.{Section, section_at}
 use Rattle.spef_text.specs.SpefFiles.{SpefText}
 use Rattle.spef_text.specs.Heads.{HeadText, text_of}
 use Rattle.spef_nets.specs.Values.{triple_of, picked, IsAmount}
-use Rattle.spef_nets.specs.Nodes.{Key, key_of, net_at}
+use Rattle.name_table.specs.NodeKeys.{Key, key_of}
+use Rattle.spef_nets.specs.Nodes.{net_at}
 use Rattle.spef_nets.specs.Elements.{Connection, Grounded, Joint, connections, capacitances, resistors, section_nodes}
 use Rattle.delay_units.specs.Bounds.{most_farads, most_ohms}
 use Rattle.spef_nets.specs.NetElements.{NetElements}

@@ -9,11 +9,12 @@ ghost use Rattle.spef_nets.specs.RefsOf.{refs_of};
 ghost use Rattle.spef_nets.specs.Drafts.{BelongsBy};
 
 use crate::marks::Mark;
-use crate::node_table::{NodeKey, NodeTable};
+use crate::node_table::NodeTable;
 use crate::node_tokens::NodeTokens;
 use crate::spellings::Spellings;
 use edge_io::lists::{empty, push, to_u32};
 use edge_io::{OutOfMemory, Text, are_equal};
+use name_table::NodeKey;
 use spef_text::{Head, SpefFile};
 use std::alloc::Global;
 

@@ -12,12 +12,11 @@ ghost use Rattle.spef_nets.specs.Drafts.{AreSomeRefs, Refers, IsUnless};
 
 use crate::amounts::{AmountFault, Grains, grains_of};
 use crate::ends::SectionEnd;
-use crate::node_table::NodeKey;
 use crate::referred::Referred;
 use corner_set::Pick;
 use delay_units::{Farads, Ohms, Unit};
 use edge_io::{OutOfMemory, Text};
-use name_table::NodeName;
+use name_table::{NodeKey, NodeName};
 use spef_text::{Head, ResolveEnd, SpefFile};
 use std::alloc::Global;
 

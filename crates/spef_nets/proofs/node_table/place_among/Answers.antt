@@ -1,19 +1,19 @@
 use Rattle.std.proofs.Common.{◌≡◌, length, take, ap, sym, ◌∙◌, arith}
 use Rattle.std.proofs.Math.Seq.{take-length}
-use Rattle.spef_nets.specs.Nodes.{among, same_key}
+use Rattle.name_table.specs.NodeKeys.{among, same_key}
 use Rattle.spef_nets.proofs.FewKeys.{found_key, none_among_more}
 use Rattle.spef_nets.proofs.node_table.place_among.Goals as goal
 
 -- src/node_table.rt
-pub returns-then-are_same-clause-found : goal.returns-then-are_same-clause-found
-returns-then-are_same-clause-found c =
+pub returns-then-eq-clause-found : goal.returns-then-eq-clause-found
+returns-then-eq-clause-found c =
     found_key c.args.few.now c.loop-place.place c.index-few-place.result c.args.key.now c.loop-place-test.true
-    (ap (same_key c.args.key.now) (sym c.index-few-place.is) ∙ sym c.are_same.ensures ∙ c.if-are_same.true)
+    (ap (same_key c.args.key.now) (sym c.index-few-place.is) ∙ sym c.eq.ensures ∙ c.if-eq.true)
 
 pub loop-place-preserved : goal.loop-place-preserved
 loop-place-preserved c =
     none_among_more c.args.few.now c.loop-place.place c.index-few-place.result c.args.key.now c.loop-place-test.true
-    (ap (same_key c.args.key.now) (sym c.index-few-place.is) ∙ sym c.are_same.ensures ∙ c.if-are_same.false) c.loop-place.invariant
+    (ap (same_key c.args.key.now) (sym c.index-few-place.is) ∙ sym c.eq.ensures ∙ c.if-eq.false) c.loop-place.invariant
 
 pub returns-clause-absent : goal.returns-clause-absent
 returns-clause-absent c =

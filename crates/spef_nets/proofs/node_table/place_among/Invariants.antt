@@ -1,5 +1,5 @@
 use Rattle.std.proofs.Common.{◌≡◌, false, take}
-use Rattle.spef_nets.specs.Nodes.{among}
+use Rattle.name_table.specs.NodeKeys.{among}
 use Rattle.spef_nets.proofs.node_table.place_among.Given as goal
 
 abbrev pub invariant-loop-place : goal.invariant-loop-place

@@ -1,5 +1,5 @@
 use Rattle.std.proofs.Common.{◌≡◌, ℕ, ◌+◌, List, ◌++◌, length, sym, ap, ◌∙◌, subst}
-use Rattle.spef_nets.specs.Nodes.{Key, among}
+use Rattle.name_table.specs.NodeKeys.{Key, among}
 use Rattle.spef_nets.specs.Refs.{IsInterned}
 use Rattle.spef_nets.proofs.FewKeys.{interned_behind}
 use Rattle.spef_nets.proofs.node_table.NodeTable.intern.Goals as goal

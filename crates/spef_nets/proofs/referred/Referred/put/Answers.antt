@@ -4,7 +4,8 @@ use Rattle.std.specs.Prelude.{Option, Some, None}
 use Rattle.std.proofs.lemmas.List.{map_push}
 use Rattle.name_table.specs.declared.spef_names.NodeName.{NodeName}
 use Rattle.spef_text.specs.SpefFiles.{SpefText}
-use Rattle.spef_nets.specs.Nodes.{Key, key_of, node_at}
+use Rattle.name_table.specs.NodeKeys.{Key, key_of}
+use Rattle.spef_nets.specs.Nodes.{node_at}
 use Rattle.spef_nets.specs.NodeKeys.{IsKeyAt}
 use Rattle.spef_nets.specs.Refs.{Refs, IsInterned, newest}
 use Rattle.spef_nets.specs.declared.marks.Mark.{Mark}

@@ -1,10 +1,10 @@
 use Rattle.std.proofs.Common.{◌≡◌, sym, ◌∙◌}
 use Rattle.std.specs.Str.{bytes_eq}
-use Rattle.spef_nets.specs.Nodes.{same_tail}
-use Rattle.spef_nets.proofs.KeyLemmas.{heads_tell, tails_differ}
-use Rattle.spef_nets.proofs.node_table.are_same.Goals as goal
+use Rattle.name_table.specs.NodeKeys.{same_tail}
+use Rattle.name_table.proofs.KeyTests.{heads_tell, tails_differ}
+use Rattle.name_table.proofs.node_keys.are_same.Goals as goal
 
--- src/node_table.rt
+-- src/node_keys.rt
 pub returns-then-same_tails : goal.returns-then-same_tails
 returns-then-same_tails c =
     let tails : c.same_tails.result ≡ same_tail c.args.one.now.tail c.args.other.now.tail = c.same_tails.ensures ∙ (λ i. same_tail (c.tail.ensures i) (c.tail-2.ensures i)) in

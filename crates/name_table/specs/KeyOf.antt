@@ -1,8 +1,8 @@
 -- What the variants of `KeyName` are.
 use Rattle.std.specs.Option.{option_copied}
-use Rattle.spef_nets.specs.Nodes.{Key, key_of}
-use Rattle.spef_nets.specs.declared.node_table.KeyName.{KeyName}
-use Rattle.spef_nets.specs.declared.node_table.KeyName.TheVariants.{Written, Named}
+use Rattle.name_table.specs.NodeKeys.{Key, key_of}
+use Rattle.name_table.specs.declared.node_keys.KeyName.{KeyName}
+use Rattle.name_table.specs.declared.node_keys.KeyName.TheVariants.{Written, Named}
 
 abbrev pub key_in : KeyName → Key
 key_in (Written name) = record { head = name.head.now; tail = option_copied name.tail }
