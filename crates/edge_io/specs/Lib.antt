@@ -1,3 +1,5 @@
+pub mod Bytes
+pub mod ByteTables
 pub mod Counts
 pub mod Told
 pub mod Holding

@@ -1,6 +1,6 @@
 -- What stands at the front of some bytes, by their first byte.
 use Rattle.std.proofs.Common.{◌≡◌, ℕ, true, false, ◌&&◌, ◌||◌, ◌==◌, List, drop, Some, None, refl, ap, ◌∙◌}
-use Rattle.token_texts.specs.Bytes.{quote, star, slash, backslash, begins_with}
+use Rattle.edge_io.specs.Bytes.{quote, star, slash, backslash, begins_with}
 use Rattle.token_texts.specs.Blanks.{is_blank}
 use Rattle.token_texts.specs.Comments.{line_length, comment_end}
 use Rattle.liberty_groups.specs.Cuts.{word_cut}

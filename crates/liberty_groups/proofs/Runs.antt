@@ -1,7 +1,7 @@
 -- How far a word goes, byte by byte.
 use Rattle.std.proofs.Common.{◌≡◌, ℕ, ◌+◌, ◌-◌, ◌<◌, ◌≤◌, Bool, true, false, cond, not, ◌&&◌, ◌==◌, List, ◌∷◌, length, drop, get_or, refl, ap, ◌∙◌, arith}
 use Rattle.std.proofs.lemmas.List.{drop_more, drop_all}
-use Rattle.token_texts.specs.Bytes.{slash, left_bracket, right_bracket}
+use Rattle.edge_io.specs.Bytes.{slash, left_bracket, right_bracket}
 use Rattle.liberty_groups.specs.Tokens.{is_plain, is_mark, word_length, goes_on, opened_behind}
 use Rattle.liberty_groups.specs.Cuts.{is_simple}
 

@@ -1,7 +1,7 @@
 -- What the bytes of a text say, byte by byte.
 use Rattle.std.proofs.Common.{◌≡◌, ℕ, zero, suc, ◌+◌, ◌-◌, ◌<◌, ◌≤◌, Bool, true, false, cond, ◌&&◌, ◌||◌, ◌==◌, List, [], ◌∷◌, ◌++◌, length, take, drop, get_or, refl, sym, ap, ◌∙◌, subst, arith, append-nil, append_assoc, nat_lt}
 use Rattle.std.proofs.lemmas.List.{drop_more, drop_all, drop-drop}
-use Rattle.token_texts.specs.Bytes.{quote, backslash, begins_with}
+use Rattle.edge_io.specs.Bytes.{quote, backslash, begins_with}
 use Rattle.token_texts.specs.ByteLemmas.{not_byte}
 use Rattle.liberty_groups.specs.Tokens.{continuation, is_dropped, meaning_behind, meaning}
 use Rattle.liberty_groups.specs.Dropping.{dropped}

@@ -1,6 +1,6 @@
 -- How much of some bytes stands at their front.
 use Rattle.std.specs.Prelude.{ℕ, ◌+◌, ◌==◌, Bool, not, ◌&&◌, List, length, if◌then◌else◌}
-use Rattle.token_texts.specs.Bytes.{slash, left_bracket, right_bracket}
+use Rattle.edge_io.specs.Bytes.{slash, left_bracket, right_bracket}
 use Rattle.liberty_groups.specs.Tokens.{is_plain, is_mark, opened_behind, word_length}
 use Rattle.liberty_groups.specs.declared.scan.Kind.{Kind}
 use Rattle.liberty_groups.specs.declared.scan.Kind.TheVariants.{Word, Bad}

@@ -1,7 +1,7 @@
 -- The bytes of a Liberty file (Liberty User Guide), and the tokens that they are parted into.
 use Rattle.std.specs.Prelude.{◌≡◌, ℕ, zero, suc, ◌+◌, ◌-◌, Bool, true, false, not, ◌&&◌, ◌||◌, ◌==◌, nat_le, nat_lt, if◌then◌else◌, List, [], ◌∷◌, length, take, drop, count_by, slice_index, position, Option, Some, None}
 use Rattle.std.specs.List.{list_any}
-use Rattle.token_texts.specs.Bytes.{tab, carriage_return, space, quote, left_paren, right_paren, star, comma, slash, colon, semicolon, left_bracket, backslash, right_bracket, left_brace, right_brace, begins_with}
+use Rattle.edge_io.specs.Bytes.{tab, carriage_return, space, quote, left_paren, right_paren, star, comma, slash, colon, semicolon, left_bracket, backslash, right_bracket, left_brace, right_brace, begins_with}
 use Rattle.token_texts.specs.Blanks.{is_blank, is_line_end}
 use Rattle.token_texts.specs.Comments.{line_length, comment_end}
 use Rattle.token_texts.specs.Quoted.{quote_end}

@@ -2,7 +2,7 @@
 use Rattle.std.proofs.Common.{◌≡◌, ℕ, suc, ◌+◌, ◌<◌, ◌≤◌, Bool, true, false, cond, ◌&&◌, ◌||◌, ◌==◌, List, [], ◌∷◌, length, drop, Option, Some, None, position, refl, sym, ap, subst, arith, nat_lt}
 use Rattle.std.specs.Prelude.{slice_index}
 use Rattle.std.proofs.lemmas.List.Quantifiers.{position-Some}
-use Rattle.token_texts.specs.Bytes.{quote, left_paren, right_paren, star, comma, slash, colon, semicolon, backslash, left_brace, right_brace, begins_with}
+use Rattle.edge_io.specs.Bytes.{quote, left_paren, right_paren, star, comma, slash, colon, semicolon, backslash, left_brace, right_brace, begins_with}
 use Rattle.token_texts.specs.Blanks.{is_blank, is_line_end}
 use Rattle.token_texts.specs.Comments.{line_length, comment_end}
 use Rattle.token_texts.specs.CommentLemmas.{line_within, pair_within}

@@ -5,7 +5,8 @@ use Rattle.std.proofs.lemmas.Bool.Decides.{Decides-eqb}
 use Rattle.std.proofs.lemmas.Result.{IfOk-weaker}
 use Rattle.std.proofs.lemmas.List.{map-append, take-append-le, drop-append-le, take_more, take_rest, length-take-le}
 use Rattle.std.proofs.Math.Seq.{take-length, drop-append-add}
-use Rattle.name_table.specs.Characters.{Character, bare, escaped, backslash, characters}
+use Rattle.name_table.specs.Characters.{Character, bare, escaped, characters}
+use Rattle.edge_io.specs.Bytes.{backslash}
 use Rattle.name_table.specs.SpefNames.{Halves, HasNone, is_delimiter, cut_with, cut_last, halves_at, byte_of, text_of, cut_node, node_of, node_name, joined}
 use Rattle.name_table.specs.declared.spef_names.SpefMarks.{SpefMarks}
 use Rattle.name_table.specs.declared.spef_names.NodeName.{NodeName}

@@ -3,7 +3,7 @@ use Rattle.std.proofs.Common.{◌≡◌, ◌≢◌, ℕ, zero, suc, ◌+◌, ◌
 use Rattle.std.proofs.lemmas.Bool.Decides.{Decides-eqb}
 use Rattle.std.proofs.Math.Seq.{take-length}
 use Rattle.memchr.specs.Find.{Nowhere, NoneAfter, Passes, is_byte}
-use Rattle.name_table.specs.Characters.{backslash}
+use Rattle.edge_io.specs.Bytes.{backslash}
 use Rattle.name_table.proofs.Cutting.{IsLastAt, CutsAt, last_stays, last_here, is_apart}
 use Rattle.name_table.proofs.Reading.{ends_inside, goes_inside, not_equal, ends_inside_more}
 

@@ -5,7 +5,8 @@ use Rattle.std.specs.List.{flat_map}
 use Rattle.std.proofs.lemmas.Bool.Decides.{Decides-eqb}
 use Rattle.std.proofs.lemmas.Grind.{flat_map-append}
 use Rattle.std.proofs.lemmas.List.{take_more, append-nil}
-use Rattle.name_table.specs.Characters.{Character, bare, escaped, backslash, characters, after_backslash}
+use Rattle.name_table.specs.Characters.{Character, bare, escaped, characters, after_backslash}
+use Rattle.edge_io.specs.Bytes.{backslash}
 
 -- whether the next byte is inside an escape, after one byte and after a word
 abbrev pub goes_inside : Bool → ℕ → Bool

@@ -6,8 +6,9 @@ use Rattle.std.specs.Int.{is_in_range}
 use Rattle.std.specs.List.{flat_map, list_all}
 use Rattle.std.proofs.lemmas.Bool.Decides.{Decides-eqb}
 use Rattle.std.proofs.lemmas.List.{append-nil}
-use Rattle.name_table.specs.Characters.{Character, bare, escaped, backslash, characters, after_backslash}
-use Rattle.name_table.specs.SdfNames.{slash, left_bracket, right_bracket, is_plain, spelled, part, respelled, canonical}
+use Rattle.name_table.specs.Characters.{Character, bare, escaped, characters, after_backslash}
+use Rattle.edge_io.specs.Bytes.{slash, left_bracket, backslash, right_bracket}
+use Rattle.name_table.specs.SdfNames.{is_plain, spelled, part, respelled, canonical}
 use Rattle.name_table.specs.SpefNames.{Halves, mark_or_spelled, sdf_of, spelling_of, node_of}
 use Rattle.name_table.specs.declared.spef_names.SpefMarks.{SpefMarks}
 use Rattle.name_table.specs.WellSpelled.{IsLetter, plain, taken, IsPiece, alone, with_bit, IsPart, piece, pieces, IsWellSpelled, one_part, parts}

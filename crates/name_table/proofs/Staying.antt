@@ -3,8 +3,9 @@ use Rattle.std.proofs.Common.{◌≡◌, ℕ, Bool, true, false, not, ◌&&◌, 
 use Rattle.std.specs.Prelude.{◌==◌, Option, Some, None, unwrap_or}
 use Rattle.std.specs.List.{list_all}
 use Rattle.std.proofs.lemmas.Bool.Decides.{Decides-eqb}
-use Rattle.name_table.specs.Characters.{Character, bare, backslash, characters, after_backslash}
-use Rattle.name_table.specs.SdfNames.{slash, is_plain}
+use Rattle.name_table.specs.Characters.{Character, bare, characters, after_backslash}
+use Rattle.edge_io.specs.Bytes.{slash, backslash}
+use Rattle.name_table.specs.SdfNames.{is_plain}
 use Rattle.name_table.specs.SpefNames.{meaning, mark_or_spelled, text_of, spelling_of, whole_node, cut_node}
 use Rattle.name_table.specs.Staying.{stays, stays_as, are_usual}
 use Rattle.name_table.specs.declared.spef_names.SpefMarks.{SpefMarks}

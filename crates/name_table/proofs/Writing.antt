@@ -3,7 +3,8 @@ use Rattle.std.proofs.Common.{◌≡◌, ℕ, ◌⊎◌, inl, inr, Bool, true, f
 use Rattle.std.specs.Prelude.{◌==◌}
 use Rattle.std.specs.List.{list_all}
 use Rattle.std.proofs.lemmas.Bool.Decides.{Decides-eqb}
-use Rattle.name_table.specs.Characters.{Character, bare, escaped, backslash, characters, after_backslash, written, may_stand, word_of}
+use Rattle.name_table.specs.Characters.{Character, bare, escaped, characters, after_backslash, written, may_stand, word_of}
+use Rattle.edge_io.specs.Bytes.{backslash}
 use Rattle.name_table.proofs.Reading.{reading}
 
 -- a backslash that was read before the word

@@ -1,14 +1,12 @@
 -- The characters of a name as it is written: a backslash makes the next byte literal.
 use Rattle.std.specs.Prelude.{ℕ, Bool, true, false, not, ◌==◌, List, [], ◌∷◌}
 use Rattle.std.specs.List.{flat_map}
+use Rattle.edge_io.specs.Bytes.{backslash}
 
 -- a byte that stands as it is, and one that a backslash takes with it
 pub data Character : Type 0 where
   bare : ℕ → Character
   escaped : ℕ → Character
-
-abbrev pub backslash : ℕ
-backslash = 92
 
 abbrev mutual
   -- the characters of a word

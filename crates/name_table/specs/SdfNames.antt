@@ -2,16 +2,8 @@
 use Rattle.std.specs.Prelude.{ℕ, Bool, ◌||◌, ◌==◌, List, [], ◌∷◌, if◌then◌else◌}
 use Rattle.std.specs.Char.{is_ascii_alphanumeric}
 use Rattle.std.specs.List.{flat_map}
-use Rattle.name_table.specs.Characters.{Character, bare, escaped, backslash, characters}
-
-abbrev pub slash : ℕ
-slash = 47
-
-abbrev pub left_bracket : ℕ
-left_bracket = 91
-
-abbrev pub right_bracket : ℕ
-right_bracket = 93
+use Rattle.name_table.specs.Characters.{Character, bare, escaped, characters}
+use Rattle.edge_io.specs.Bytes.{slash, left_bracket, backslash, right_bracket}
 
 -- a letter, a digit or `_`
 abbrev pub is_plain : ℕ → Bool

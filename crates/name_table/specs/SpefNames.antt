@@ -2,7 +2,8 @@
 use Rattle.std.specs.Prelude.{◌≡◌, ℕ, Bool, true, false, ◌==◌, List, [], ◌∷◌, ◌++◌, map, Option, Some, None, unwrap_or, if◌then◌else◌, ⊤}
 use Rattle.std.specs.List.{flat_map}
 use Rattle.name_table.specs.Characters.{Character, bare, escaped, characters}
-use Rattle.name_table.specs.SdfNames.{slash, left_bracket, right_bracket, spelled}
+use Rattle.name_table.specs.SdfNames.{spelled}
+use Rattle.edge_io.specs.Bytes.{slash, left_bracket, right_bracket}
 use Rattle.name_table.specs.declared.spef_names.SpefMarks.{SpefMarks}
 use Rattle.name_table.specs.declared.spef_names.NodeName.{NodeName}
 

@@ -1,6 +1,6 @@
 -- The bytes of a name that stand as they are, in the text that it stands for and in its spelling in SDF.
 use Rattle.std.specs.Prelude.{ℕ, Bool, not, ◌==◌, ◌&&◌, Option, Some, None}
-use Rattle.name_table.specs.Characters.{backslash}
+use Rattle.edge_io.specs.Bytes.{backslash}
 use Rattle.name_table.specs.SdfNames.{is_plain}
 use Rattle.name_table.specs.SpefNames.{meaning}
 use Rattle.name_table.specs.declared.spef_names.SpefMarks.{SpefMarks}

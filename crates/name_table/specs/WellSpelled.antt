@@ -2,8 +2,8 @@
 use Rattle.std.specs.Prelude.{◌≡◌, ℕ, true, false, List, [], ◌∷◌, ◌++◌}
 use Rattle.std.specs.Char.{is_ascii_digit}
 use Rattle.std.specs.List.{list_all}
-use Rattle.name_table.specs.Characters.{backslash}
-use Rattle.name_table.specs.SdfNames.{slash, left_bracket, right_bracket, is_plain}
+use Rattle.edge_io.specs.Bytes.{slash, left_bracket, backslash, right_bracket}
+use Rattle.name_table.specs.SdfNames.{is_plain}
 
 -- a letter, a digit, `_`, or a backslash with a byte that is none of them
 pub data IsLetter : List ℕ → Type 0 where

@@ -1,7 +1,7 @@
 -- Names of nodes that stand as they are written.
 use Rattle.std.specs.Prelude.{◌≡◌, ℕ, List, ◌∷◌, ◌++◌, Option, Some, None}
 use Rattle.std.specs.Option.{option_copied}
-use Rattle.name_table.specs.SdfNames.{slash}
+use Rattle.edge_io.specs.Bytes.{slash}
 use Rattle.name_table.specs.declared.spef_names.NodeName.{NodeName}
 use Rattle.name_table.specs.declared.written_names.WrittenName.{WrittenName}
 

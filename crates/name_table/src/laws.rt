@@ -1,8 +1,9 @@
 //! The laws of what the contracts speak of.
 ghost use Rattle.std.specs.Prelude.{◌≡◌, ℕ, true, ◌⊎◌, List, [], ◌∷◌, ◌++◌, Some, None};
 ghost use Rattle.std.specs.List.{list_all};
-ghost use Rattle.name_table.specs.Characters.{Character, bare, backslash, characters, may_stand, word_of};
-ghost use Rattle.name_table.specs.SdfNames.{slash, canonical};
+ghost use Rattle.name_table.specs.Characters.{Character, bare, characters, may_stand, word_of};
+ghost use Rattle.edge_io.specs.Bytes.{slash, backslash};
+ghost use Rattle.name_table.specs.SdfNames.{canonical};
 ghost use Rattle.name_table.specs.SpefNames.{HasNone, cut_last};
 ghost use Rattle.name_table.specs.WellSpelled.{IsWellSpelled};
 

@@ -1,7 +1,8 @@
 //! Names of SDF (IEEE 1497-2001, identifiers and hierarchical paths).
 ghost use Rattle.std.specs.Prelude.{◌≡◌, ◌≢◌, [], ◌∷◌, ◌++◌, IfOk, OnOk};
 ghost use Rattle.name_table.specs.Characters.{bare};
-ghost use Rattle.name_table.specs.SdfNames.{is_plain, spelled, part, respelled, canonical, slash};
+ghost use Rattle.name_table.specs.SdfNames.{is_plain, spelled, part, respelled, canonical};
+ghost use Rattle.edge_io.specs.Bytes.{slash};
 ghost use Rattle.name_table.specs.WellSpelled.{IsPart};
 
 use edge_io::lists::push;

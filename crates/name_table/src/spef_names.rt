@@ -1,8 +1,9 @@
 //! Names of SPEF (IEEE 1481-1999).
 ghost use Rattle.std.specs.Prelude.{◌≡◌, ◌≢◌, true, ◌+◌, ◌-◌, ◌<◌, ◌++◌, ◌∷◌, Bool, ℕ, List, Option, Some, None, take, drop, length, get_or, IfOk, IsTrue, IfSome, IfNone, OnOk, OnErr};
 ghost use Rattle.std.specs.List.{list_all};
-ghost use Rattle.name_table.specs.Characters.{bare, backslash, characters};
-ghost use Rattle.name_table.specs.SdfNames.{slash, canonical};
+ghost use Rattle.name_table.specs.Characters.{bare, characters};
+ghost use Rattle.edge_io.specs.Bytes.{slash, backslash};
+ghost use Rattle.name_table.specs.SdfNames.{canonical};
 ghost use Rattle.name_table.specs.SpefNames.{sdf_of, meaning, text_of, spelling_of, cut_last, halves_at, whole_node, cut_node, node_name, joined};
 ghost use Rattle.name_table.specs.Staying.{stays, stays_as, are_usual};
 

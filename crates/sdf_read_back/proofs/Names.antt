@@ -2,11 +2,11 @@
 use Rattle.std.proofs.Common.{◌≡◌, ℕ, ◌≤◌, ◌⊎◌, inl, inr, Bool, true, false, cond, ◌&&◌, ◌||◌, ◌==◌, List, [], ◌∷◌, ◌++◌, refl, sym, ap, ◌∙◌, subst, arith, true≢false}
 use Rattle.std.specs.List.{flat_map}
 use Rattle.std.proofs.lemmas.Bool.Decides.{Decides-eqb, nat_tests}
-use Rattle.name_table.specs.Characters.{Character, bare, escaped, backslash, characters}
-use Rattle.name_table.specs.SdfNames.{slash, left_bracket, right_bracket, is_plain, spelled, respelled}
+use Rattle.name_table.specs.Characters.{Character, bare, escaped, characters}
+use Rattle.name_table.specs.SdfNames.{is_plain, spelled, respelled}
 use Rattle.name_table.specs.WellSpelled.{IsLetter, plain, taken, IsPiece, alone, with_bit, IsPart, piece, pieces, IsWellSpelled, one_part, parts}
 use Rattle.name_table.proofs.Spelling.{stays_alone, well_spelled_stays_lem}
-use Rattle.token_texts.specs.Bytes.{begins_with}
+use Rattle.edge_io.specs.Bytes.{begins_with, backslash, slash, left_bracket, right_bracket}
 use Rattle.token_texts.specs.ByteLemmas.{not_byte}
 use Rattle.sdf_read_back.specs.Names.{begins_comment, IsSettled}
 use Rattle.sdf_read_back.proofs.Words.{GoesOn, both_go_on, nothing_goes_on, bare_goes_on, taken_goes_on, begins_from, bare_from, IsWord, always_word, slash_word}

@@ -2,8 +2,9 @@
 use Rattle.std.proofs.Common.{◌≡◌, ℕ, Bool, true, false, cond, ◌==◌, List, [], ◌∷◌, ◌++◌, Option, Some, None, refl, ap}
 use Rattle.std.specs.Prelude.{◌≢◌}
 use Rattle.std.proofs.lemmas.Bool.Decides.{Decides-eqb}
-use Rattle.name_table.specs.Characters.{Character, bare, escaped, backslash, characters, after_backslash}
-use Rattle.name_table.specs.SdfNames.{slash, is_plain, spelled}
+use Rattle.name_table.specs.Characters.{Character, bare, escaped, characters, after_backslash}
+use Rattle.edge_io.specs.Bytes.{slash, backslash}
+use Rattle.name_table.specs.SdfNames.{is_plain, spelled}
 use Rattle.name_table.specs.SpefNames.{Halves, meaning, mark_or_spelled, sdf_of, spelling_of, node_of, halves_at}
 use Rattle.name_table.specs.declared.spef_names.SpefMarks.{SpefMarks}
 use Rattle.name_table.proofs.Spelling.{stays_alone, node_stays}

@@ -6,8 +6,9 @@ use Rattle.std.specs.List.{flat_map, list_all}
 use Rattle.std.proofs.lemmas.Bool.Decides.{nat_tests}
 use Rattle.std.proofs.lemmas.List.{append-nil}
 use Rattle.std.proofs.lemmas.Grind.{flat_map-append}
-use Rattle.name_table.specs.Characters.{Character, bare, escaped, backslash}
-use Rattle.name_table.specs.SdfNames.{slash, left_bracket, right_bracket, is_plain, spelled}
+use Rattle.name_table.specs.Characters.{Character, bare, escaped}
+use Rattle.edge_io.specs.Bytes.{slash, left_bracket, backslash, right_bracket}
+use Rattle.name_table.specs.SdfNames.{is_plain, spelled}
 use Rattle.name_table.specs.SpefNames.{meaning, mark_or_spelled, sdf_of, spelling_of}
 use Rattle.name_table.specs.WellSpelled.{IsLetter, plain, taken, IsPiece, IsPart, IsWellSpelled}
 use Rattle.name_table.specs.WellSpelled as sdf

@@ -3,7 +3,7 @@ use Rattle.std.proofs.Common.{◌≡◌, ℕ, suc, ◌+◌, ◌<◌, ◌≤◌, 
 use Rattle.std.specs.List.{list_all}
 use Rattle.std.proofs.Math.Seq.{take-append_seam, drop-append_seam}
 use Rattle.std.proofs.lemmas.Bool.{le-leb, leb-true}
-use Rattle.token_texts.specs.Bytes.{begins_with}
+use Rattle.edge_io.specs.Bytes.{begins_with}
 use Rattle.token_texts.specs.Blanks.{is_blank}
 use Rattle.token_texts.specs.CutLemmas.{skip, take_one}
 use Rattle.token_texts.specs.RunLemmas.{escaped_more, escaped_none, escaped_taking}

@@ -1,7 +1,8 @@
 -- Which names SDF (IEEE 1497-2001) can say as they are spelled.
 use Rattle.std.specs.Prelude.{◌≡◌, ◌≢◌, ℕ, Bool, false, ◌&&◌, ◌==◌, List, [], ◌∷◌}
-use Rattle.name_table.specs.Characters.{Character, backslash}
-use Rattle.name_table.specs.SdfNames.{slash, canonical}
+use Rattle.name_table.specs.Characters.{Character}
+use Rattle.edge_io.specs.Bytes.{slash, backslash}
+use Rattle.name_table.specs.SdfNames.{canonical}
 use Rattle.name_table.specs.SpefNames.{whole_node, cut_node, node_name}
 use Rattle.name_table.specs.declared.spef_names.SpefMarks.{SpefMarks}
 

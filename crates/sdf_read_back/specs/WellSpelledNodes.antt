@@ -3,7 +3,7 @@ use Rattle.std.specs.Prelude.{◌≡◌, ℕ, true, List, [], ◌∷◌, ◌++�
 use Rattle.std.specs.Char.{is_ascii_digit}
 use Rattle.std.specs.List.{list_all}
 use Rattle.name_table.specs.Characters.{Character, bare, escaped}
-use Rattle.name_table.specs.SdfNames.{slash, left_bracket, right_bracket}
+use Rattle.edge_io.specs.Bytes.{slash, left_bracket, right_bracket}
 use Rattle.name_table.specs.SpefNames.{meaning, whole_node, cut_node}
 use Rattle.name_table.specs.WellSpelled.{IsWellSpelled}
 use Rattle.name_table.specs.declared.spef_names.SpefMarks.{SpefMarks}

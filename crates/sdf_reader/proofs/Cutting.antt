@@ -1,6 +1,6 @@
 -- What stands at the front of some bytes, by their first byte.
 use Rattle.std.proofs.Common.{◌≡◌, ℕ, true, false, ◌==◌, List, ◌∷◌, drop, refl}
-use Rattle.token_texts.specs.Bytes.{quote, left_paren, right_paren, star, slash, begins_with}
+use Rattle.edge_io.specs.Bytes.{quote, left_paren, right_paren, star, slash, begins_with}
 use Rattle.token_texts.specs.Blanks.{is_blank}
 use Rattle.token_texts.specs.Comments.{line_length, comment_end}
 use Rattle.sdf_reader.specs.Tokens.{text_end, text_cut, comment_cut, word_length, word_cut, cut_at}

@@ -1,6 +1,7 @@
 -- The rows of delays that an SDF file says (IEEE 1497-2001).
 use Rattle.std.specs.Prelude.{ℕ, List, [], ◌∷◌, ◌++◌, Option, Some, None}
-use Rattle.name_table.specs.SdfNames.{canonical, slash}
+use Rattle.name_table.specs.SdfNames.{canonical}
+use Rattle.edge_io.specs.Bytes.{slash}
 use Rattle.sdf_reader.specs.declared.modes.Shape.{Shape}
 use Rattle.sdf_reader.specs.declared.modes.Shape.TheVariants as shape
 use Rattle.sdf_reader.specs.declared.rows.Value.{Value}

@@ -1,6 +1,6 @@
 -- The bytes of an SDF file (IEEE 1497-2001), and the tokens that they are parted into.
 use Rattle.std.specs.Prelude.{ℕ, zero, suc, ◌+◌, ◌-◌, Bool, true, false, not, ◌&&◌, ◌||◌, ◌==◌, nat_le, if◌then◌else◌, List, [], ◌∷◌, length, take, drop, Option, Some, None}
-use Rattle.token_texts.specs.Bytes.{quote, left_paren, right_paren, star, slash, backslash, begins_with}
+use Rattle.edge_io.specs.Bytes.{quote, left_paren, right_paren, star, slash, backslash, begins_with}
 use Rattle.token_texts.specs.Blanks.{is_blank}
 use Rattle.token_texts.specs.Comments.{line_length, comment_end}
 use Rattle.token_texts.specs.Quoted.{takes, quote_end}

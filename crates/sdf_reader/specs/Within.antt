@@ -1,6 +1,6 @@
 -- What stands at the front of some bytes has a byte, and none past the end.
 use Rattle.std.proofs.Common.{◌≡◌, ℕ, zero, suc, ◌+◌, ◌<◌, ◌≤◌, Bool, true, false, cond, ◌&&◌, ◌==◌, List, [], ◌∷◌, length, drop, Option, Some, None, refl, subst, arith}
-use Rattle.token_texts.specs.Bytes.{quote, left_paren, right_paren, star, slash, begins_with}
+use Rattle.edge_io.specs.Bytes.{quote, left_paren, right_paren, star, slash, begins_with}
 use Rattle.token_texts.specs.Blanks.{is_blank}
 use Rattle.token_texts.specs.Comments.{line_length, comment_end}
 use Rattle.token_texts.specs.CommentLemmas.{line_within, pair_within}

@@ -1,6 +1,6 @@
 -- Whether a token is broken, by its first byte.
 use Rattle.std.proofs.Common.{◌≡◌, ℕ, Bool, true, false, cond, ◌==◌, List, [], ◌∷◌, length, sym, refl, ap, ◌∙◌, arith}
-use Rattle.token_texts.specs.Bytes.{quote, slash, backslash}
+use Rattle.edge_io.specs.Bytes.{quote, slash, backslash}
 use Rattle.token_texts.specs.Blanks.{is_blank}
 use Rattle.token_texts.specs.ByteLemmas.{not_byte}
 use Rattle.spef_text.specs.Tokens.{run_length, cut_at, is_broken, is_broken_cut}

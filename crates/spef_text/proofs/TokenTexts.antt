@@ -4,7 +4,7 @@ use Rattle.std.specs.List.{position_or_len}
 use Rattle.std.proofs.lemmas.List.{get_or-take}
 use Rattle.std.proofs.lemmas.List.Sums.{position_or_len_is}
 use Rattle.std.proofs.lemmas.List.Quantifiers.{position-Some}
-use Rattle.token_texts.specs.Bytes.{star, slash, begins_with}
+use Rattle.edge_io.specs.Bytes.{star, slash, begins_with}
 use Rattle.token_texts.specs.Blanks.{is_blank}
 use Rattle.token_texts.specs.Comments.{line_length, comment_end}
 use Rattle.token_texts.specs.RunLemmas.{escaped_within, escaped_whole}

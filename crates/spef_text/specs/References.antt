@@ -6,7 +6,7 @@ use Rattle.name_table.specs.WrittenNames.{IsWritten}
 use Rattle.name_table.specs.declared.spef_names.SpefMarks.{SpefMarks}
 use Rattle.name_table.specs.declared.spef_names.NodeName.{NodeName}
 use Rattle.name_table.specs.declared.written_names.WrittenName.{WrittenName}
-use Rattle.token_texts.specs.Bytes.{begins_with}
+use Rattle.edge_io.specs.Bytes.{begins_with}
 use Rattle.spef_text.specs.Classes.{index_digits}
 use Rattle.spef_text.specs.SpefFiles.{SpefText}
 use Rattle.spef_text.specs.Heads.{text_of, digits_of}

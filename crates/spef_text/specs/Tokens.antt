@@ -1,6 +1,6 @@
 -- The bytes of a SPEF file (IEEE 1481), and the tokens that they are parted into.
 use Rattle.std.specs.Prelude.{◌≡◌, ℕ, ◌+◌, Bool, true, false, not, ◌&&◌, ◌||◌, ◌==◌, if◌then◌else◌, List, [], ◌∷◌, length, take, drop, slice_index, position, Option, Some, None}
-use Rattle.token_texts.specs.Bytes.{quote, star, slash, backslash, begins_with}
+use Rattle.edge_io.specs.Bytes.{quote, star, slash, backslash, begins_with}
 use Rattle.token_texts.specs.Blanks.{is_blank, is_line_end}
 use Rattle.token_texts.specs.Comments.{line_length, comment_end}
 use Rattle.token_texts.specs.Runs.{escaped_run_length}

@@ -1,6 +1,6 @@
 -- The bytes that part tokens.
 use Rattle.std.specs.Prelude.{ℕ, Bool, ◌&&◌, ◌||◌, ◌==◌, nat_le}
-use Rattle.token_texts.specs.Bytes.{tab, line_end, carriage_return, space}
+use Rattle.edge_io.specs.Bytes.{tab, line_end, carriage_return, space}
 
 -- the bytes 9 to 13 and 32
 abbrev pub is_blank : ℕ → Bool

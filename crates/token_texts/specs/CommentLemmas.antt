@@ -2,7 +2,7 @@
 use Rattle.std.proofs.Common.{◌≡◌, ℕ, suc, ◌+◌, ◌<◌, ◌≤◌, Bool, true, false, cond, ◌&&◌, ◌==◌, List, [], ◌∷◌, length, Option, Some, None, option_map, position, refl, arith}
 use Rattle.std.specs.Prelude.{unwrap_or}
 use Rattle.std.proofs.lemmas.List.Quantifiers.{position-Some}
-use Rattle.token_texts.specs.Bytes.{begins_with}
+use Rattle.edge_io.specs.Bytes.{begins_with}
 use Rattle.token_texts.specs.Blanks.{is_line_end}
 use Rattle.token_texts.specs.Comments.{line_length, pair_place}
 

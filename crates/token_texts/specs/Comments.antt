@@ -1,7 +1,7 @@
 -- How far a comment goes: up to the end of its line, or up to the two bytes that end it.
 use Rattle.std.specs.Prelude.{ℕ, ◌+◌, ◌&&◌, ◌==◌, if◌then◌else◌, List, [], ◌∷◌, length, position, Option, Some, None, unwrap_or}
 use Rattle.std.specs.Option.{option_map}
-use Rattle.token_texts.specs.Bytes.{star, slash, begins_with}
+use Rattle.edge_io.specs.Bytes.{star, slash, begins_with}
 use Rattle.token_texts.specs.Blanks.{is_line_end}
 
 -- A byte with `rest` behind it, which begins a comment: how many bytes the comment has up to the end of its line, or of the file.

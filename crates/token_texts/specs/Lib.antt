@@ -1,4 +1,3 @@
-pub mod Bytes
 pub mod Blanks
 pub mod Comments
 pub mod Quoted

@@ -1,7 +1,7 @@
 -- How far a text in quotes goes.
 use Rattle.std.specs.Prelude.{ℕ, ◌+◌, Bool, not, ◌&&◌, ◌==◌, if◌then◌else◌, List, [], ◌∷◌, Option, Some, None}
 use Rattle.std.specs.Option.{option_map}
-use Rattle.token_texts.specs.Bytes.{quote, backslash}
+use Rattle.edge_io.specs.Bytes.{quote, backslash}
 use Rattle.token_texts.specs.declared.quoted.Escape.{Escape}
 use Rattle.token_texts.specs.declared.quoted.Escape.TheVariants.{NextByte, NextQuote}
 

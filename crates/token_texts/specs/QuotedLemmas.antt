@@ -2,7 +2,7 @@
 use Rattle.std.proofs.Common.{◌≡◌, ℕ, suc, ◌+◌, ◌<◌, ◌≤◌, Bool, true, false, cond, not, ◌&&◌, ◌==◌, List, [], ◌∷◌, length, drop, get_or, Option, Some, None, option_map, refl, ap, ap₂, ◌∙◌, arith}
 use Rattle.std.proofs.lemmas.Bool.{eq-eqb}
 use Rattle.std.proofs.lemmas.List.{drop_more, drop_all}
-use Rattle.token_texts.specs.Bytes.{quote}
+use Rattle.edge_io.specs.Bytes.{quote}
 use Rattle.token_texts.specs.Quoted.{takes, quote_end}
 use Rattle.token_texts.specs.ByteLemmas.{not_byte}
 use Rattle.token_texts.specs.declared.quoted.Escape.{Escape}

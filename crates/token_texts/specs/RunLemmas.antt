@@ -2,7 +2,7 @@
 use Rattle.std.proofs.Common.{◌≡◌, ℕ, zero, suc, ◌+◌, ◌-◌, ◌<◌, ◌≤◌, Bool, true, false, cond, ◌==◌, List, [], ◌∷◌, length, take, drop, get_or, refl, ap, subst, ◌∙◌, arith}
 use Rattle.std.proofs.lemmas.Bool.{eq-eqb}
 use Rattle.std.proofs.lemmas.List.{drop_more, drop_all}
-use Rattle.token_texts.specs.Bytes.{backslash}
+use Rattle.edge_io.specs.Bytes.{backslash}
 use Rattle.token_texts.specs.Runs.{run_length, escaped_run_length}
 use Rattle.token_texts.specs.ByteLemmas.{not_byte}
 

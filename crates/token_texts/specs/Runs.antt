@@ -1,6 +1,6 @@
 -- How long a run of bytes of one class is.
 use Rattle.std.specs.Prelude.{ℕ, ◌+◌, Bool, ◌==◌, if◌then◌else◌, List, [], ◌∷◌}
-use Rattle.token_texts.specs.Bytes.{backslash}
+use Rattle.edge_io.specs.Bytes.{backslash}
 
 -- how many bytes of the class stand at the front
 unfoldable pub run_length : (ℕ → Bool) → List ℕ → ℕ

@@ -5,7 +5,7 @@ use Rattle.std.proofs.lemmas.Bool.{eqb-true}
 use Rattle.std.proofs.lemmas.Grind.{common_steps}
 use Rattle.std.proofs.lemmas.List.Sums.{position_or_len_is}
 use Rattle.memchr.specs.Find.{Nowhere, NoneBefore, Passes, IsFirstByte, OccursAt, FindsNeedle}
-use Rattle.token_texts.specs.Bytes.{begins_with}
+use Rattle.edge_io.specs.Bytes.{begins_with}
 use Rattle.token_texts.specs.Comments.{pair_place}
 
 not_passing : (b : Bool) → (b ≡ true → ⊥) → b ≡ false

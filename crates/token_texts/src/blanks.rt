@@ -1,6 +1,6 @@
 //! Single bytes, and the class of blanks.
 ghost use Rattle.std.specs.Prelude.{◌≡◌};
-ghost use Rattle.token_texts.specs.Bytes.{begins_with};
+ghost use Rattle.edge_io.specs.Bytes.{begins_with};
 ghost use Rattle.token_texts.specs.Blanks.{is_blank};
 
 use crate::runs::ByteClass;

@@ -1,5 +1,5 @@
-//! What texts in tokens are made of: bytes by name, blanks, comments, texts in quotes, runs of bytes of one class, and the pieces
-//! between such bytes, with the lemmas that a reader of such texts is proved by.
+//! What texts in tokens are made of: blanks, comments, texts in quotes, runs of bytes of one class, and the pieces between such bytes,
+//! with the lemmas that a reader of such texts is proved by.
 //!
 //! What a new grammar writes: what stands at the front of some bytes, with the kinds of its tokens; its modes, and what each token
 //! does in them, as a `TokenReader`, which `read_tokens` runs over the bytes; and its rules, as a relation over numbered tokens.

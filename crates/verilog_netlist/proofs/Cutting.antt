@@ -1,6 +1,6 @@
 -- What stands at the front of some bytes, by their first byte, and that it has a byte, and none past the end.
 use Rattle.std.proofs.Common.{◌≡◌, ℕ, zero, suc, ◌+◌, ◌-◌, ◌<◌, ◌≤◌, Bool, true, false, cond, ◌||◌, ◌==◌, List, [], ◌∷◌, length, drop, length-drop, Option, Some, None, refl, ap, subst, arith}
-use Rattle.token_texts.specs.Bytes.{left_paren, right_paren, star, slash, backslash, begins_with}
+use Rattle.edge_io.specs.Bytes.{left_paren, right_paren, star, slash, backslash, begins_with}
 use Rattle.token_texts.specs.Blanks.{is_blank}
 use Rattle.token_texts.specs.Comments.{line_length, pair_place}
 use Rattle.token_texts.specs.Runs.{run_length}

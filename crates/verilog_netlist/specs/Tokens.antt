@@ -1,6 +1,6 @@
 -- The bytes of a Verilog file (IEEE 1364-2005, lexical conventions), and the tokens that they are parted into.
 use Rattle.std.specs.Prelude.{◌≡◌, ℕ, zero, suc, ◌+◌, ◌-◌, ◌*◌, Bool, true, false, ◌&&◌, ◌||◌, ◌==◌, nat_le, min, if◌then◌else◌, List, [], ◌∷◌, length, take, drop, Option, Some, None}
-use Rattle.token_texts.specs.Bytes.{left_paren, right_paren, star, comma, slash, colon, semicolon, left_bracket, backslash, right_bracket, left_brace, right_brace, begins_with}
+use Rattle.edge_io.specs.Bytes.{left_paren, right_paren, star, comma, slash, colon, semicolon, left_bracket, backslash, right_bracket, left_brace, right_brace, begins_with}
 use Rattle.token_texts.specs.Blanks.{is_blank}
 use Rattle.token_texts.specs.Comments.{line_length, pair_place}
 use Rattle.token_texts.specs.Runs.{run_length}

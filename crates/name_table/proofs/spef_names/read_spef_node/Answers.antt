@@ -1,6 +1,7 @@
 use Rattle.std.proofs.Common.{◌≡◌, None}
 use Rattle.name_table.specs.Characters.{characters}
-use Rattle.name_table.specs.SdfNames.{slash, canonical}
+use Rattle.name_table.specs.SdfNames.{canonical}
+use Rattle.edge_io.specs.Bytes.{slash}
 use Rattle.name_table.specs.SpefNames.{halves_at, whole_node, node_name, joined, text_of}
 use Rattle.name_table.proofs.Cutting.{answered, cut_named, node_of-joined}
 use Rattle.name_table.proofs.Spelling.{node_stays, stays_alone}

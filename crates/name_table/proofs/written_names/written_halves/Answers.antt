@@ -1,6 +1,6 @@
 use Rattle.std.proofs.Common.{◌++◌, ◌∷◌, ap, sym, ◌∙◌}
 use Rattle.std.specs.Prelude.{Some}
-use Rattle.name_table.specs.SdfNames.{slash}
+use Rattle.edge_io.specs.Bytes.{slash}
 use Rattle.name_table.proofs.Staying.{text_stays, spelling_stays}
 use Rattle.name_table.proofs.written_names.written_halves.Goals as goal
 

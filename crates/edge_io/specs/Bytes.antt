@@ -1,4 +1,4 @@
--- The bytes that token grammars speak of, by name.
+-- Bytes by name.
 use Rattle.std.specs.Prelude.{ℕ, ◌==◌, Bool, false, List, [], ◌∷◌}
 
 abbrev pub tab : ℕ
