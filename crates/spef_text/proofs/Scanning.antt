@@ -1,10 +1,11 @@
 -- The tokens so far, and that given bytes have only one list of tokens.
 use Rattle.std.proofs.Common.{◌≡◌, ℕ, ◌+◌, ◌-◌, ◌<◌, ◌≤◌, List, [], ◌∷◌, ◌++◌, length, suc, get_or, take, drop, length-drop, sym, refl, ap, ◌∙◌, subst, arith, append-nil}
 use Rattle.std.proofs.lemmas.List.{drop-drop, drop_all, take_all}
-use Rattle.spef_text.specs.Spans.{text_at, texts}
+use Rattle.token_texts.specs.Spans.{text_at}
+use Rattle.spef_text.specs.Spans.{texts}
 use Rattle.spef_text.specs.Tokens.{cut_at, AreTokens, end, skip, take_one, broken}
 use Rattle.spef_text.specs.declared.scan.Cut.TheVariants.{Skip, Take, Broken}
-use Rattle.spef_text.specs.declared.spans.Span.{Span}
+use Rattle.token_texts.specs.declared.spans.Span.{Span}
 
 -- up to `start` the bytes have the tokens of these spans: whatever tokens the rest has, the whole has them behind these
 pub record ScannedTo (bytes : List ℕ) (start : ℕ) (spans : List Span) : Type 0 where

@@ -7,8 +7,8 @@ ghost use Rattle.spef_text.specs.SpefFiles.{SpefText, IsFormed, IsKept};
 use crate::entries::{Cap, Conn, Res};
 use crate::head_items::HeadItems;
 use crate::sections::Sections;
-use crate::spans::Span;
 use std::marker::Model;
+use token_texts::Span;
 
 /// A SPEF file: its tokens, and what they say by the grammar. Contracts see the texts of the tokens, and the reading.
 #[derive(Drop)]

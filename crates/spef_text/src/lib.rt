@@ -20,7 +20,6 @@ mod reader;
 mod references;
 mod scan;
 mod sections;
-mod spans;
 mod units;
 mod words;
 

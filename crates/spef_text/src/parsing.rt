@@ -8,10 +8,10 @@ ghost use Rattle.spef_text.specs.SpefFiles.{Reads, SaysSpef, IsDead, HasForm, is
 use crate::file::SpefFile;
 use crate::reader::{ReadEnd, read};
 use crate::scan::scan;
-use crate::spans::Span;
 use crate::words::{Word, word_of};
 use edge_io::{OutOfMemory, Text};
 use std::alloc::Global;
+use token_texts::Span;
 
 /// Why a file is not read. Tokens count from 1, comments and blanks left out.
 #[derive(Debug, Drop)]

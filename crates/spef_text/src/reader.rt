@@ -7,9 +7,9 @@ ghost use Rattle.spef_text.specs.ReaderStates.{state_of, Steps, Makes};
 use crate::head_items::HeadItems;
 use crate::modes::{Mode, Step};
 use crate::sections::Sections;
-use crate::spans::Span;
 use edge_io::OutOfMemory;
 use std::alloc::Global;
+use token_texts::Span;
 
 /// Why the reader stops.
 #[derive(Clone, Copy)]

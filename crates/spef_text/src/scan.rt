@@ -6,11 +6,10 @@ ghost use Rattle.spef_text.specs.Tokens.{ends_text, text_cut, comment_cut, run_l
 ghost use Rattle.spef_text.specs.Cuts.{IsWithin};
 
 use crate::lanes::plain_length;
-use crate::spans::Span;
 use edge_io::OutOfMemory;
 use memchr::memchr2;
 use std::alloc::Global;
-use token_texts::{begins_with, comment_end, is_blank, line_length};
+use token_texts::{Span, begins_with, comment_end, is_blank, line_length};
 
 /// What stands at the front of some bytes: so many that are passed over, a token of so many, or a token that is broken,
 /// which takes them all.

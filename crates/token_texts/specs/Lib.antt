@@ -13,3 +13,4 @@ pub mod RunLemmas
 pub mod PieceLemmas
 pub mod CutLemmas
 pub mod Leading
+pub mod Spans

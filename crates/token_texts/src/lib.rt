@@ -1,5 +1,5 @@
-//! What texts in tokens are made of: blanks, comments, texts in quotes, runs of bytes of one class, and the pieces between such bytes,
-//! with the lemmas that a reader of such texts is proved by.
+//! What texts in tokens are made of: bytes of a file by their place, blanks, comments, texts in quotes, runs of bytes of one class, and
+//! the pieces of a list, with the lemmas that a reader of such texts is proved by.
 //!
 //! What a new grammar writes: what stands at the front of some bytes, with the kinds of its tokens; its modes, and what each token
 //! does in them, as a `TokenReader`, which `read_tokens` runs over the bytes; and its rules, as a relation over numbered tokens.
@@ -14,6 +14,7 @@ mod pieces;
 mod quoted;
 mod reading;
 mod runs;
+mod spans;
 
 pub use blanks::{Blank, begins_with, is_blank};
 pub use comments::{comment_end, line_length, pair_place};
@@ -22,3 +23,4 @@ pub use pieces::first_piece;
 pub use quoted::{Escape, quote_end, takes};
 pub use reading::{ReadEnd, TokenReader, read_tokens};
 pub use runs::{ByteClass, escaped_run_length, run_length};
+pub use spans::Span;

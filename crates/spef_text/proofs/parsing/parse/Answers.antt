@@ -1,7 +1,7 @@
 -- The answers, from what the reader makes of the tokens.
 use Rattle.std.proofs.Common.{arith}
 use Rattle.std.proofs.lemmas.List.{length-map}
-use Rattle.spef_text.specs.Spans.{text_at}
+use Rattle.token_texts.specs.Spans.{text_at}
 use Rattle.spef_text.proofs.Answering.{few_tokens, reads, no_other, positive, says_nothing, is_dead, has_form}
 use Rattle.spef_text.proofs.parsing.parse.Goals as goal
 

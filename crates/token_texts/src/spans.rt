@@ -1,16 +1,17 @@
 //! Pieces of a file's bytes, by their place.
 ghost use Rattle.std.specs.Prelude.{◌≡◌};
-ghost use Rattle.spef_text.specs.Spans.{text_at};
+ghost use Rattle.token_texts.specs.Spans.{text_at};
 
-/// The bytes of one token: the place of the first, and how many they are.
+/// A piece of a file: the place of its first byte, and how many bytes it has.
 #[derive(Clone, Copy, PartialEq, Eq, Debug)]
 pub struct Span {
-    pub(crate) start: u32,
-    pub(crate) len: u32,
+    pub start: u32,
+    pub len: u32,
 }
 
 impl Span {
-    /// The bytes of the token, or as many as the file has there.
+    /// The bytes of the piece, or as many as the file has there.
+    #[inline]
     pub fn of(self, bytes: &[u8]) -> &[u8]
         ensures { result.now ≡ text_at bytes.now self }
     {
