@@ -1,10 +1,10 @@
 -- A printed time is a word, which says the time in picoseconds.
 use Rattle.std.proofs.Common.{◌≡◌, ℕ, zero, suc, ◌*◌, ◌/◌, ◌%◌, ◌^◌, ◌<◌, ◌≤◌, ◌⊎◌, inl, inr, List, ◌∷◌, ◌++◌, length, Some, None, ℤ, pos, negsuc, ◌+ℤ◌, ◌-ℤ◌, ◌*ℤ◌, unsigned_abs, decimal, refl, sym, ap, ◌∙◌, subst, arith}
-use Rattle.std.proofs.Math.IntN.{zero-*ℤ, pos-*ℤ-pos}
+use Rattle.std.proofs.Math.IntN.{zero-*ℤ}
 use Rattle.std.proofs.lemmas.Bool.{cases_lt}
 use Rattle.std.proofs.lemmas.Int.{ints}
 use Rattle.std.proofs.lemmas.List.{length-append, append-nil}
-use Rattle.delay_units.specs.Literal.{Sign, unsigned, plus, minus, sign_text, Literal, Spells, signed, number_of, significant, IsDecimalOf, IsNumber}
+use Rattle.delay_units.specs.Literal.{Sign, unsigned, minus, sign_text, Literal, Spells, signed, number_of, significant, IsDecimalOf, IsNumber}
 use Rattle.delay_units.specs.Printing.{last_digits, fixed_text, femto_text}
 use Rattle.delay_units.specs.Reading.{IsRoundedPower}
 use Rattle.delay_units.specs.Rounding.{IsRounding}
@@ -12,8 +12,10 @@ use Rattle.delay_units.specs.declared.numbers.Decimal.{Decimal}
 use Rattle.delay_units.specs.declared.quantities.Femto.{Femto}
 use Rattle.delay_units.proofs.PowerLemmas.{ten_le}
 use Rattle.sdf_reader.specs.Numbers.{IsTime}
-use Rattle.delay_units.proofs.AnswerLemmas.{neg-product}
-use Rattle.sdf_read_back.proofs.Digits.{Writes, decimal_writes, last_write, last_are_digits, last_length, decimal_length, significant_fewer, strip}
+use Rattle.delay_units.proofs.AnswerLemmas.{by_one, signed_zero}
+use Rattle.delay_units.proofs.NormalNumbers.{strip, signed_times, signed_size, no_zero}
+use Rattle.delay_units.proofs.ShortLemmas.{few_significant}
+use Rattle.sdf_read_back.proofs.Digits.{Writes, decimal_writes, last_write, last_are_digits, last_length, decimal_length}
 
 -- ---- signs
 
@@ -33,17 +35,6 @@ text_is time = by time.0
     by : (z : ℤ) → femto_text (record { 0 = z }) ≡ sign_text (sign_of z) ++ fixed_text 3 (unsigned_abs z)
     by (pos n) = refl
     by (negsuc n) = refl
-
-signed_times : (s : Sign) (n q : ℕ) → signed s n *ℤ pos q ≡ signed s (n * q)
-signed_times unsigned n q = pos-*ℤ-pos n q
-signed_times plus n q = pos-*ℤ-pos n q
-signed_times minus n q = neg-product n q
-
-signed_size : (s : Sign) (n : ℕ) → unsigned_abs (signed s n) ≡ n
-signed_size unsigned n = refl
-signed_size plus n = refl
-signed_size minus zero = refl
-signed_size minus (suc n) = refl
 
 -- ---- the literal
 
@@ -72,7 +63,7 @@ spells sign n within = record {
 
 few : (n : ℕ) → n ≤ 10 ^ 27 → length (significant (digits_of n)) ≤ 30
 few n within =
-    let less = significant_fewer (digits_of n) in
+    let less = few_significant (digits_of n) in
     let long = length-append (decimal (n / 10 ^ 3)) (last_digits 3 n) in
     let three = last_length 3 n in
     let front = decimal_length (n / 10 ^ 3) 25 (omega arith) (omega (arith, within)) (small_front n within) in
@@ -86,16 +77,6 @@ record Cut (sign : Sign) (n : ℕ) : Type 0 where
   size : decimal.digits *ℤ pos (10 ^ zeros) ≡ signed sign n
   no_trailing_zero : (decimal.digits ≡ pos 0 → ⊥) → unsigned_abs decimal.digits % 10 ≡ 0 → ⊥
   zero : decimal.digits ≡ pos 0 → decimal.exponent ≡ pos 0
-
-no_zero : (s : Sign) (n : ℕ) → (n % 10 ≡ 0 → ⊥) → signed s n ≡ pos 0 → ⊥
-no_zero s n last e =
-    let size : n ≡ 0 = sym (signed_size s n) ∙ ap unsigned_abs e in
-    last (ap (λ x. x % 10) size)
-
-signed_zero : (s : Sign) → signed s 0 ≡ pos 0
-signed_zero unsigned = refl
-signed_zero plus = refl
-signed_zero minus = refl
 
 few_zeros : (zeros n : ℕ) → 10 ^ zeros ≤ n → n ≤ 10 ^ 27 → zeros ≤ 27
 few_zeros zeros n least most = by (cases_lt 27 zeros)
@@ -131,9 +112,6 @@ cut sign (suc n) within =
 
 rounded : (z : ℤ) → IsRounding z (pos 1) z
 rounded z = record { least = omega (arith, ints); most = omega (arith, ints) }
-
-by_one : (z : ℤ) → z *ℤ pos (10 ^ 0) ≡ z
-by_one z = omega (arith, ints)
 
 value_of : (sign : Sign) (n : ℕ) → n ≤ 10 ^ 27 → (c : Cut sign n) → IsDecimalOf (printed sign n) c.decimal
 value_of sign n within c =
