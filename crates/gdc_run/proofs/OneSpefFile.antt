@@ -1,5 +1,5 @@
 -- The phases that read a SPEF file have one answer each.
-use Rattle.std.proofs.Common.{◌≡◌, ℕ, ◌-◌, ⊎_elim, true, false, ◌<◌, ◌≤◌, pos, ◌+ℤ◌, arith, List, length, Some, None, Option, Result, Ok, Err, refl, sym, ap, ap₂, ◌∙◌, subst}
+use Rattle.std.proofs.Common.{◌≡◌, ℕ, ◌-◌, ⊎_elim, true, false, ◌<◌, pos, ◌+ℤ◌, arith, List, length, Some, None, Option, Result, Ok, Err, refl, sym, ap, ap₂, ◌∙◌, subst}
 use Rattle.std.specs.Prelude.{slice_get, All}
 use Rattle.std.proofs.lemmas.Option.{slice_get_within, get_or_from_slice_get}
 use Rattle.corner_set.specs.declared.pick.Pick.{Pick}
