@@ -1,3 +1,4 @@
+pub mod NameHash
 pub mod Characters
 pub mod Names
 pub mod SdfNames

@@ -4,6 +4,7 @@
 #![tactic(auto)]
 
 mod laws;
+mod name_hash;
 mod names;
 mod node_keys;
 mod sdf_names;
@@ -11,6 +12,7 @@ mod spef_names;
 mod written_names;
 
 pub use laws::{one_cut, one_reading, well_spelled_stays};
+pub use name_hash::{NameHash, NameHasher};
 pub use names::{NameId, Names};
 pub use node_keys::NodeKey;
 pub use sdf_names::{canonical_sdf, escape_sdf};

@@ -4,7 +4,6 @@ pub mod Elements
 pub mod NetElements
 pub mod Sections
 pub mod Faults
-pub mod NameHash
 pub mod Refs
 pub mod NodeKeys
 pub mod RefsOf

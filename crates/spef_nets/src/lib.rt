@@ -8,7 +8,6 @@ mod elements;
 mod ends;
 mod laws;
 mod marks;
-mod name_hash;
 mod net;
 mod node_names;
 mod node_table;

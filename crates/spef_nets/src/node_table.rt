@@ -3,11 +3,10 @@ ghost use Rattle.std.specs.Prelude.{◌≡◌, ◌+◌, false, [], slice_get, So
 ghost use Rattle.name_table.specs.NodeKeys.{among};
 ghost use Rattle.spef_nets.specs.Refs.{IsInterned};
 
-use crate::name_hash::NameHash;
 use edge_io::OutOfMemory;
 use edge_io::lists::{empty, push};
 use indexmap::IndexSet;
-use name_table::NodeKey;
+use name_table::{NameHash, NodeKey};
 use std::alloc::Global;
 use std::hash::Hash;
 use std::marker::Model;

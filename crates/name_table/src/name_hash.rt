@@ -1,10 +1,10 @@
 //! How a spelling is hashed.
 ghost use Rattle.std.specs.Prelude.{◌≡◌};
-ghost use Rattle.spef_nets.specs.NameHash.{fresh, write, mixed};
+ghost use Rattle.name_table.specs.NameHash.{fresh, write, mixed};
 
 use std::hash::{BuildHasherDefault, Hasher};
 
-/// Makes the hasher of a table of nodes.
+/// Makes the hasher of a table of names.
 pub type NameHash = BuildHasherDefault<NameHasher>;
 
 /// The hash of Fowler, Noll and Vo over 64 bits (FNV-1): the state is multiplied by their prime, and then a byte is joined by

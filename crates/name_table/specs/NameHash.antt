@@ -1,6 +1,6 @@
 -- The hash of Fowler, Noll and Vo over 64 bits, in the order in which the product comes before a byte is joined (FNV-1), and what a table takes of it.
 use Rattle.std.specs.Prelude.{ℕ, ◌*◌, ◌/◌, ◌%◌, ◌^◌, List, fold, bit_and, bit_or, bit_xor}
-use Rattle.spef_nets.specs.declared.name_hash.NameHasher.{NameHasher}
+use Rattle.name_table.specs.declared.name_hash.NameHasher.{NameHasher}
 
 -- the offset basis
 abbrev pub fresh : NameHasher
