@@ -11,5 +11,10 @@ pub mod Finding
 pub mod Repeating
 pub mod Pairing
 pub mod Ranging
+pub mod PartsFound
+pub mod Placing
+pub mod Naming
+pub mod NetNaming
+pub mod TableReading
 pub mod Faulting
 pub mod Refusing

@@ -9,8 +9,8 @@ use Rattle.verilog_netlist.specs.Modes.{State, first_state, state_after, next, f
 use Rattle.verilog_netlist.specs.declared.spans.Span.{Span}
 use Rattle.verilog_netlist.specs.declared.kinds.Kind.{Kind}
 use Rattle.verilog_netlist.specs.declared.kinds.Kind.TheVariants as kind
-use Rattle.verilog_netlist.specs.declared.entries.Way.{Way}
-use Rattle.verilog_netlist.specs.declared.entries.Way.TheVariants.{In, Out}
+use Rattle.verilog_netlist.specs.declared.entries.Direction.{Direction}
+use Rattle.verilog_netlist.specs.declared.entries.Direction.TheVariants.{In, Out}
 use Rattle.verilog_netlist.specs.declared.entries.Decl.{Decl}
 use Rattle.verilog_netlist.specs.declared.entries.Decl.TheVariants as decl
 use Rattle.verilog_netlist.specs.declared.entries.Range.{Range}
@@ -61,13 +61,13 @@ data InModule : List Entry → List Tok → List Tok → Type 0 where
 
 -- up to a direction
 data Directed : Decl → List Entry → List Tok → List Tok → Type 0 where
-  first_of_header : {word : Tok} {from here : List Tok} {entries : List Entry} {way : Way}
+  first_of_header : {word : Tok} {from here : List Tok} {entries : List Entry} {way : Direction}
       → Opened entries from (word ∷ here) → IsDirection word way
       → Directed (decl.InHeader way) entries from here
-  in_header : {comma word : Tok} {from here : List Tok} {entries : List Entry} {way : Way}
+  in_header : {comma word : Tok} {from here : List Tok} {entries : List Entry} {way : Direction}
       → HasAnsis entries from (comma ∷ word ∷ here) → Is kind.Comma comma → IsDirection word way
       → Directed (decl.InHeader way) entries from here
-  as_item : {word : Tok} {from here : List Tok} {entries : List Entry} {way : Way}
+  as_item : {word : Tok} {from here : List Tok} {entries : List Entry} {way : Direction}
       → InModule entries from (word ∷ here) → IsDirection word way
       → Directed (decl.Port way) entries from here
 
@@ -195,7 +195,7 @@ data Meant : State → List Tok → List Tok → Type 0 where
       → NameDue by bounds entries from here → Meant (at (DeclaredName by bounds) entries) from here
   at_declared : {by : Decl} {bounds : Option Range} {from here : List Tok} {entries : List Entry}
       → HasDeclared by bounds entries from here → Meant (at (DeclaredMore by bounds) entries) from here
-  at_next_port : {way : Way} {bounds : Option Range} {comma : Tok} {from here : List Tok} {entries : List Entry}
+  at_next_port : {way : Direction} {bounds : Option Range} {comma : Tok} {from here : List Tok} {entries : List Entry}
       → HasDeclared (decl.InHeader way) bounds entries from (comma ∷ here) → Is kind.Comma comma → Meant (at (NextPort way bounds) entries) from here
   at_instance : {cell : Span} {from here : List Tok} {entries : List Entry} → InstanceDue cell entries from here → Meant (at (InstanceName cell) entries) from here
   at_instance_open : {cell : Span} {from here : List Tok} {entries : List Entry} → InstanceNamed cell entries from here → Meant (at (InstanceOpen cell) entries) from here
@@ -243,7 +243,7 @@ declare : {by : Decl} {bounds : Option Range} {id : Tok} {from here : List Tok} 
 declare (first_due w r) n = has_declared w r (one (name n))
 declare (next_due (has_declared w r are) c) n = has_declared w r (one_more_name are c n)
 
-ansis_end : {way : Way} {bounds : Option Range} {from here : List Tok} {entries : List Entry} → HasDeclared (decl.InHeader way) bounds entries from here → HasAnsis entries from here
+ansis_end : {way : Direction} {bounds : Option Range} {from here : List Tok} {entries : List Entry} → HasDeclared (decl.InHeader way) bounds entries from here → HasAnsis entries from here
 ansis_end (has_declared (by_way (first_of_header o d) w) r are) = has_ansis o (one (ansi d w (declared r are)))
 ansis_end (has_declared (by_way (in_header (has_ansis o before) c d) w) r are) = has_ansis o (and_one before c (ansi d w (declared r are)))
 
@@ -259,7 +259,7 @@ no_names_close (opened b o) c = headed b (ports o left_out c)
 more_item : {from middle here : List Tok} {before entries : List Entry} → InModule before from middle → IsItem middle before entries here → InModule entries from here
 more_item (in_module b p s are) i = in_module b p s (more are i)
 
-ports_end : {way : Way} {bounds : Option Range} {end : Tok} {from here : List Tok} {entries : List Entry} → HasDeclared (decl.Port way) bounds entries from (end ∷ here) → Is kind.Semicolon end → InModule entries from here
+ports_end : {way : Direction} {bounds : Option Range} {end : Tok} {from here : List Tok} {entries : List Entry} → HasDeclared (decl.Port way) bounds entries from (end ∷ here) → Is kind.Semicolon end → InModule entries from here
 ports_end (has_declared (by_way (as_item m d) w) r are) e = more_item m (directed (ansi d w (declared r are)) e)
 
 not_wire_way : {from here : List Tok} {entries : List Entry} → Directed decl.Wire entries from here → ⊥
@@ -376,7 +376,7 @@ module _ {from here : List Tok} {token : Tok} {entries : List Entry} {after : St
   in_declared_name {by} {bounds} kind.Name is due e = becomes (at (DeclaredMore by bounds) (added entries (entry.Declared by token.text.at bounds))) e (at_declared (declare due is))
   in_declared_name _ is due e = absurd (cc)
 
-  in_header_declared : {way : Way} {bounds : Option Range} (k : Kind) → Is k token → HasDeclared (decl.InHeader way) bounds entries from (token ∷ here) → state_after (header_declared_step k way bounds) entries ≡ Ok after → Meant after from here
+  in_header_declared : {way : Direction} {bounds : Option Range} (k : Kind) → Is k token → HasDeclared (decl.InHeader way) bounds entries from (token ∷ here) → state_after (header_declared_step k way bounds) entries ≡ Ok after → Meant after from here
   in_header_declared {way} {bounds} kind.Comma is h e = becomes (at (NextPort way bounds) entries) e (at_next_port h is)
   in_header_declared kind.RightParen is h e = becomes (at HeaderEnd entries) e (at_header_end (ansis_close (ansis_end h) is))
   in_header_declared _ is h e = absurd (cc)
@@ -392,7 +392,7 @@ module _ {from here : List Tok} {token : Tok} {entries : List Entry} {after : St
   in_declared (decl.Port way) h e = in_item_declared token.text.kind refl (ports_end h) h e
   in_declared decl.Wire h e = in_item_declared token.text.kind refl (wires_end h) h e
 
-  in_next_port : {way : Way} {bounds : Option Range} {comma : Tok} (k : Kind) → Is k token → HasDeclared (decl.InHeader way) bounds entries from (comma ∷ token ∷ here) → Is kind.Comma comma
+  in_next_port : {way : Direction} {bounds : Option Range} {comma : Tok} (k : Kind) → Is k token → HasDeclared (decl.InHeader way) bounds entries from (comma ∷ token ∷ here) → Is kind.Comma comma
       → state_after (next_port_step k token.text.at way bounds) entries ≡ Ok after → Meant after from here
   in_next_port {way} {bounds} kind.Name is h c e =
       becomes (at (DeclaredMore (decl.InHeader way) bounds) (added entries (entry.Declared (decl.InHeader way) token.text.at bounds))) e (at_declared (declare (next_due h c) is))

@@ -13,10 +13,11 @@ use Rattle.indexmap.specs.IndexSet.{insert_key}
 use Rattle.verilog_netlist.specs.Spans.{text_at}
 use Rattle.verilog_netlist.specs.Namespaces.{name_of, own_names, header_names, IsAmong, by_own, in_header, begins_module, begins_instance, scope_of, IsRepeated}
 use Rattle.verilog_netlist.specs.Directions.{StandsAmong}
+pub use Rattle.verilog_netlist.specs.PartPlaces.{no_entry}
 use Rattle.verilog_netlist.specs.NameKeys.{code_of, Key, key_in, keys_in, same_key, scope_in, counted, key_of, holds, with_key, is_held, with_name, key_at, IsKeyBefore, HoldsNames}
 use Rattle.verilog_netlist.specs.declared.entries.Decl.TheVariants as decl
 use Rattle.verilog_netlist.specs.declared.entries.Entry.{Entry}
-use Rattle.verilog_netlist.specs.declared.entries.Entry.TheVariants.{Declared, Module}
+use Rattle.verilog_netlist.specs.declared.entries.Entry.TheVariants.{Declared}
 use Rattle.verilog_netlist.specs.declared.namespaces.Names.{Names}
 use Rattle.verilog_netlist.specs.declared.namespaces.Names.TheVariants as names
 use Rattle.verilog_netlist.specs.declared.repeats.NameKey.{NameKey}
@@ -332,9 +333,6 @@ module _ {among among' : Option Names} {scopes scopes' : Scopes} {name name' : L
   pub with_so : (after : List Key) → after ≡ with_name among scopes name keys → after ≡ with_name among' scopes' name' keys
   with_so after h =
       h ∙ ap (λ (a : Option Names). with_name a scopes name keys) e ∙ ap (λ (s : Scopes). with_name among' s name keys) f ∙ ap (λ (n : List ℕ). with_name among' scopes' n keys) g
-
-abbrev pub no_entry : Entry
-no_entry = Module (record { start = 0; len = 0 })
 
 pub stands_at : (entries : List Entry) (place : ℕ) → place < length entries → slice_get entries place ≡ Some (get_or entries place no_entry)
 stands_at entries place below = slice_get-get_or entries place no_entry below

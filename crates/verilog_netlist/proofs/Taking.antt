@@ -7,8 +7,8 @@ use Rattle.verilog_netlist.specs.Modes.{State, first_state, state_after, next, f
 use Rattle.verilog_netlist.specs.declared.spans.Span.{Span}
 use Rattle.verilog_netlist.specs.declared.kinds.Kind.{Kind}
 use Rattle.verilog_netlist.specs.declared.kinds.Kind.TheVariants as kind
-use Rattle.verilog_netlist.specs.declared.entries.Way.{Way}
-use Rattle.verilog_netlist.specs.declared.entries.Way.TheVariants.{In, Out}
+use Rattle.verilog_netlist.specs.declared.entries.Direction.{Direction}
+use Rattle.verilog_netlist.specs.declared.entries.Direction.TheVariants.{In, Out}
 use Rattle.verilog_netlist.specs.declared.entries.Decl.{Decl}
 use Rattle.verilog_netlist.specs.declared.entries.Decl.TheVariants as decl
 use Rattle.verilog_netlist.specs.declared.entries.Range.{Range}
@@ -99,16 +99,16 @@ module _ (value : List Entry) where
   behind_way by (wire is) are leads = go (AfterWay by) (AfterWire by) kind.Wire is refl (declarations by (AfterWire by) (λ place. refl) (λ place. refl) are leads)
 
   -- a direction and what it declares
-  directions_from : (by : Way → Decl) (mode : Mode)
+  directions_from : (by : Direction → Decl) (mode : Mode)
       → ((place : Span) → step_in mode kind.Input place ≡ Go (AfterWay (by In)))
       → ((place : Span) → step_in mode kind.Output place ≡ Go (AfterWay (by Out)))
       → {from rest : List Tok} {before after : List Entry} → IsAnsi by from before after rest
-      → ((way : Way) (bounds : Option Range) → Leads (DeclaredMore (by way) bounds) after rest) → Leads mode before from
+      → ((way : Direction) (bounds : Option Range) → Leads (DeclaredMore (by way) bounds) after rest) → Leads mode before from
   directions_from by mode i o (ansi {word = word} (input is) w are) leads = go mode (AfterWay (by In)) kind.Input is (i word.text.at) (behind_way (by In) w are (leads In))
   directions_from by mode i o (ansi {word = word} (output is) w are) leads = go mode (AfterWay (by Out)) kind.Output is (o word.text.at) (behind_way (by Out) w are (leads Out))
 
   header_directions : {from rest : List Tok} {before after : List Entry} → Listed (IsAnsi (λ way. decl.InHeader way)) from before after rest
-      → ((way : Way) (bounds : Option Range) → Leads (DeclaredMore (decl.InHeader way) bounds) after rest) → Leads HeaderStart before from
+      → ((way : Direction) (bounds : Option Range) → Leads (DeclaredMore (decl.InHeader way) bounds) after rest) → Leads HeaderStart before from
   header_directions (one p) leads = directions_from (λ way. decl.InHeader way) HeaderStart (λ place. refl) (λ place. refl) p leads
   header_directions (and_one before c p) leads =
       header_directions before (λ way bounds. go (DeclaredMore (decl.InHeader way) bounds) (NextPort way bounds) kind.Comma c refl

@@ -7,8 +7,8 @@ use Rattle.verilog_netlist.specs.Tokens.{Lexeme}
 use Rattle.verilog_netlist.specs.declared.spans.Span.{Span}
 use Rattle.verilog_netlist.specs.declared.kinds.Kind.{Kind}
 use Rattle.verilog_netlist.specs.declared.kinds.Kind.TheVariants as kind
-use Rattle.verilog_netlist.specs.declared.entries.Way.{Way}
-use Rattle.verilog_netlist.specs.declared.entries.Way.TheVariants.{In, Out}
+use Rattle.verilog_netlist.specs.declared.entries.Direction.{Direction}
+use Rattle.verilog_netlist.specs.declared.entries.Direction.TheVariants.{In, Out}
 use Rattle.verilog_netlist.specs.declared.entries.Decl.{Decl}
 use Rattle.verilog_netlist.specs.declared.entries.Decl.TheVariants as decl
 use Rattle.verilog_netlist.specs.declared.entries.Range.{Range}
@@ -59,7 +59,7 @@ pub data IsName (says : Span → Entry) : List Tok → List Entry → List Entry
       → IsName says (id ∷ rest) before (added before (says id.text.at)) rest
 
 -- direction = "input" | "output"
-pub data IsDirection : Tok → Way → Type 0 where
+pub data IsDirection : Tok → Direction → Type 0 where
   input : {word : Tok} → Is kind.Input word → IsDirection word In
   output : {word : Tok} → Is kind.Output word → IsDirection word Out
 
@@ -87,8 +87,8 @@ pub data AreDeclared (by : Decl) : List Tok → List Entry → List Entry → Li
       → AreDeclared by from before after rest
 
 -- ansi = direction [ "wire" ] [ range ] id { "," id }, in a header or behind it
-pub data IsAnsi (by : Way → Decl) : List Tok → List Entry → List Entry → List Tok → Type 0 where
-  ansi : {word : Tok} {from at_names rest : List Tok} {before after : List Entry} {way : Way}
+pub data IsAnsi (by : Direction → Decl) : List Tok → List Entry → List Entry → List Tok → Type 0 where
+  ansi : {word : Tok} {from at_names rest : List Tok} {before after : List Entry} {way : Direction}
       → IsDirection word way → MaybeWire from at_names → AreDeclared (by way) at_names before after rest
       → IsAnsi by (word ∷ from) before after rest
 

@@ -16,3 +16,10 @@ pub mod Ranges
 pub mod Faults
 pub mod Netlist
 pub mod DeclaredNames
+pub mod Parts
+pub mod PartPlaces
+pub mod ModuleNames
+pub mod NetModules
+pub mod NameRows
+pub mod ModuleTables
+pub mod Parsed

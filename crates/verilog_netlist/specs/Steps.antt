@@ -3,8 +3,8 @@ use Rattle.std.specs.Prelude.{ℕ, zero, suc, nat_lt, if◌then◌else◌, Optio
 use Rattle.verilog_netlist.specs.declared.spans.Span.{Span}
 use Rattle.verilog_netlist.specs.declared.kinds.Kind.{Kind}
 use Rattle.verilog_netlist.specs.declared.kinds.Kind.TheVariants as kind
-use Rattle.verilog_netlist.specs.declared.entries.Way.{Way}
-use Rattle.verilog_netlist.specs.declared.entries.Way.TheVariants.{In, Out}
+use Rattle.verilog_netlist.specs.declared.entries.Direction.{Direction}
+use Rattle.verilog_netlist.specs.declared.entries.Direction.TheVariants.{In, Out}
 use Rattle.verilog_netlist.specs.declared.entries.Decl.{Decl}
 use Rattle.verilog_netlist.specs.declared.entries.Decl.TheVariants as decl
 use Rattle.verilog_netlist.specs.declared.entries.Range.{Range}
@@ -90,7 +90,7 @@ declared_name_step kind.Name at by bounds = Put (DeclaredMore by bounds) (entry.
 declared_name_step _ at by bounds = Refuse
 
 -- behind a name that is declared
-abbrev pub header_declared_step : Kind → Way → Option Range → Step
+abbrev pub header_declared_step : Kind → Direction → Option Range → Step
 header_declared_step kind.Comma way bounds = Go (NextPort way bounds)
 header_declared_step kind.RightParen way bounds = Go HeaderEnd
 header_declared_step _ way bounds = Refuse
@@ -104,7 +104,7 @@ abbrev pub declared_more_step : Kind → Decl → Option Range → Step
 declared_more_step k (decl.InHeader way) bounds = header_declared_step k way bounds
 declared_more_step k by bounds = item_declared_step k by bounds
 
-abbrev pub next_port_step : Kind → Span → Way → Option Range → Step
+abbrev pub next_port_step : Kind → Span → Direction → Option Range → Step
 next_port_step kind.Name at way bounds = Put (DeclaredMore (decl.InHeader way) bounds) (entry.Declared (decl.InHeader way) at bounds)
 next_port_step kind.Input at way bounds = Go (AfterWay (decl.InHeader In))
 next_port_step kind.Output at way bounds = Go (AfterWay (decl.InHeader Out))

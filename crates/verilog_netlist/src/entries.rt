@@ -3,7 +3,7 @@ use crate::spans::Span;
 
 /// The direction of a port.
 #[derive(Clone, Copy, PartialEq, Eq, Debug)]
-pub enum Way {
+pub enum Direction {
     In,
     Out,
 }
@@ -11,8 +11,8 @@ pub enum Way {
 /// What declares a name: a direction in the header of its module, a direction behind it, or the word `wire`.
 #[derive(Clone, Copy, PartialEq, Eq, Debug)]
 pub enum Decl {
-    InHeader(Way),
-    Port(Way),
+    InHeader(Direction),
+    Port(Direction),
     Wire,
 }
 

@@ -2,7 +2,7 @@
 ghost use Rattle.std.specs.Prelude.{◌≡◌};
 ghost use Rattle.verilog_netlist.specs.Steps.{modules_step, module_name_step, module_head_step, header_start_step, header_name_step, header_more_step, header_end_step, items_step, after_way_step, after_wire_step, range_left_step, range_colon_step, range_right_step, range_end_step, declared_name_step, declared_more_step, next_port_step, instance_name_step, instance_open_step, first_connection_step, next_connection_step, port_name_step, port_open_step, joined_step, operand_step, name_end_step, select_left_step, select_next_step, select_right_step, select_end_step, operand_end_step, open_brace, saying, header_declared_step, item_declared_step, connection_end_step, instance_end_step, step_in};
 
-use crate::entries::{Decl, Entry, Range, Way};
+use crate::entries::{Decl, Direction, Entry, Range};
 use crate::kinds::Kind;
 use crate::spans::Span;
 
@@ -48,7 +48,7 @@ pub enum Mode {
     /// A name that is declared; what follows one; behind a comma of a header a name or a direction.
     DeclaredName(Decl, Option<Range>),
     DeclaredMore(Decl, Option<Range>),
-    NextPort(Way, Option<Range>),
+    NextPort(Direction, Option<Range>),
 
     /// The name of an instance of this, and its `(`.
     InstanceName(Span),
@@ -174,8 +174,8 @@ fn header_start_step(kind: Kind, at: Span) -> Step
 {
     match kind {
         Kind::Name => Step::Put(Mode::HeaderMore, Entry::Header(at)),
-        Kind::Input => Step::Go(Mode::AfterWay(Decl::InHeader(Way::In))),
-        Kind::Output => Step::Go(Mode::AfterWay(Decl::InHeader(Way::Out))),
+        Kind::Input => Step::Go(Mode::AfterWay(Decl::InHeader(Direction::In))),
+        Kind::Output => Step::Go(Mode::AfterWay(Decl::InHeader(Direction::Out))),
         Kind::RightParen => Step::Go(Mode::HeaderEnd),
         _ => Step::Refuse,
     }
@@ -218,8 +218,8 @@ fn items_step(kind: Kind, at: Span) -> Step
     ensures { result ≡ items_step kind at }
 {
     match kind {
-        Kind::Input => Step::Go(Mode::AfterWay(Decl::Port(Way::In))),
-        Kind::Output => Step::Go(Mode::AfterWay(Decl::Port(Way::Out))),
+        Kind::Input => Step::Go(Mode::AfterWay(Decl::Port(Direction::In))),
+        Kind::Output => Step::Go(Mode::AfterWay(Decl::Port(Direction::Out))),
         Kind::Wire => Step::Go(Mode::AfterWire(Decl::Wire)),
         Kind::Name => Step::Go(Mode::InstanceName(at)),
         Kind::EndModule => Step::Go(Mode::Modules),
@@ -310,7 +310,7 @@ fn declared_name_step(kind: Kind, at: Span, decl: Decl, range: Option<Range>) ->
 
 /// Behind a name that a direction declares in a header.
 #[inline]
-fn header_declared_step(kind: Kind, way: Way, range: Option<Range>) -> Step
+fn header_declared_step(kind: Kind, way: Direction, range: Option<Range>) -> Step
     ensures { result ≡ header_declared_step kind way range }
 {
     match kind {
@@ -344,7 +344,7 @@ fn declared_more_step(kind: Kind, decl: Decl, range: Option<Range>) -> Step
 
 /// Behind a comma in a header of directions.
 #[inline]
-fn next_port_step(kind: Kind, at: Span, way: Way, range: Option<Range>) -> Step
+fn next_port_step(kind: Kind, at: Span, way: Direction, range: Option<Range>) -> Step
     ensures { result ≡ next_port_step kind at way range }
 {
     match kind {
@@ -352,8 +352,8 @@ fn next_port_step(kind: Kind, at: Span, way: Way, range: Option<Range>) -> Step
             Mode::DeclaredMore(Decl::InHeader(way), range),
             Entry::Declared(Decl::InHeader(way), at, range),
         ),
-        Kind::Input => Step::Go(Mode::AfterWay(Decl::InHeader(Way::In))),
-        Kind::Output => Step::Go(Mode::AfterWay(Decl::InHeader(Way::Out))),
+        Kind::Input => Step::Go(Mode::AfterWay(Decl::InHeader(Direction::In))),
+        Kind::Output => Step::Go(Mode::AfterWay(Decl::InHeader(Direction::Out))),
         _ => Step::Refuse,
     }
 }

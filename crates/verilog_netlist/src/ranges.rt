@@ -164,7 +164,7 @@ fn is_bad_width(width: u32) -> bool
 }
 
 #[inline]
-fn whole_width(range: Option<Range>) -> u64
+pub(crate) fn whole_width(range: Option<Range>) -> u64
     ensures value { result ≡ whole_width range }
     ensures few { result ≤ 2 ^ 32 }
 {

@@ -11,8 +11,8 @@ use edge_io::Text;
 use std::alloc::Global;
 use std::test::Fail;
 use verilog_netlist::{
-    Decl, Entry, Range, ReadEnd, VerilogEnd, Way, first_bad_range, first_repeated, first_unpaired,
-    read_entries, read_netlist,
+    Decl, Direction, Entry, Range, ReadEnd, VerilogEnd, first_bad_range, first_repeated,
+    first_unpaired, read_entries, read_netlist,
 };
 
 /// Adds a line of words, each but the first with a space before it.
@@ -33,17 +33,17 @@ fn bounds(alloc: Global, range: Range) -> Result<Text, Fail> {
     Ok(text)
 }
 
-fn way_word(way: Way) -> &'static [u8] {
+fn way_word(way: Direction) -> &'static [u8] {
     match way {
-        Way::In => b"input",
-        Way::Out => b"output",
+        Direction::In => b"input",
+        Direction::Out => b"output",
     }
 }
 
 fn decl_word(decl: Decl) -> &'static [u8] {
     match decl {
-        Decl::InHeader(Way::In) => b"header input",
-        Decl::InHeader(Way::Out) => b"header output",
+        Decl::InHeader(Direction::In) => b"header input",
+        Decl::InHeader(Direction::Out) => b"header output",
         Decl::Port(way) => way_word(way),
         Decl::Wire => b"wire",
     }

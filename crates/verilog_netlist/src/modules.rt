@@ -1,0 +1,161 @@
+//! The modules of a netlist.
+ghost use Rattle.std.specs.Prelude.{◌≡◌, ◌<◌, List, length, slice_get, Some};
+ghost use Rattle.verilog_netlist.specs.NetModules.{module_at, name_at, instance_at, connection_at};
+ghost use Rattle.verilog_netlist.specs.ModuleTables.{modules_in, AreTables};
+
+use crate::entries::Range;
+use crate::net_names::Way;
+use crate::runs::Bit;
+use crate::tables::Tables;
+use std::marker::Model;
+
+/// The modules of a netlist, in flat tables: memory is linear in the bytes of the file, whatever the widths. Contracts see the list of
+/// the modules. Modules, names, instances, connections and bits count from 0.
+#[derive(Drop)]
+pub struct Modules<'a> {
+    tables: Tables<'a>,
+}
+
+impl<'a> Model for Modules<'a> {
+    ghost use Rattle.std.specs.Prelude.{List};
+    ghost use Rattle.verilog_netlist.specs.NetModules.{NetModule};
+    ghost use Rattle.verilog_netlist.specs.ModuleTables.{modules_in, AreTables};
+
+    ghost Value = { List NetModule };
+
+    ghost view = { λ m. modules_in m.tables };
+
+    // what is kept is what the bytes say
+    ghost invariant = { λ m. AreTables m.tables };
+}
+
+impl<'a> Modules<'a> {
+    /// The modules of these tables.
+    pub(crate) fn of(tables: Tables<'a>) -> Modules<'a>
+        requires { AreTables tables }
+        ensures { result ≡ modules_in tables.entry }
+    {
+        Modules { tables }
+    }
+
+    /// How many modules the file has.
+    pub fn module_count(&self) -> usize
+        ensures { result ≡ length self.now }
+    {
+        self.tables.places.module_count()
+    }
+
+    /// The name of a module.
+    pub fn module_name(&self, m: usize) -> &[u8]
+        requires { m < length self.now }
+        ensures { result.now ≡ (module_at self.now m).name }
+    {
+        self.tables.name_at(self.tables.module(m).place)
+    }
+
+    /// How many names a module has: those of its header, then those that `wire` declares, then those that are only joined to ports.
+    pub fn name_count(&self, m: usize) -> usize
+        requires { m < length self.now }
+        ensures { result ≡ length (module_at self.now m).names }
+    {
+        self.tables.names(m).len()
+    }
+
+    /// A name of a module.
+    pub fn name(&self, m: usize, i: usize) -> &[u8]
+        requires within { m < length self.now }
+        requires place { i < length (module_at self.now m).names }
+        ensures { result.now ≡ (name_at self.now m i).text }
+    {
+        self.tables.names(m)[i].text
+    }
+
+    /// Whether a name is a port of its module, and of which direction.
+    pub fn way(&self, m: usize, i: usize) -> Way
+        requires within { m < length self.now }
+        requires place { i < length (module_at self.now m).names }
+        ensures { result ≡ (name_at self.now m i).way }
+    {
+        self.tables.names(m)[i].way()
+    }
+
+    /// The range of a name. A name without one has one bit.
+    pub fn range(&self, m: usize, i: usize) -> Option<Range>
+        requires within { m < length self.now }
+        requires place { i < length (module_at self.now m).names }
+        ensures { result ≡ (name_at self.now m i).range }
+    {
+        self.tables.names(m)[i].range()
+    }
+
+    /// How many instances a module has.
+    pub fn instance_count(&self, m: usize) -> usize
+        requires { m < length self.now }
+        ensures { result ≡ length (module_at self.now m).instances }
+    {
+        let extent = self.tables.module(m);
+        extent.instances_end - extent.first_instance
+    }
+
+    /// The name of an instance.
+    pub fn instance_name(&self, m: usize, k: usize) -> &[u8]
+        requires within { m < length self.now }
+        requires place { k < length (module_at self.now m).instances }
+        ensures { result.now ≡ (instance_at self.now m k).name }
+    {
+        self.tables.name_at(self.tables.instance(m, k).place)
+    }
+
+    /// The cell or the module that an instance is of.
+    pub fn instance_of(&self, m: usize, k: usize) -> &[u8]
+        requires within { m < length self.now }
+        requires place { k < length (module_at self.now m).instances }
+        ensures { result.now ≡ (instance_at self.now m k).cell }
+    {
+        self.tables.cell_at(self.tables.instance(m, k).place)
+    }
+
+    /// How many connections an instance has.
+    pub fn connection_count(&self, m: usize, k: usize) -> usize
+        requires within { m < length self.now }
+        requires place { k < length (module_at self.now m).instances }
+        ensures { result ≡ length (instance_at self.now m k).connections }
+    {
+        let extent = self.tables.instance(m, k);
+        extent.connections_end - extent.first_connection
+    }
+
+    /// The port of a connection, in the order in which connections are written.
+    pub fn port(&self, m: usize, k: usize, c: usize) -> &[u8]
+        requires within { m < length self.now }
+        requires instance { k < length (module_at self.now m).instances }
+        requires place { c < length (instance_at self.now m k).connections }
+        ensures { result.now ≡ (connection_at self.now m k c).port }
+    {
+        self.tables.name_at(self.tables.connection(m, k, c).place)
+    }
+
+    /// How many bits are joined to the port of a connection; 0 where nothing is. It takes one pass over what is joined.
+    pub fn bit_count(&self, m: usize, k: usize, c: usize) -> usize
+        requires within { m < length self.now }
+        requires instance { k < length (module_at self.now m).instances }
+        requires place { c < length (instance_at self.now m k).connections }
+        ensures { result ≡ length (connection_at self.now m k c).bits }
+    {
+        self.tables.bit_count(m, self.tables.connection(m, k, c))
+    }
+
+    /// A bit of a connection, from the left. It takes one pass over what is joined before it.
+    pub fn bit(&self, m: usize, k: usize, c: usize, b: usize) -> Bit
+        requires within { m < length self.now }
+        requires instance { k < length (module_at self.now m).instances }
+        requires connection { c < length (instance_at self.now m k).connections }
+        requires place { b < length (connection_at self.now m k c).bits }
+        ensures { slice_get (connection_at self.now m k c).bits b ≡ Some result }
+    {
+        match self.tables.bit(m, self.tables.connection(m, k, c), b) {
+            Some(bit) => bit,
+            None => Bit::Tied,
+        }
+    }
+}

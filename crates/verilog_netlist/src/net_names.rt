@@ -1,0 +1,317 @@
+//! The names of each module: those of its header, then those that `wire` declares, then those that are joined to ports.
+ghost use Rattle.std.specs.Prelude.{◌≡◌, ℕ, ◌+◌, ◌<◌, ◌≤◌, ◌++◌, ◌∷◌, [], List, length, map, IfOk, OnOk};
+ghost use Rattle.std.specs.Str.{bytes_eq};
+ghost use Rattle.indexmap.specs.IndexSet.{insert_all};
+ghost use Rattle.verilog_netlist.specs.Ranges.{declared_range};
+ghost use Rattle.verilog_netlist.specs.ModuleNames.{is_in, direction_by, way_of, texts_of, texts_in};
+ghost use Rattle.verilog_netlist.specs.PartPlaces.{ArePlaces};
+ghost use Rattle.verilog_netlist.specs.NameRows.{AreNetNames, keys_of, noted, view_row, fresh, facts_in, text_number, AllDiffer, NotesEntry, AddsNames};
+
+use crate::declared::Declaration;
+use crate::entries::{Decl, Direction, Entry, Range};
+use crate::places::Places;
+use edge_io::OutOfMemory;
+use edge_io::lists::{push, refill, to_u32};
+use indexmap::IndexSet;
+use std::alloc::Global;
+
+/// What a name of a module is: a port of this direction, or a wire in it.
+#[derive(Clone, Copy, PartialEq, Eq, Debug)]
+pub enum Way {
+    In,
+    Out,
+    Inner,
+}
+
+/// The names of a module in three groups: those of its header, those that `wire` declares, those that are joined to ports.
+#[derive(Clone, Copy)]
+pub enum Group {
+    Headers,
+    Wires,
+    Joined,
+}
+
+impl Entry {
+    /// Whether an entry's name is in a group of the names of its module.
+    #[inline]
+    fn is_in(self, group: Group) -> bool
+        ensures { result ≡ is_in group self }
+    {
+        match group {
+            Group::Headers => matches!(
+                self,
+                Entry::Header(_) | Entry::Declared(Decl::InHeader(_), _, _)
+            ),
+            Group::Wires => matches!(self, Entry::Declared(Decl::Wire, _, _)),
+            Group::Joined => matches!(self, Entry::Whole(_) | Entry::Bit(_, _) | Entry::Part(_, _)),
+        }
+    }
+}
+
+impl Decl {
+    /// The direction that declares, if one does.
+    #[inline]
+    fn direction(self) -> Option<Direction>
+        ensures { result ≡ direction_by self }
+    {
+        match self {
+            Decl::InHeader(direction) => Some(direction),
+            Decl::Port(direction) => Some(direction),
+            Decl::Wire => None,
+        }
+    }
+}
+
+/// A name of a module: its text, its first direction and its first declaration.
+#[derive(Clone, Copy)]
+pub struct NameRow<'a> {
+    pub text: &'a [u8],
+    pub direction: Option<Direction>,
+    pub first: Option<Declaration>,
+}
+
+impl<'a> NameRow<'a> {
+    /// A name of which nothing is known yet.
+    #[inline]
+    fn fresh(text: &'a [u8]) -> NameRow<'a>
+        ensures { view_row result ≡ fresh text.now }
+    {
+        NameRow {
+            text,
+            direction: None,
+            first: None,
+        }
+    }
+
+    /// The name with a declaration more.
+    #[inline]
+    fn noted(self, declaration: Declaration) -> NameRow<'a>
+        ensures { view_row result ≡ noted (view_row self.entry) declaration }
+    {
+        NameRow {
+            text: self.text,
+            direction: match self.direction {
+                None => declaration.by.direction(),
+                Some(direction) => Some(direction),
+            },
+            first: match self.first {
+                None => Some(declaration),
+                Some(first) => Some(first),
+            },
+        }
+    }
+
+    /// What the name is.
+    pub(crate) fn way(self) -> Way
+        ensures { result ≡ way_of self.entry.direction }
+    {
+        match self.direction {
+            None => Way::Inner,
+            Some(Direction::In) => Way::In,
+            Some(Direction::Out) => Way::Out,
+        }
+    }
+
+    /// The range of the name.
+    #[inline]
+    pub(crate) fn range(self) -> Option<Range>
+        ensures { result ≡ declared_range self.entry.first }
+    {
+        match self.first {
+            Some(first) => first.range,
+            None => None,
+        }
+    }
+}
+
+/// Adds the name of an entry, if it is in the group and is not there yet.
+fn add_text<'a>(
+    texts: &mut IndexSet<&'a [u8]>,
+    bytes: &'a [u8],
+    entry: Entry,
+    group: Group,
+) -> Result<(), OutOfMemory>
+    ensures { OnOk result (keys_of texts.new.keys ≡ insert_all bytes_eq (keys_of texts.old.keys) (texts_of bytes.now group (entry ∷ []))) }
+{
+    if entry.is_in(group) {
+        match texts.insert(entry.name().of(bytes)) {
+            Ok(_) => Ok(()),
+            Err(_) => Err(OutOfMemory),
+        }
+    } else {
+        Ok(())
+    }
+}
+
+/// Adds the names of a group, each where it first comes.
+fn add_texts<'a>(
+    texts: &mut IndexSet<&'a [u8]>,
+    bytes: &'a [u8],
+    entries: &[Entry],
+    group: Group,
+) -> Result<(), OutOfMemory>
+    ensures { OnOk result (keys_of texts.new.keys ≡ insert_all bytes_eq (keys_of texts.old.keys) (texts_of bytes.now group entries.now)) }
+{
+    for entry in entries {
+        add_text(texts, bytes, *entry, group)?;
+    }
+    Ok(())
+}
+
+/// The names of a module, of which these are the entries. It takes time in proportion to the bytes of the names.
+fn collect_texts<'a>(
+    alloc: Global,
+    bytes: &'a [u8],
+    entries: &[Entry],
+) -> Result<IndexSet<&'a [u8]>, OutOfMemory>
+    ensures texts { IfOk result (λ texts. keys_of texts.keys ≡ texts_in bytes.now entries.now) }
+    ensures differ { IfOk result (λ texts. AllDiffer (keys_of texts.keys)) }
+{
+    let mut texts = IndexSet::new(alloc);
+    add_texts(&mut texts, bytes, entries, Group::Headers)?;
+    add_texts(&mut texts, bytes, entries, Group::Wires)?;
+    add_texts(&mut texts, bytes, entries, Group::Joined)?;
+    Ok(texts)
+}
+
+/// Adds rows for these names, of which nothing is known yet.
+fn add_rows<'a>(rows: &mut Vec<NameRow<'a>>, texts: &IndexSet<&'a [u8]>) -> Result<(), OutOfMemory>
+    ensures { OnOk result (map view_row rows.new.items ≡ map view_row rows.old.items ++ map fresh (keys_of texts.now.keys)) }
+{
+    for text in texts.as_slice() {
+        push(rows, NameRow::fresh(text))?;
+    }
+    Ok(())
+}
+
+/// Notes what an entry declares, in the row of its name. The rows of these names stand from `from` on.
+fn note(
+    rows: &mut Vec<NameRow<'_>>,
+    from: usize,
+    texts: &IndexSet<&[u8]>,
+    bytes: &[u8],
+    entry: Entry,
+)
+    requires { from + length texts.now.keys ≡ length rows.old.items }
+    ensures { NotesEntry bytes.now (keys_of texts.now.keys) from entry (map view_row rows.old.items) (map view_row rows.new.items) }
+{
+    if let Entry::Declared(by, name, range) = entry {
+        if let Some(number) = texts.get_index_of(name.of(bytes)) {
+            let row = rows[from + number];
+            rows[from + number] = row.noted(Declaration { by, range });
+        }
+    }
+}
+
+/// Adds the rows of the names of a module, of which these are the entries.
+fn add_module_rows<'a>(
+    rows: &mut Vec<NameRow<'a>>,
+    texts: &IndexSet<&'a [u8]>,
+    bytes: &[u8],
+    entries: &[Entry],
+) -> Result<(), OutOfMemory>
+    requires { AllDiffer (keys_of texts.now.keys) }
+    ensures { OnOk result (map view_row rows.new.items ≡ map view_row rows.old.items ++ map (facts_in bytes.now entries.now) (keys_of texts.now.keys)) }
+{
+    let from = rows.len();
+    add_rows(rows, texts)?;
+    for entry in entries {
+        note(rows, from, texts, bytes, *entry);
+    }
+    Ok(())
+}
+
+/// The number of the name that an entry joins, or 0.
+#[inline]
+fn number_of(texts: &IndexSet<&[u8]>, bytes: &[u8], entry: Entry) -> Result<u32, OutOfMemory>
+    ensures { IfOk result (λ number. number ≡ text_number bytes.now (keys_of texts.now.keys) entry) }
+{
+    if entry.is_in(Group::Joined) {
+        match texts.get_index_of(entry.name().of(bytes)) {
+            Some(number) => to_u32(number),
+            None => to_u32(texts.len()),
+        }
+    } else {
+        Ok(0)
+    }
+}
+
+/// Adds the numbers of the names that these entries join.
+fn add_numbers(
+    numbers: &mut Vec<u32>,
+    texts: &IndexSet<&[u8]>,
+    bytes: &[u8],
+    entries: &[Entry],
+) -> Result<(), OutOfMemory>
+    ensures { OnOk result (numbers.new.items ≡ numbers.old.items ++ map (text_number bytes.now (keys_of texts.now.keys)) entries.now) }
+{
+    for entry in entries {
+        let number = number_of(texts, bytes, *entry)?;
+        push(numbers, number)?;
+    }
+    Ok(())
+}
+
+/// The names of all modules: where those of each module begin, with the count of all behind the last; their rows; and, beside each
+/// entry that joins a name, the number of that name in its module.
+#[derive(Drop)]
+pub struct NetNames<'a> {
+    pub starts: Vec<u32>,
+    pub rows: Vec<NameRow<'a>>,
+    pub numbers: Vec<u32>,
+}
+
+impl<'a> NetNames<'a> {
+    /// No name yet, where the first module begins at this place.
+    fn new(alloc: Global, place: usize) -> Result<NetNames<'a>, OutOfMemory>
+        ensures starts { IfOk result (λ names. names.starts.items ≡ 0 ∷ []) }
+        ensures rows { IfOk result (λ names. names.rows.items ≡ []) }
+        ensures numbers { IfOk result (λ names. length names.numbers.items ≡ place) }
+    {
+        let mut starts = Vec::new(alloc);
+        push(&mut starts, 0)?;
+        let mut numbers = Vec::new(alloc);
+        refill(&mut numbers, place, 0)?;
+        Ok(NetNames {
+            starts,
+            rows: Vec::new(alloc),
+            numbers,
+        })
+    }
+
+    /// Adds the names of the next module, with these entries behind its name.
+    fn add_module(
+        &mut self,
+        alloc: Global,
+        bytes: &'a [u8],
+        entries: &[Entry],
+    ) -> Result<(), OutOfMemory>
+        ensures { OnOk result (AddsNames bytes.now entries.now self.old self.new) }
+    {
+        let texts = collect_texts(alloc, bytes, entries)?;
+        add_module_rows(&mut self.rows, &texts, bytes, entries)?;
+        push(&mut self.numbers, 0)?;
+        add_numbers(&mut self.numbers, &texts, bytes, entries)?;
+        let end = to_u32(self.rows.len())?;
+        push(&mut self.starts, end)
+    }
+}
+
+/// Collects the names of all modules. It takes time in proportion to the bytes of the names.
+pub(crate) fn collect_net_names<'a>(
+    alloc: Global,
+    bytes: &'a [u8],
+    entries: &[Entry],
+    places: &Places,
+) -> Result<NetNames<'a>, OutOfMemory>
+    requires { ArePlaces entries.now places.now }
+    ensures { IfOk result (AreNetNames bytes.now entries.now places.now) }
+{
+    let first = places.first_place();
+    let mut names = NetNames::new(alloc, first)?;
+    for m in 0..places.module_count() {
+        let own = places.module(m).own(entries);
+        names.add_module(alloc, bytes, own)?;
+    }
+    Ok(names)
+}
