@@ -2,6 +2,8 @@
 mod accepted;
 mod bad_ranges;
 mod faults;
+mod modules;
+mod parsed;
 mod reading;
 mod refused;
 mod repeated;
