@@ -16,5 +16,6 @@ pub mod Placing
 pub mod Naming
 pub mod NetNaming
 pub mod TableReading
+pub mod Numbering
 pub mod Faulting
 pub mod Refusing

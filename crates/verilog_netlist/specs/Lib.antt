@@ -23,3 +23,4 @@ pub mod NetModules
 pub mod NameRows
 pub mod ModuleTables
 pub mod Parsed
+pub mod ModuleNumbers

@@ -1,12 +1,16 @@
 //! The modules of a netlist.
-ghost use Rattle.std.specs.Prelude.{◌≡◌, ◌<◌, List, length, slice_get, Some};
+ghost use Rattle.std.specs.Prelude.{◌≡◌, ℕ, ◌<◌, List, length, slice_get, Some, IfOk, IfSome, IfNone};
 ghost use Rattle.verilog_netlist.specs.NetModules.{module_at, name_at, instance_at, connection_at};
 ghost use Rattle.verilog_netlist.specs.ModuleTables.{modules_in, AreTables};
+ghost use Rattle.verilog_netlist.specs.ModuleNumbers.{AreNumbers};
 
 use crate::entries::Range;
 use crate::net_names::Way;
 use crate::runs::Bit;
 use crate::tables::Tables;
+use edge_io::OutOfMemory;
+use indexmap::IndexMap;
+use std::alloc::Global;
 use std::marker::Model;
 
 /// The modules of a netlist, in flat tables: memory is linear in the bytes of the file, whatever the widths. Contracts see the list of
@@ -14,28 +18,31 @@ use std::marker::Model;
 #[derive(Drop)]
 pub struct Modules<'a> {
     tables: Tables<'a>,
+    numbers: IndexMap<&'a [u8], usize>,
 }
 
 impl<'a> Model for Modules<'a> {
     ghost use Rattle.std.specs.Prelude.{List};
     ghost use Rattle.verilog_netlist.specs.NetModules.{NetModule};
     ghost use Rattle.verilog_netlist.specs.ModuleTables.{modules_in, AreTables};
+    ghost use Rattle.verilog_netlist.specs.ModuleNumbers.{AreNumbers};
 
     ghost Value = { List NetModule };
 
     ghost view = { λ m. modules_in m.tables };
 
     // what is kept is what the bytes say
-    ghost invariant = { λ m. AreTables m.tables };
+    ghost invariant = { λ m. AreTables m.tables × AreNumbers (modules_in m.tables) m.numbers.entries };
 }
 
 impl<'a> Modules<'a> {
     /// The modules of these tables.
-    pub(crate) fn of(tables: Tables<'a>) -> Modules<'a>
-        requires { AreTables tables }
+    pub(crate) fn of(tables: Tables<'a>, numbers: IndexMap<&'a [u8], usize>) -> Modules<'a>
+        requires tables { AreTables tables }
+        requires numbers { AreNumbers (modules_in tables) numbers.entries }
         ensures { result ≡ modules_in tables.entry }
     {
-        Modules { tables }
+        Modules { tables, numbers }
     }
 
     /// How many modules the file has.
@@ -43,6 +50,14 @@ impl<'a> Modules<'a> {
         ensures { result ≡ length self.now }
     {
         self.tables.places.module_count()
+    }
+
+    /// The module of this name, if the file has one. It takes one look-up in a table.
+    pub fn find(&self, name: &[u8]) -> Option<usize>
+        ensures some { IfSome result (λ m. (m < length self.now) × ((module_at self.now m).name ≡ name.now)) }
+        ensures none { IfNone result ((m : ℕ) → m < length self.now → (module_at self.now m).name ≡ name.now → ⊥) }
+    {
+        self.numbers.get(&name).copied()
     }
 
     /// The name of a module.
@@ -158,4 +173,23 @@ impl<'a> Modules<'a> {
             None => Bit::Tied,
         }
     }
+}
+
+/// The number of each module, by its name.
+pub(crate) fn number_modules<'a>(
+    alloc: Global,
+    tables: &Tables<'a>,
+) -> Result<IndexMap<&'a [u8], usize>, OutOfMemory>
+    requires { AreTables tables.now }
+    ensures { IfOk result (λ numbers. AreNumbers (modules_in tables.now) numbers.entries) }
+{
+    let mut numbers = IndexMap::new(alloc);
+    for m in 0..tables.places.module_count() {
+        let name = tables.name_at(tables.module(m).place);
+        match numbers.insert(name, m) {
+            Ok(_) => {}
+            Err(_) => return Err(OutOfMemory),
+        }
+    }
+    Ok(numbers)
 }

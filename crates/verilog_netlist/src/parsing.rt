@@ -5,7 +5,7 @@ ghost use Rattle.verilog_netlist.specs.Parsed.{AreModulesOf, GivesModules, IsMad
 ghost use Rattle.verilog_netlist.specs.declared.entries.Entry.{Entry};
 
 use crate::entries::Entry;
-use crate::modules::Modules;
+use crate::modules::{Modules, number_modules};
 use crate::net_names::collect_net_names;
 use crate::netlist::{VerilogEnd, read_netlist};
 use crate::places::collect_places;
@@ -50,8 +50,12 @@ pub fn parse<'a>(alloc: Global, bytes: &'a [u8]) -> Result<Modules<'a>, VerilogE
         Ok(entries) => entries,
         Err(end) => return Err(end),
     };
-    match tables_of(alloc, bytes, entries) {
-        Ok(tables) => Ok(Modules::of(tables)),
+    let tables = match tables_of(alloc, bytes, entries) {
+        Ok(tables) => tables,
+        Err(_) => return Err(VerilogEnd::OutOfMemory),
+    };
+    match number_modules(alloc, &tables) {
+        Ok(numbers) => Ok(Modules::of(tables, numbers)),
         Err(_) => Err(VerilogEnd::OutOfMemory),
     }
 }

@@ -39,7 +39,7 @@ impl Entry {
 impl<'a> Tables<'a> {
     /// The name that the entry at this place speaks of.
     #[inline]
-    pub(crate) fn name_at(&self, place: usize) -> &[u8]
+    pub(crate) fn name_at(&self, place: usize) -> &'a [u8]
         requires { place < length self.now.entries.items }
         ensures { result.now ≡ text_at self.now.bytes.now (name_of (entry_at self.now.entries.items place)) }
     {
