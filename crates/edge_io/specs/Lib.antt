@@ -11,3 +11,4 @@ pub mod HeldFiles
 pub mod MemShelf
 pub mod MemSink
 pub mod Taking
+pub mod Zipping

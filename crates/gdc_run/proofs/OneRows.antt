@@ -4,6 +4,7 @@ use Rattle.std.specs.Prelude.{slice_get, slice_index_or, filter, All, Contains, 
 use Rattle.std.proofs.lemmas.Int.{ints}
 use Rattle.std.specs.List.{AllByRecursion, AllZip}
 use Rattle.std.proofs.lemmas.List.Elements.{recursion_from_All}
+use Rattle.edge_io.specs.Zipping.{one_zip}
 use Rattle.delay_units.specs.declared.Femto.{Femto}
 use Rattle.delay_units.specs.Rounding.{IsRounding}
 use Rattle.delay_units.proofs.RoundingLemmas.{one_value}
@@ -30,15 +31,6 @@ use Rattle.gdc_run.specs.declared.refusal.Refusal.TheVariants.{Unreached}
 use Rattle.gdc_run.proofs.Places.{some_is, got_below, index_is, contains_at}
 
 -- ---- rows
-
--- related lists are one where each element is related to one
-one_zip : {X Y : Type 0} (P : X → Y → Type 0) → ((x : X) (y z : Y) → P x y → P x z → y ≡ z) → (xs : List X) (ys zs : List Y) → AllZip P xs ys → AllZip P xs zs → ys ≡ zs
-one_zip P unique [] [] [] r s = refl
-one_zip P unique [] [] (z ∷ zs) r s = absurd s
-one_zip P unique [] (y ∷ ys) zs r s = absurd r
-one_zip P unique (x ∷ xs) [] zs r s = absurd r
-one_zip P unique (x ∷ xs) (y ∷ ys) [] r s = absurd s
-one_zip P unique (x ∷ xs) (y ∷ ys) (z ∷ zs) r s = ap₂ (λ h t. h ∷ t) (unique x y z r.0 s.0) (one_zip P unique xs ys zs r.1 s.1)
 
 one_delay : (at : Node) (net : TreeElements Node) (one other : Femto) → IsWireDelay at net one → IsWireDelay at net other → one ≡ other
 one_delay at net one other r s =
@@ -102,7 +94,7 @@ one_driver net one other r s =
 -- ---- the shape of a net
 
 -- the first element without a property is one
-first_without : {X : Type 0} (P : X → Type 0) (front back left right : List X) (x y : X) → front ++ x ∷ back ≡ left ++ y ∷ right → AllByRecursion P front → AllByRecursion P left → (P x → ⊥) → (P y → ⊥) → x ≡ y
+pub first_without : {X : Type 0} (P : X → Type 0) (front back left right : List X) (x y : X) → front ++ x ∷ back ≡ left ++ y ∷ right → AllByRecursion P front → AllByRecursion P left → (P x → ⊥) → (P y → ⊥) → x ≡ y
 first_without P [] back [] right x y e p q f g = cc
 first_without P [] back (z ∷ left) right x y e p q f g = let same : z ≡ x = cc in absurd (f (subst P same q.0))
 first_without P (z ∷ front) back [] right x y e p q f g = let same : z ≡ y = cc in absurd (g (subst P same p.0))

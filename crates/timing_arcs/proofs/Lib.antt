@@ -9,8 +9,10 @@ pub mod Fronts
 pub mod HandingOn
 pub mod KeptLemmas
 pub mod ModelLemmas
+pub mod ModelTables
 pub mod OneAnswer
 mod OneFault
+pub mod OneModel
 pub mod OneTable
 pub mod OneUnits
 pub mod PinLemmas

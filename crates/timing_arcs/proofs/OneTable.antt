@@ -2,15 +2,17 @@
 use Rattle.std.proofs.Common.{◌≡◌, ◌≢◌, ℕ, zero, suc, List, [], ◌∷◌, map, Option, Some, None, ℤ, pos, ◌≤ℤ◌, Contains, Result, Ok, Err, refl, sym, ap, subst, ◌∙◌, arith}
 use Rattle.std.specs.Prelude.{All, codes}
 use Rattle.delay_units.specs.Literal.{IsNumber}
+use Rattle.delay_units.specs.Reading.{ReadsAs}
 use Rattle.delay_units.specs.declared.numbers.Unit.{Unit}
 use Rattle.delay_units.proofs.ReadingLemmas.{one_text_reading}
+use Rattle.edge_io.specs.Zipping.{one_zip}
 use Rattle.liberty_groups.specs.Groups.{Attribute, Group, attributes_of}
 use Rattle.nldm_lookup.specs.Tables.{TimingTable, IsSmall}
 use Rattle.nldm_lookup.specs.declared.faults.Which.{Which}
 use Rattle.timing_arcs.specs.FullTables.{IsFullTable, full, wrong_count, no_room}
 use Rattle.timing_arcs.specs.NumberLists.{AreReadings, IsNoNumber, HasNoNumber, pieces_of}
 use Rattle.timing_arcs.specs.OneMeaning.{AreOne, OneTable, OneTransition}
-use Rattle.timing_arcs.specs.TableModel.{unit_of, index_of, value_pieces, table_over, IsAxisOf, are_points, no_axis, no_axis_memory, AxisMeans, no_number, of_readings, no_index_memory, PointsMean, of_variable, of_none, no_points_memory, ValuesMean, are_values, no_value, past_bound, no_values_memory, HasAxes, TableMeans, no_template, no_variables, no_first_axis, no_second_axis, no_values, not_full, is_table, no_table_memory, no_transition, below_zero, settled}
+use Rattle.timing_arcs.specs.TableModel.{unit_of, index_of, value_pieces, table_over, IsAxisOf, are_points, no_axis, no_axis_memory, AxisMeans, no_number, of_readings, no_index_memory, PointsMean, of_variable, of_none, no_points_memory, ValuesMean, are_values, no_value, past_bound, no_values_memory, HasAxes, TableMeans, TransitionMeans, no_template, no_variables, no_first_axis, no_second_axis, no_values, not_full, is_table, no_table_memory, no_transition, below_zero, settled}
 use Rattle.timing_arcs.specs.Templates.{template_of, variables_of}
 use Rattle.timing_arcs.specs.declared.library_units.LibraryUnits.{LibraryUnits}
 use Rattle.timing_arcs.specs.declared.templates.Variables.{Variables}
@@ -19,15 +21,7 @@ use Rattle.timing_arcs.specs.declared.faults.CellFault.TheVariants.{UnknownTempl
 
 -- one reading of each piece
 one_list : (unit : Unit) (pieces : List (List ℕ)) (vs ws : List ℤ) → AreReadings unit pieces vs → AreReadings unit pieces ws → vs ≡ ws
-one_list unit [] [] [] one other = refl
-one_list unit [] [] (w ∷ ws) one other = absurd other
-one_list unit [] (v ∷ vs) ws one other = absurd one
-one_list unit (piece ∷ pieces) [] ws one other = absurd one
-one_list unit (piece ∷ pieces) (v ∷ vs) [] one other = absurd other
-one_list unit (piece ∷ pieces) (v ∷ vs) (w ∷ ws) one other =
-    let first : v ≡ w = one_text_reading unit piece v w one.0 other.0 in
-    let rest : vs ≡ ws = one_list unit pieces vs ws one.1 other.1 in
-    cc
+one_list unit = one_zip (ReadsAs unit) (one_text_reading unit)
 
 -- pieces with readings are numbers
 all_numbers : (unit : Unit) (pieces : List (List ℕ)) (vs : List ℤ) → AreReadings unit pieces vs → HasNoNumber pieces → ⊥
@@ -186,7 +180,7 @@ module _ (library table : Group) (units : LibraryUnits) where
 pub one_table_lem : OneTable
 one_table_lem library table units one other means others n m = one_search library table units one other (searched library table units one means n) (searched library table units other others m) n m
 
-one_made : (library table : Group) (units : LibraryUnits) (made others : TimingTable) → TableMeans library table units (Ok made) → TableMeans library table units (Ok others) → made ≡ others
+pub one_made : (library table : Group) (units : LibraryUnits) (made others : TimingTable) → TableMeans library table units (Ok made) → TableMeans library table units (Ok others) → made ≡ others
 one_made library table units made others means other = ok_same made others (one_table_lem library table units (Ok made) (Ok others) means other (ok_apart made) (ok_apart others))
 
 pub one_transition_lem : OneTransition
@@ -199,3 +193,7 @@ one_transition_lem library table units _ _ (below_zero made means negative) (set
 one_transition_lem library table units _ _ (settled made means all) (no_transition b other) = λ n m. absurd (err_apart b made (sym (one_table_lem library table units (Ok made) (Err b) means other (ok_apart made) m)))
 one_transition_lem library table units _ _ (settled made means all) (below_zero others other negative) = λ n m. absurd (negative (subst (λ (t : TimingTable). All (λ value. pos 0 ≤ℤ value) t.values) (one_made library table units made others means other) all))
 one_transition_lem library table units _ _ (settled made means all) (settled others other alls) = λ n m. ap Ok (one_made library table units made others means other)
+
+pub one_transition_made : (library table : Group) (units : LibraryUnits) (made others : TimingTable) → TransitionMeans library table units (Ok made) → TransitionMeans library table units (Ok others) → made ≡ others
+one_transition_made library table units made others means other =
+    ok_same made others (one_transition_lem library table units (Ok made) (Ok others) means other (ok_apart made) (ok_apart others))

@@ -14,3 +14,7 @@ NoFaultBeside = (library : Group) (name : List ℕ) (cell : TimedCell) (fault : 
 -- two faults of a cell are one, where neither is want of memory
 abbrev pub OneFault : Type 0
 OneFault = (library : Group) (name : List ℕ) (one other : CellFault) → IsCellFault library name one → IsCellFault library name other → one ≢ OutOfMemory → other ≢ OutOfMemory → one ≡ other
+
+-- two models of a cell are one
+abbrev pub OneModel : Type 0
+OneModel = (library : Group) (name : List ℕ) (one other : TimedCell) → IsModel library name one → IsModel library name other → one ≡ other

@@ -1,5 +1,5 @@
 //! Laws of the definitions.
-ghost use Rattle.timing_arcs.specs.OneAnswer.{NoFaultBeside, OneFault};
+ghost use Rattle.timing_arcs.specs.OneAnswer.{NoFaultBeside, OneFault, OneModel};
 ghost use Rattle.timing_arcs.specs.OneMeaning.{OneTable, OneTransition};
 
 /// The law of tables, which its contract states: a group of a library means one table or one fault, as a delay and as a
@@ -10,9 +10,10 @@ pub fn one_table()
     ensures transition { OneTransition }
 {}
 
-/// The law of cells, which its contract states: where a cell has a model there is no fault, and otherwise one, want of memory
-/// aside. It does nothing when it is called.
+/// The law of cells, which its contract states: where a cell has a model it is one, and there is no fault; otherwise there is one
+/// fault, want of memory aside. It does nothing when it is called.
 pub fn one_cell_answer()
     ensures beside { NoFaultBeside }
     ensures one { OneFault }
+    ensures model { OneModel }
 {}
