@@ -1,5 +1,5 @@
 -- The tree of a net without resistors.
-use Rattle.std.proofs.Common.{◌≡◌, ℕ, zero, suc, ◌+◌, ◌*◌, ◌<◌, ◌≤◌, ◌==◌, Bool, true, false, not, if◌then◌else◌, List, [], ◌∷◌, ◌++◌, map, filter, length, get_or, slice_index, slice_index_or, All, sum_by, refl, sym, ◌∙◌, ap, ap₂, subst, arith, one-mul, mul-add, eq-eqb}
+use Rattle.std.proofs.Common.{◌≡◌, ℕ, zero, suc, ◌+◌, ◌*◌, ◌<◌, ◌≤◌, ◌==◌, Bool, true, false, not, if◌then◌else◌, List, [], ◌∷◌, ◌++◌, map, filter, length, get_or, slice_get, slice_index, slice_index_or, Some, All, sum_by, refl, sym, ◌∙◌, ap, ap₂, subst, arith, one-mul, mul-add, eq-eqb}
 use Rattle.std.specs.List.{range_with_len}
 use Rattle.std.proofs.lemmas.List.FromFn.{length-map-range_with_len}
 use Rattle.spef_nets.specs.NetElements.{NetElements as SectionElements}
@@ -17,7 +17,7 @@ use Rattle.rc_tree.specs.Arenas.{Arena, IsArena, parent_of, arena_elements}
 use Rattle.rc_tree.specs.SectionNets.{section_node, sink_node, on_net, net_elements}
 use Rattle.rc_tree.specs.Numbering.{section_farads, sink_farads}
 use Rattle.rc_tree.specs.Filling.{Layout, IsLayout, IsFilled}
-use Rattle.rc_tree.specs.Builds.{IsFit, SameDelays, IsTreeOf}
+use Rattle.rc_tree.specs.Builds.{IsFit, IsOrder, SameDelays, IsTreeOf}
 use Rattle.rc_tree.specs.declared.node_ids.NodeId.{NodeId}
 use Rattle.rc_tree.proofs.Sums.{sum_cong, sum_add, sum_range}
 use Rattle.rc_tree.proofs.ElmoreSums.{one_elmore, sum_same}
@@ -166,13 +166,27 @@ module _ (count : ℕ) (section : SectionElements) (pins : Pins) (layout : Layou
       (λ of_net. subst (λ w. IsElmore (arena_elements count tree number) 0 w) (one_elmore (net_elements count section pins number) (node_of pins.driver) pairs delay net_delay (subst (λ v. IsElmore (net_elements count section pins number) v delay) is of_net)) tree_delay),
     )
 
+  lone_sink : (sink : ℕ) → sink < length pins.sinks → (slice_index_or tree.sinks sink (record { 0 = 0 })).0 ≡ 0
+  lone_sink sink sink_in =
+      ap (λ (l : List NodeId). (slice_index_or l sink (record { 0 = 0 })).0) same_sinks ∙ sinks sink (let l = ap length same_sinks in omega (arith, sink_in, sinks_len, l))
+
+  -- the driver's node alone
+  lone_order : IsOrder section pins tree (node_of pins.driver ∷ [])
+  lone_order = record {
+    every = sym one;
+    first = refl;
+    apart = λ i j d before below same. absurd (omega (arith, before, below));
+    sinks = λ sink sink_in. ap (slice_get (node_of pins.driver ∷ [])) (lone_sink sink sink_in) ∙ ap Some (sym (at_driver (sink_node pins sink)));
+  }
+
   pub lone_tree : IsTreeOf count section pins tree
   lone_tree = record {
     fit = fit;
     some = omega (arith, one);
     tree = λ number below. is_tree number;
     links = record {
-      order = [];
+      order = node_of pins.driver ∷ [];
+      ordered = lone_order;
       vias = [];
       links = λ node number some node_below below. absurd (omega (arith, one, some, node_below));
       each = λ place below. absurd (omega (arith, bare, below));
@@ -181,6 +195,5 @@ module _ (count : ℕ) (section : SectionElements) (pins : Pins) (layout : Layou
     load = λ number below. arena_load count tree number ∙ ap (λ c. sum_below c (λ j. farads_at count tree.farads j number)) one ∙ sym (let w = weighs number below in w.load);
     driver = λ number below. same_delays number below (node_of pins.driver) refl;
     delays = λ number sink below sink_in.
-        let at : (slice_index_or tree.sinks sink (record { 0 = 0 })).0 ≡ 0 = ap (λ (l : List NodeId). (slice_index_or l sink (record { 0 = 0 })).0) same_sinks ∙ sinks sink (let l = ap length same_sinks in omega (arith, sink_in, sinks_len, l)) in
-        subst (λ k. SameDelays (arena_elements count tree number) k (net_elements count section pins number) (on_net section pins (sink_node pins sink))) (sym at) (same_delays number below (on_net section pins (sink_node pins sink)) (at_driver (sink_node pins sink)));
+        subst (λ k. SameDelays (arena_elements count tree number) k (net_elements count section pins number) (on_net section pins (sink_node pins sink))) (sym (lone_sink sink sink_in)) (same_delays number below (on_net section pins (sink_node pins sink)) (at_driver (sink_node pins sink)));
   }

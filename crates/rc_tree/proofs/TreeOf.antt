@@ -1,9 +1,9 @@
 -- The tree that is planted is that of the net.
 use Rattle.std.proofs.Common.{◌≡◌, ℕ, ◌+◌, ◌-◌, ◌*◌, ◌<◌, if◌then◌else◌, List, [], ◌∷◌, ◌++◌, map, length, slice_get, slice_index, slice_index_or, Some, sum_by, sym, ◌∙◌, ap, ap₂, subst, arith, inl, inr, one-mul, mul-add}
 use Rattle.std.specs.List.{range_with_len}
-use Rattle.std.proofs.lemmas.List.FromFn.{get_or-map-range_with_len}
+use Rattle.std.proofs.lemmas.List.FromFn.{get_or-map-range_with_len, length-map-range_with_len}
 use Rattle.std.proofs.lemmas.List.Sums.{sum_by-cons}
-use Rattle.std.proofs.lemmas.Option.{get_or_from_slice_get, slice_get_within, same_Some}
+use Rattle.std.proofs.lemmas.Option.{get_or_from_slice_get, slice_get_read, slice_get_within, same_Some}
 use Rattle.delay_units.specs.declared.quantities.Farads.{Farads}
 use Rattle.delay_units.specs.declared.quantities.Ohms.{Ohms}
 use Rattle.spef_nets.specs.NetElements.{NetElements as SectionElements}
@@ -20,7 +20,7 @@ use Rattle.rc_tree.specs.Numbering.{section_farads, sink_farads}
 use Rattle.rc_tree.specs.Filling.{IsFilled}
 use Rattle.rc_tree.specs.Searches.{Search, Finds}
 use Rattle.rc_tree.specs.Searched.{Searched, AreSinks}
-use Rattle.rc_tree.specs.Builds.{IsFit, AreLinked, SameDelays, IsTreeOf}
+use Rattle.rc_tree.specs.Builds.{IsFit, IsOrder, AreLinked, SameDelays, IsTreeOf}
 use Rattle.rc_tree.specs.declared.node_ids.NodeId.{NodeId}
 use Rattle.rc_tree.proofs.Sums.{sum_cong, sum_add, sum_range}
 use Rattle.rc_tree.proofs.ElmoreSums.{one_elmore, sum_same}
@@ -78,6 +78,15 @@ module _ (count : ℕ) (section : SectionElements) (pins : Pins) (nodes : List N
       let at = sink_at k below in
       sym at.2 ∙ stands at.0 at.1 ∙ ap G (sym at.3)
 
+  -- the place of a sink's node is that of a node of the tree
+  sink_place : (k : ℕ) → k < length pins.sinks → (slice_index_or sinks k (record { 0 = 0 })).0 < length s.order
+  sink_place k k_in =
+      let at = sink_at k k_in in
+      let num = fs.ord_num at.0 (every at.0 at.1) in
+      let held = every at.0 at.1 in
+      let is = at.3 in
+      omega (arith, is, num.0, held)
+
   module _ (number : ℕ) (below : number < count) where
     ff : IsFilled count section pins (record { parents = s.parents; vias = s.vias; spots = places; sinks = sinks }) ohms farads number
     ff = filled number below
@@ -102,13 +111,7 @@ module _ (count : ℕ) (section : SectionElements) (pins : Pins) (nodes : List N
         omega (arith, is, num.0, held)
 
     sink_below : (k : ℕ) → k < length sinks → (slice_index_or sinks k (record { 0 = 0 })).0 < length s.order
-    sink_below k k_below =
-        let k_in : k < length pins.sinks = omega (arith, k_below, sinks_len) in
-        let at = sink_at k k_in in
-        let num = fs.ord_num at.0 (every at.0 at.1) in
-        let held = every at.0 at.1 in
-        let is = at.3 in
-        omega (arith, is, num.0, held)
+    sink_below k k_below = sink_place k (omega (arith, k_below, sinks_len))
 
     plain : (k : ℕ) → 0 + k ≡ k
     plain k = omega arith
@@ -175,9 +178,47 @@ module _ (count : ℕ) (section : SectionElements) (pins : Pins) (nodes : List N
   order_at : (j : ℕ) → j < length s.order → slice_index_or order_of j (node_of pins.driver) ≡ G j
   order_at j below = get_or-map-range_with_len (λ i. slice_index_or nodes (slice_index s.order i) (node_of pins.driver)) 0 (length s.order) j j (node_of pins.driver) below (let z : 0 + j ≡ j = omega arith in z)
 
+  order_len : length order_of ≡ length s.order
+  order_len = length-map-range_with_len (λ j. slice_index_or nodes (slice_index s.order j) (node_of pins.driver)) 0 (length s.order)
+
+  order_get : (j : ℕ) (d : Node) → j < length s.order → slice_index_or order_of j d ≡ G j
+  order_get j d below = get_or-map-range_with_len (λ i. slice_index_or nodes (slice_index s.order i) (node_of pins.driver)) 0 (length s.order) j j d below (let z : 0 + j ≡ j = omega arith in z)
+
+  order_stands : (j : ℕ) → j < length s.order → slice_get order_of j ≡ Some (G j)
+  order_stands j below = slice_get_read order_of (length s.order) j (G j) (sym order_len) below (sym (order_get j (G j) below))
+
+  -- different places of the order have different nodes
+  node_apart : (a b : ℕ) → a < length nodes → b < length nodes → F a ≡ F b → a ≡ b
+  node_apart a b a_below b_below same =
+      let less : ¬ (a < b) = λ before. searched.apart a b (node_of pins.driver) before b_below same in
+      let more : ¬ (b < a) = λ before. searched.apart b a (node_of pins.driver) before a_below (sym same) in
+      omega (arith, less, more)
+
+  place_apart : (i j : ℕ) → i < length s.order → j < length s.order → G i ≡ G j → i ≡ j
+  place_apart i j i_below j_below same =
+      let node : slice_index s.order i ≡ slice_index s.order j = node_apart (slice_index s.order i) (slice_index s.order j) (fs.nodes i i_below) (fs.nodes j j_below) same in
+      let number : slice_index s.numbers (slice_index s.order i) ≡ slice_index s.numbers (slice_index s.order j) = ap (slice_index s.numbers) node in
+      let one = fs.num_ord i i_below in
+      let other = fs.num_ord j j_below in
+      omega (arith, number, one, other)
+
+  is_order : IsOrder section pins A order_of
+  is_order = record {
+    every = order_len ∙ sym len;
+    first = order_stands 0 fs.some ∙ ap Some (ap F fs.root ∙ first_node count section pins nodes spots froms tos s searched 0);
+    apart = λ i j d before below same.
+        let j_below : j < length s.order = subst (λ n. j < n) order_len below in
+        let i_below : i < length s.order = omega (arith, before, j_below) in
+        let equal : i ≡ j = place_apart i j i_below j_below (sym (order_get i d i_below) ∙ same ∙ order_get j d j_below) in
+        omega (arith, before, equal);
+    sinks = λ sink sink_in.
+        order_stands (slice_index_or sinks sink (record { 0 = 0 })).0 (sink_place sink sink_in) ∙ ap Some (sym (net_node (sink_node pins sink) ∙ sink_stands sink sink_in));
+  }
+
   are_linked : AreLinked count section pins A
   are_linked = record {
     order = order_of;
+    ordered = is_order;
     vias = s.vias;
     links = λ node number some node_below below.
         let inside : node < length s.order = omega (arith, node_below, len) in

@@ -1,5 +1,5 @@
 -- What is made of a net: a tree, or the reason why it has none.
-use Rattle.std.specs.Prelude.{◌≡◌, ℕ, ◌<◌, ◌↔◌, List, ◌∷◌, ◌++◌, length, slice_index, slice_index_or, slice_get, Some, All, Contains}
+use Rattle.std.specs.Prelude.{◌≡◌, ◌≢◌, ℕ, ◌<◌, ◌↔◌, List, ◌∷◌, ◌++◌, length, slice_index, slice_index_or, slice_get, Some, All, AllPairs, Contains}
 use Rattle.name_table.specs.declared.spef_names.NodeName.{NodeName}
 use Rattle.spef_nets.specs.NetElements.{NetElements as SectionElements}
 use Rattle.rc_tree.specs.NetElements.{NetElements, NetResistor, nodes_of}
@@ -43,9 +43,19 @@ pub record IsLink (count : ℕ) (section : SectionElements) (pins : Pins) (arena
   pub ends : HasEnds resistor (slice_index_or order (parent_of arena node) (node_of pins.driver)) (slice_index_or order node (node_of pins.driver))
   pub ohms : ohms_at count arena.ohms node number ≡ resistor.ohms
 
+-- The nodes of the net in the order of the tree: one for each node of the tree, the driver's first, none of them twice, and that of
+-- each sink at the place that the tree has for the sink.
+pub record IsOrder (section : SectionElements) (pins : Pins) (arena : Arena) (order : List Node) : Type 0 where
+  pub every : length order ≡ node_count arena
+  pub first : slice_get order 0 ≡ Some (node_of pins.driver)
+  pub apart : AllPairs (λ one other. one ≢ other) order
+  pub sinks : (sink : ℕ) → sink < length pins.sinks
+      → slice_get order (slice_index_or arena.sinks sink (record { 0 = 0 })).0 ≡ Some (on_net section pins (sink_node pins sink))
+
 -- every resistor of the net is the link of exactly one node of the tree
 pub record AreLinked (count : ℕ) (section : SectionElements) (pins : Pins) (arena : Arena) : Type 0 where
   pub order : List Node
+  pub ordered : IsOrder section pins arena order
   pub vias : List ℕ
   pub links : (node number : ℕ) → 0 < node → node < node_count arena → number < count → IsLink count section pins arena order (slice_index vias node) node number
   pub each : (place : ℕ) → place < length section.joints → (node : ℕ) × (0 < node) × (node < node_count arena) × (slice_index vias node ≡ place)
@@ -55,7 +65,8 @@ pub record AreLinked (count : ℕ) (section : SectionElements) (pins : Pins) (ar
 abbrev pub SameDelays : NetElements ℕ → ℕ → NetElements Node → Node → Type 0
 SameDelays tree at net node = (delay : ℕ) → IsElmore tree at delay ↔ IsElmore net node delay
 
--- The tree is that of the net: the net is a tree at each corner, and the tree has its links, its load and its delays at each pin.
+-- The tree is that of the net: the net is a tree at each corner, and the tree has its nodes, its links, its load and its delays at each
+-- pin.
 pub record IsTreeOf (count : ℕ) (section : SectionElements) (pins : Pins) (arena : Arena) : Type 0 where
   pub fit : IsFit section pins
   pub some : 0 < node_count arena
