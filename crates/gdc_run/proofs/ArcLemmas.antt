@@ -32,7 +32,6 @@ use Rattle.gdc_run.specs.declared.refusal.Refusal.{Refusal}
 use Rattle.gdc_run.specs.declared.refusal.Refusal.TheVariants as refusal
 use Rattle.gdc_run.specs.ArcRows.{ArcEdge, IsNamed, edges_of, arc_edges, IsArcRow, IsInside, IsEdgeOutside, IsEdgeRefusal, IsFirstOutside, AddsEdges, CellGives, all_inside, some_outside, outside_at}
 use Rattle.gdc_run.specs.LibraryPhases.{ParsesLibrary, ModelsCell}
-use Rattle.gdc_run.specs.Verdict.{ReadsLib, LookupGives, at_lookups}
 use Rattle.gdc_run.specs.Work.{is_early, OnEarly}
 use Rattle.gdc_run.specs.Looking.{IsLooked, IsRowOf}
 use Rattle.gdc_run.specs.NetRows.{OnRefusal}
@@ -204,24 +203,6 @@ rows_late name cell slew load refusal (some_outside same is) early = late name c
   where
     late : (name : List ℕ) (pins : List Pin) (arc : Arc) (edge : Edge) (part : Part) (outside : Outside) (refusal : Refusal) → IsEdgeRefusal name pins arc edge part outside refusal → IsTrue (is_early refusal) → ⊥
     late name pins arc edge part outside refusal (outside_at from to) early = cc
-
--- the look-ups of a cell that end without rows
-pub rows_end : (held : Option Held) (file name bytes : List ℕ) (library : Group) (cell : TimedCell) (slew load : ℕ) (end : NoFileEnd Refusal) (result : Result (List ArcRow) (PhaseEnd Refusal FileKey))
-    → IsErrAnd result (λ lifted. IsLifted end lifted) → ReadsLib held file (Go bytes) → ParsesLibrary bytes (Ok library) → ModelsCell library name (Ok cell) → FollowsNoFile (CellGives name cell slew load) (Err end)
-    → Follows (LookupGives held file name slew load) result
-rows_end held file name bytes library cell slew load end (Ok rows) is reads parses models passes = absurd is
-rows_end held file name bytes library cell slew load (no_file.Refused refusal) (Err lifted) is reads parses models passes =
-    subst (λ (e : PhaseEnd Refusal FileKey). Follows (LookupGives held file name slew load) (Err e)) (sym is) (at_lookups bytes library cell refusal reads parses models passes)
-rows_end held file name bytes library cell slew load no_file.OutOfMemory (Err lifted) is reads parses models passes =
-    subst (λ (e : PhaseEnd Refusal FileKey). Follows (LookupGives held file name slew load) (Err e)) (sym is) tt
-
-pub rows_no_steps : (name : List ℕ) (cell : TimedCell) (slew load : ℕ) (end : NoFileEnd Refusal) (result : Result (List ArcRow) (PhaseEnd Refusal FileKey)) (P : Type 0)
-    → IsErrAnd result (λ lifted. IsLifted end lifted) → FollowsNoFile (CellGives name cell slew load) (Err end) → OnEarly result P
-rows_no_steps name cell slew load end (Ok rows) P is passes = absurd is
-rows_no_steps name cell slew load (no_file.Refused refusal) (Err lifted) P is passes =
-    subst (λ (e : PhaseEnd Refusal FileKey). OnEarly {A = List ArcRow} (Err e) P) (sym is) (λ early. absurd (rows_late name cell slew load refusal passes early))
-rows_no_steps name cell slew load no_file.OutOfMemory (Err lifted) P is passes =
-    subst (λ (e : PhaseEnd Refusal FileKey). OnEarly {A = List ArcRow} (Err e) P) (sym is) tt
 
 -- the pin at a place has its name
 pub is_named : (pins : List Pin) (place : ℕ) (pin : Pin) (name : List ℕ) → place < length pins → pin ≡ get_or pins place pin → name ≡ (get_or pins place pin).name → IsNamed pins place name

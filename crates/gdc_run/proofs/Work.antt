@@ -26,7 +26,7 @@ use Rattle.timing_arcs.specs.Cells.{TimedCell}
 use Rattle.gdc_run.specs.ArcRows.{arc_edges}
 use Rattle.gdc_run.specs.LibraryPhases.{ParsesLibrary, ModelsCell}
 use Rattle.gdc_run.specs.Verdict.{ReadsSpef, ReadsLib}
-use Rattle.gdc_run.specs.Work.{total_steps, SectionsWork, of_sections, TextWork, no_head, of_head, WiresWork, no_file, of_file, LookupWork, no_model_yet, of_model, CommandWork, WordsWork, no_words, of_words, IsWithin, is_early}
+use Rattle.gdc_run.specs.Work.{total_steps, SectionsWork, of_sections, TextWork, no_head, of_head, WiresWork, no_file, of_file, CellWork, no_model_yet, of_model, LookupWork, no_library, of_library, CommandWork, WordsWork, no_words, of_words, IsWithin, is_early}
 use Rattle.gdc_run.proofs.Places.{some_is}
 
 -- one section more has no fault
@@ -112,19 +112,27 @@ no_file_work held pick name steps = record { work = 0; given = no_file; bound = 
 pub file_work : (held : Option Held) (pick : Pick) (name bytes : List ℕ) (before after : ℕ) → ReadsSpef held name (Go bytes) → IsWithin (TextWork pick bytes) before after → IsWithin (WiresWork held pick name) before after
 file_work held pick name bytes before after reads within = record { work = within.work; given = of_file bytes reads within.given; bound = within.bound }
 
-pub no_lookup_work : (held : Option Held) (file name : List ℕ) (steps : ℕ) → IsWithin (LookupWork held file name) steps steps
-no_lookup_work held file name steps = record { work = 0; given = no_model_yet; bound = omega arith }
+pub no_cell_work : (name bytes : List ℕ) (steps : ℕ) → IsWithin (CellWork name bytes) steps steps
+no_cell_work name bytes steps = record { work = 0; given = no_model_yet; bound = omega arith }
 
-pub lookup_work : (held : Option Held) (file name bytes : List ℕ) (library : Group) (cell : TimedCell) (before after : ℕ) → ReadsLib held file (Go bytes) → ParsesLibrary bytes (Ok library) → ModelsCell library name (Ok cell)
-    → after ≤ before + 64 * length (arc_edges cell.arcs) → IsWithin (LookupWork held file name) before after
-lookup_work held file name bytes library cell before after reads parses models bound =
-    record { work = 64 * length (arc_edges cell.arcs); given = of_model bytes library cell reads parses models; bound = bound }
+pub cell_work : (name bytes : List ℕ) (library : Group) (cell : TimedCell) (before after : ℕ) → ParsesLibrary bytes (Ok library)
+    → ModelsCell library name (Ok cell) → after ≤ before + 64 * length (arc_edges cell.arcs) → IsWithin (CellWork name bytes) before after
+cell_work name bytes library cell before after parses models bound =
+    record { work = 64 * length (arc_edges cell.arcs); given = of_model library cell parses models; bound = bound }
+
+pub no_lookup_work : (held : Option Held) (file name : List ℕ) (steps : ℕ) → IsWithin (LookupWork held file name) steps steps
+no_lookup_work held file name steps = record { work = 0; given = no_library; bound = omega arith }
+
+pub lookup_work : (held : Option Held) (file name bytes : List ℕ) (before after : ℕ) → ReadsLib held file (Go bytes)
+    → IsWithin (CellWork name bytes) before after → IsWithin (LookupWork held file name) before after
+lookup_work held file name bytes before after reads within =
+    record { work = within.work; given = of_library bytes reads within.given; bound = within.bound }
 
 -- any words may give no work
 no_command_work : (held : Option Held) (command : Command) (request : Request) → CommandWork held command request 0
 no_command_work held Wires request = no_file
 no_command_work held Show request = refl
-no_command_work held Lookup request = no_model_yet
+no_command_work held Lookup request = no_library
 no_command_work held Help request = refl
 no_command_work held Version request = refl
 

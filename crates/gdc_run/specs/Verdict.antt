@@ -76,14 +76,21 @@ pub data ShowGives (held : Option Held) (name : List ℕ) : Step Refusal FileKey
 abbrev pub ReadsLib : Option Held → List ℕ → Step Refusal FileKey (List ℕ) → Type 0
 ReadsLib held name step = ReadsFile file_limit held Lib (Limit (File Lib)) name step
 
--- `lookup`: the library is read, then its grammar, then the model of the cell, and then each of its tables at the slew and the load
+-- what the bytes of a library say of the cell of a name at a slew and a load: its grammar is read, then the model of the cell, and then
+-- each of its tables is looked up
+pub data ReadsArcs (name : List ℕ) (slew load : ℕ) (bytes : List ℕ) : Result (List ArcRow) Refusal → Type 0 where
+  at_library : (refusal : Refusal) → ParsesLibrary bytes (Err refusal) → ReadsArcs name slew load bytes (Err refusal)
+  at_cell : (library : Group) (refusal : Refusal) → ParsesLibrary bytes (Ok library) → ModelsCell library name (Err refusal)
+      → ReadsArcs name slew load bytes (Err refusal)
+  of_cell : (library : Group) (cell : TimedCell) (answer : Result (List ArcRow) Refusal) → ParsesLibrary bytes (Ok library)
+      → ModelsCell library name (Ok cell) → CellGives name cell slew load answer → ReadsArcs name slew load bytes answer
+
+-- `lookup`: the library is read, and then what it says of the cell
 pub data LookupGives (held : Option Held) (file name : List ℕ) (slew load : ℕ) : Step Refusal FileKey (List ArcRow) → Type 0 where
   at_library_reading : (why : Stop Refusal FileKey) → ReadsLib held file (Halt why) → LookupGives held file name slew load (Halt why)
-  at_library : (bytes : List ℕ) (refusal : Refusal) → ReadsLib held file (Go bytes) → ParsesLibrary bytes (Err refusal) → LookupGives held file name slew load (Halt (RefusedBy refusal))
-  at_cell : (bytes : List ℕ) (library : Group) (refusal : Refusal) → ReadsLib held file (Go bytes) → ParsesLibrary bytes (Ok library) → ModelsCell library name (Err refusal) → LookupGives held file name slew load (Halt (RefusedBy refusal))
-  at_lookups : (bytes : List ℕ) (library : Group) (cell : TimedCell) (refusal : Refusal) → ReadsLib held file (Go bytes) → ParsesLibrary bytes (Ok library) → ModelsCell library name (Ok cell) → CellGives name cell slew load (Err refusal)
+  at_arcs : (bytes : List ℕ) (refusal : Refusal) → ReadsLib held file (Go bytes) → ReadsArcs name slew load bytes (Err refusal)
       → LookupGives held file name slew load (Halt (RefusedBy refusal))
-  with_arc_rows : (bytes : List ℕ) (library : Group) (cell : TimedCell) (rows : List ArcRow) → ReadsLib held file (Go bytes) → ParsesLibrary bytes (Ok library) → ModelsCell library name (Ok cell) → CellGives name cell slew load (Ok rows)
+  with_arc_rows : (bytes : List ℕ) (rows : List ArcRow) → ReadsLib held file (Go bytes) → ReadsArcs name slew load bytes (Ok rows)
       → LookupGives held file name slew load (Go rows)
 
 -- a fact of the slew and the load that are asked for, in grains

@@ -59,10 +59,16 @@ pub data WiresWork (held : Option Held) (pick : Pick) (name : List ℕ) : ℕ �
   no_file : WiresWork held pick name 0
   of_file : {work : ℕ} (bytes : List ℕ) → ReadsSpef held name (Go bytes) → TextWork pick bytes work → WiresWork held pick name work
 
--- the work of `lookup`: none before the model of the cell is made, and then 64 steps at the most for each edge of its arcs
+-- the work of a library's bytes: none before the model of the cell is made, and then 64 steps at the most for each edge of its arcs
+pub data CellWork (name bytes : List ℕ) : ℕ → Type 0 where
+  no_model_yet : CellWork name bytes 0
+  of_model : (library : Group) (cell : TimedCell) → ParsesLibrary bytes (Ok library) → ModelsCell library name (Ok cell)
+      → CellWork name bytes (64 * length (arc_edges cell.arcs))
+
+-- the work of `lookup`: none before the library is read, and then that of its bytes
 pub data LookupWork (held : Option Held) (file name : List ℕ) : ℕ → Type 0 where
-  no_model_yet : LookupWork held file name 0
-  of_model : (bytes : List ℕ) (library : Group) (cell : TimedCell) → ReadsLib held file (Go bytes) → ParsesLibrary bytes (Ok library) → ModelsCell library name (Ok cell) → LookupWork held file name (64 * length (arc_edges cell.arcs))
+  no_library : LookupWork held file name 0
+  of_library : {work : ℕ} (bytes : List ℕ) → ReadsLib held file (Go bytes) → CellWork name bytes work → LookupWork held file name work
 
 -- the work of a command: `wires` and `lookup` take steps, and no other
 abbrev pub CommandWork : Option Held → Command → Request → ℕ → Type 0

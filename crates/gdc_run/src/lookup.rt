@@ -1,12 +1,13 @@
 //! The command `lookup`: the arcs of a library's cell at one slew and one load.
-ghost use Rattle.std.specs.Prelude.{◌≡◌, ◌⊎◌, unsigned_abs};
+ghost use Rattle.std.specs.Prelude.{◌≡◌, ◌^◌, ◌<◌, ◌⊎◌, IsTrue, length, unsigned_abs};
 ghost use Rattle.edge_io.specs.Counts.{Rose, RoseBy};
 ghost use Rattle.edge_io.specs.Holding.{TellsMissing};
-ghost use Rattle.verdict_phases.specs.Phases.{Follows};
+ghost use Rattle.verdict_phases.specs.Phases.{Follows, FollowsNoFile};
 ghost use Rattle.gdc_run.specs.Ends.{AtReadFault};
 ghost use Rattle.gdc_run.specs.declared.refusal.FileKey.TheVariants.{Lib};
-ghost use Rattle.gdc_run.specs.Verdict.{LookupGives};
-ghost use Rattle.gdc_run.specs.Work.{LookupWork, IsWithin, OnEarly};
+ghost use Rattle.gdc_run.specs.NetRows.{OnRefusal};
+ghost use Rattle.gdc_run.specs.Verdict.{ReadsArcs, LookupGives};
+ghost use Rattle.gdc_run.specs.Work.{CellWork, LookupWork, IsWithin, OnEarly, is_early};
 
 use crate::arc_rows::{ArcRows, Point, arc_rows};
 use crate::library_phases::{model_cell, parse_library};
@@ -15,10 +16,29 @@ use crate::wires::FILE_LIMIT;
 use edge_io::{Shelf, Steps, Text};
 use std::alloc::Global;
 use std::sync::ledger::Ledger;
-use verdict_phases::{PhaseEnd, read_phase};
+use verdict_phases::{NoFileEnd, PhaseEnd, read_phase};
+
+/// The rows of the cell of that name in the text of a library, at a slew and a load.
+#[tactic(auto, using(crate::specs::Verdict::at_library, crate::specs::Verdict::at_cell, crate::specs::Verdict::of_cell, crate::proofs::Work::no_cell_work, crate::proofs::Work::cell_work, crate::proofs::ArcLemmas::rows_late))]
+fn arc_rows_of_library<L: Ledger>(
+    alloc: Global,
+    text: Text,
+    cell: &Text,
+    at: Point,
+    steps: &mut Steps<L>,
+) -> Result<ArcRows, NoFileEnd<Refusal>>
+    requires { length text < 2 ^ 32 }
+    ensures follows { FollowsNoFile (ReadsArcs cell.now (unsigned_abs at.slew.0) at.load.0 text) result }
+    ensures steps { IsWithin (CellWork cell.now text) steps.old steps.new }
+    ensures no_steps { OnRefusal result (λ refusal. IsTrue (is_early refusal) → steps.new ≡ steps.old) }
+{
+    let tree = parse_library(alloc, text.bytes())?;
+    let model = model_cell(alloc, &tree, cell)?;
+    arc_rows(alloc, cell, &model, at, steps)
+}
 
 /// The rows of the cell of that name in the library of that file, at a slew and a load.
-#[tactic(auto, using(crate::specs::Verdict::at_library_reading, crate::specs::Verdict::at_library, crate::specs::Verdict::at_cell, crate::specs::Verdict::at_lookups, crate::specs::Verdict::with_arc_rows, crate::proofs::Work::no_lookup_work, crate::proofs::Work::lookup_work))]
+#[tactic(auto, using(crate::specs::Verdict::at_library_reading, crate::specs::Verdict::at_arcs, crate::specs::Verdict::with_arc_rows, crate::proofs::Work::no_lookup_work, crate::proofs::Work::lookup_work))]
 pub fn lookup<H: Shelf, L: Ledger>(
     alloc: Global,
     shelf: &mut H,
@@ -36,8 +56,6 @@ pub fn lookup<H: Shelf, L: Ledger>(
 {
     let too_long = Refusal::Limit(LimitKind::File(FileKey::Lib));
     let text = read_phase(alloc, shelf, library, FILE_LIMIT, FileKey::Lib, too_long)?;
-    let tree = parse_library(alloc, text.bytes())?;
-    let model = model_cell(alloc, &tree, cell)?;
-    let rows = arc_rows(alloc, cell, &model, at, steps)?;
+    let rows = arc_rows_of_library(alloc, text, cell, at, steps)?;
     Ok(rows)
 }
