@@ -1,6 +1,7 @@
 pub mod ArcLemmas
 pub mod Completing
 pub mod NetRows
+pub mod OneLookup
 pub mod OneNet
 pub mod OneRows
 pub mod OneSpefFile

@@ -19,8 +19,9 @@ use Rattle.gdc_run.specs.declared.refusal.Refusal.{Refusal}
 use Rattle.gdc_run.specs.declared.refusal.Refusal.TheVariants.{Limit, SdfSyntax}
 use Rattle.gdc_run.specs.declared.output.Output.{Output}
 use Rattle.gdc_run.specs.declared.output.Output.TheVariants as output
-use Rattle.gdc_run.specs.Verdict.{file_limit, ParsesSdf, is_sdf_file, is_no_sdf_file, ShowGives, WiresGives, at_sdf_reading, at_sdf, with_sdf_rows, As, CommandGives, Faulty, Answers}
-use Rattle.gdc_run.specs.OneVerdict.{SameStep, HasOneAnswer, IsPlain, HasOneVerdict, OneVerdict}
+use Rattle.gdc_run.specs.Verdict.{file_limit, ParsesSdf, is_sdf_file, is_no_sdf_file, ShowGives, WiresGives, LookupGives, at_sdf_reading, at_sdf, with_sdf_rows, As, CommandGives, Faulty, Answers}
+use Rattle.gdc_run.specs.OneVerdict.{SameStep, HasOneAnswer, OneVerdict}
+use Rattle.gdc_run.proofs.OneLookup.{one_grains, one_lookup}
 use Rattle.gdc_run.proofs.OneText.{read, stops_alike, reads_or_stops, reads_alike}
 use Rattle.gdc_run.proofs.OneWires.{one_wires}
 
@@ -76,12 +77,25 @@ one_put put phase law (Halt w) (Halt v) r s d e = law (Halt w) (Halt v) r s d e
 one_fixed : (fixed : Output) → HasOneAnswer (λ (step : Step Refusal FileKey Output). step ≡ Go fixed)
 one_fixed fixed one other r s d e = subst (λ (x : Step Refusal FileKey Output). SameStep x other) (sym r) (subst (λ (x : Step Refusal FileKey Output). SameStep (Go fixed) x) (sym s) refl)
 
-one_plain : (held : Held) (command : Command) (request : Request) → IsPlain command → HasOneAnswer (CommandGives (Some held) command request)
-one_plain held Wires request plain = one_put output.Sdf (WiresGives (Some held) (pick_from request.given) (value_of request.given key.Spef)) (one_wires held (pick_from request.given) (value_of request.given key.Spef))
-one_plain held Show request plain = one_put output.Listing (ShowGives (Some held) (value_of request.given key.Sdf)) (one_show held (value_of request.given key.Sdf))
-one_plain held Lookup request plain = absurd plain
-one_plain held Help request plain = one_fixed output.Help
-one_plain held Version request plain = one_fixed output.Version
+-- `lookup`, whose slew and load are one
+abbrev Looks : Held → Request → ℕ → ℕ → Step Refusal FileKey Output → Type 0
+Looks held request slew load step = As output.Arcs (LookupGives (Some held) (value_of request.given key.Lib) (value_of request.given key.Cell) slew load) step
+
+one_point : (held : Held) (request : Request) → HasOneAnswer (CommandGives (Some held) Lookup request)
+one_point held request one other r s d e =
+    let slew : s.slew ≡ r.slew = one_grains (value_of request.given key.Slew) s.slew r.slew s.slew_reads r.slew_reads in
+    let load : s.load ≡ r.load = one_grains (value_of request.given key.Load) s.load r.load s.load_reads r.load_reads in
+    let its : Looks held request r.slew r.load other =
+    subst (λ (n : ℕ). Looks held request r.slew n other) load (subst (λ (n : ℕ). Looks held request n s.load other) slew s.holds) in
+    one_put output.Arcs (LookupGives (Some held) (value_of request.given key.Lib) (value_of request.given key.Cell) r.slew r.load)
+    (one_lookup held (value_of request.given key.Lib) (value_of request.given key.Cell) r.slew r.load) one other r.holds its d e
+
+one_command : (held : Held) (command : Command) (request : Request) → HasOneAnswer (CommandGives (Some held) command request)
+one_command held Wires request = one_put output.Sdf (WiresGives (Some held) (pick_from request.given) (value_of request.given key.Spef)) (one_wires held (pick_from request.given) (value_of request.given key.Spef))
+one_command held Show request = one_put output.Listing (ShowGives (Some held) (value_of request.given key.Sdf)) (one_show held (value_of request.given key.Sdf))
+one_command held Lookup request = one_point held request
+one_command held Help request = one_fixed output.Help
+one_command held Version request = one_fixed output.Version
 
 abbrev asked : Request → Result Request UsageFault
 asked request = Ok request
@@ -89,15 +103,12 @@ asked request = Ok request
 abbrev faulty : UsageFault → Result Request UsageFault
 faulty fault = Err fault
 
--- the verdict is one where the command that the words ask for has one answer
-one_verdict : (words : List (List ℕ)) (held : Held) → ((request : Request) → Asks words (Ok request) → IsPlain request.command) → HasOneVerdict words held
-one_verdict words held plain (Faulty f) (Faulty g) a b d e = let same : faulty f ≡ faulty g = one_request words (Err f) (Err g) a b in cc
-one_verdict words held plain (Faulty f) (Answers y) a b d e = let same : faulty f ≡ asked b.0 = one_request words (Err f) (Ok b.0) a b.1 in cc
-one_verdict words held plain (Answers x) (Faulty g) a b d e = let same : asked a.0 ≡ faulty g = one_request words (Ok a.0) (Err g) a.1 b in cc
-one_verdict words held plain (Answers x) (Answers y) a b d e =
+-- the verdict is one, since the command that the words ask for has one answer
+pub one_verdict_lem : OneVerdict
+one_verdict_lem words held (Faulty f) (Faulty g) a b d e = let same : faulty f ≡ faulty g = one_request words (Err f) (Err g) a b in cc
+one_verdict_lem words held (Faulty f) (Answers y) a b d e = let same : faulty f ≡ asked b.0 = one_request words (Err f) (Ok b.0) a b.1 in cc
+one_verdict_lem words held (Answers x) (Faulty g) a b d e = let same : asked a.0 ≡ faulty g = one_request words (Ok a.0) (Err g) a.1 b in cc
+one_verdict_lem words held (Answers x) (Answers y) a b d e =
     let same : asked a.0 ≡ asked b.0 = one_request words (Ok a.0) (Ok b.0) a.1 b.1 in
     let equal : b.0 ≡ a.0 = cc in
-    one_plain held a.0.command a.0 (plain a.0 a.1) x y a.2 (subst (λ (r : Request). CommandGives (Some held) r.command r y) equal b.2) d e
-
-pub plain_verdict : OneVerdict
-plain_verdict = one_verdict
+    one_command held a.0.command a.0 x y a.2 (subst (λ (r : Request). CommandGives (Some held) r.command r y) equal b.2) d e

@@ -2,9 +2,6 @@
 use Rattle.std.specs.Prelude.{◌≡◌, ℕ, ◌⊎◌, List, Some, Result, Ok}
 use Rattle.edge_io.specs.Holding.{Held}
 use Rattle.verdict_phases.specs.Phases.{Stop, RefusedBy, Unread, Reads, Step, Go, Halt}
-use Rattle.gdc_words.specs.CommandLine.{Request, Asks}
-use Rattle.gdc_words.specs.declared.commands.Command.{Command}
-use Rattle.gdc_words.specs.declared.commands.Command.TheVariants.{Wires, Show, Lookup, Help, Version}
 use Rattle.gdc_run.specs.declared.refusal.FileKey.{FileKey}
 use Rattle.gdc_run.specs.declared.refusal.Refusal.{Refusal}
 use Rattle.gdc_run.specs.declared.refusal.Refusal.TheVariants.{Mesh}
@@ -64,17 +61,9 @@ SameVerdict _ _ = ⊥
 abbrev pub HasOneVerdict : List (List ℕ) → Held → Type 0
 HasOneVerdict words held = (one other : Verdict) → Gives words (Some held) one → Gives words (Some held) other → IsDecidedVerdict one → IsDecidedVerdict other → SameVerdict one other
 
--- the commands of which the law is proved: all but `lookup`
-abbrev pub IsPlain : Command → Type 0
-IsPlain Wires = Unit {0}
-IsPlain Show = Unit {0}
-IsPlain Lookup = ⊥
-IsPlain Help = Unit {0}
-IsPlain Version = Unit {0}
-
--- the verdict is one: on faulty words, and on those that ask for such a command
+-- the verdict is one
 abbrev pub OneVerdict : Type 0
-OneVerdict = (words : List (List ℕ)) (held : Held) → ((request : Request) → Asks words (Ok request) → IsPlain request.command) → HasOneVerdict words held
+OneVerdict = (words : List (List ℕ)) (held : Held) → HasOneVerdict words held
 
 -- the bytes of a SPEF file have one answer: nets, or a refusal
 abbrev pub OneReading : Type 0

@@ -24,10 +24,10 @@ pub fn one_reading()
     ensures law { OneReading }
 {}
 
-/// The law of verdicts, which its contract states: on words and on files that are told there is one verdict, unless the words ask
-/// for `lookup`. A net whose resistors close a loop may be refused by any resistor of it. That the phases come to the reading of a
+/// The law of verdicts, which its contract states: on words and on files that are told there is one verdict.
+/// A net whose resistors close a loop may be refused by any resistor of it. That the phases come to the reading of a
 /// file, where a fault of the outside may come or not, stands beside the verdict. It does nothing when it is called.
-#[tactic(auto, using(crate::proofs::OneVerdict::plain_verdict))]
+#[tactic(auto, using(crate::proofs::OneVerdict::one_verdict_lem))]
 pub fn one_verdict()
     ensures law { OneVerdict }
 {}

@@ -156,7 +156,7 @@ pub fn run<H: Shelf, O: Sink, E: Sink, L: Ledger>(
     ensures complete { IsComplete words.now (H.held shelf.old) (H.faults shelf.old) (H.faults shelf.new)
         (O.faults out.old) (O.faults out.new) result }
 
-    // The verdict is one, unless the words ask for `lookup`.
+    // The verdict is one.
     ensures one_verdict { OneVerdict }
 
     // The answer's line stands behind what `err` held.

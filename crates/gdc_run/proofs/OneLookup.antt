@@ -1,0 +1,289 @@
+-- `lookup` has one answer.
+use Rattle.std.proofs.Common.{◌≡◌, ◌≢◌, inl, ℕ, List, [], ◌∷◌, ◌++◌, Option, Some, None, ℤ, pos, ◌+ℤ◌, Result, Ok, Err, refl, sym, ap, ◌∙◌, subst, arith}
+use Rattle.std.specs.Prelude.{slice_get, All, IfSome}
+use Rattle.std.specs.List.{AllByRecursion, AllZip}
+use Rattle.std.proofs.lemmas.Int.{ints}
+use Rattle.std.proofs.lemmas.List.Elements.{recursion_from_All}
+use Rattle.delay_units.specs.Reading.{IsRoundedPower}
+use Rattle.delay_units.specs.declared.quantities.Atto.{Atto as AttoSeconds}
+use Rattle.delay_units.proofs.OneDecimal.{one_decimal}
+use Rattle.delay_units.proofs.ReadingLemmas.{one_power}
+use Rattle.delay_units.proofs.RoundingLemmas.{one_rounding_lem}
+use Rattle.edge_io.specs.Holding.{Held}
+use Rattle.edge_io.specs.Zipping.{one_zip}
+use Rattle.gdc_words.specs.Decimals.{IsGrains}
+use Rattle.liberty_groups.specs.Groups.{Group}
+use Rattle.liberty_groups.specs.Answers.{SaysTree}
+use Rattle.liberty_groups.specs.declared.faults.SyntaxFault.{SyntaxFault}
+use Rattle.liberty_groups.proofs.OneFault.{one_fault}
+use Rattle.liberty_groups.proofs.SoFar.{one_tree}
+use Rattle.nldm_lookup.specs.Interpolant.{IsOutside, slew_past, load_past}
+use Rattle.nldm_lookup.specs.declared.grain.Grain.TheVariants.{Atto, Femto}
+use Rattle.nldm_lookup.specs.declared.faults.Outside.{Outside}
+use Rattle.nldm_lookup.specs.Tables.{TimingTable}
+use Rattle.nldm_lookup.proofs.OneValue.{one_interpolant_lem}
+use Rattle.timing_arcs.specs.Cells.{TimedCell}
+use Rattle.timing_arcs.specs.declared.cell.Arc.{Arc}
+use Rattle.timing_arcs.specs.declared.cell.EdgeTables.{EdgeTables}
+use Rattle.timing_arcs.specs.declared.cell.Pin.{Pin}
+use Rattle.timing_arcs.specs.declared.faults.CellFault.{CellFault}
+use Rattle.timing_arcs.specs.declared.faults.CellFault.TheVariants.{NoSuchCell, OutOfMemory}
+use Rattle.timing_arcs.proofs.ModelTables.{AreTables, HasTables, model_tables}
+use Rattle.timing_arcs.proofs.OneAnswer.{one_fault_lem, no_fault_beside_lem}
+use Rattle.timing_arcs.proofs.OneModel.{one_model_lem}
+use Rattle.verdict_phases.specs.Phases.{Stop, RefusedBy, Step, Go, Halt}
+use Rattle.gdc_run.specs.declared.arc_rows.ArcRow.{ArcRow}
+use Rattle.gdc_run.specs.declared.refusal.Edge.{Edge}
+use Rattle.gdc_run.specs.declared.refusal.Edge.TheVariants.{Rise, Fall}
+use Rattle.gdc_run.specs.declared.refusal.FileKey.{FileKey}
+use Rattle.gdc_run.specs.declared.refusal.FileKey.TheVariants.{Lib}
+use Rattle.gdc_run.specs.declared.refusal.Part.{Part}
+use Rattle.gdc_run.specs.declared.refusal.Refusal.{Refusal}
+use Rattle.gdc_run.specs.declared.refusal.Refusal.TheVariants as refusal
+use Rattle.gdc_run.specs.ArcRows.{ArcEdge, edge_of, edges_of, arc_edges, IsNamed, IsArcRow, Reaches, IsInside, IsEdgeOutside, delay_outside, transition_outside, IsEdgeRefusal, outside_at, IsFirstOutside, AddsEdges, CellGives, all_inside, some_outside}
+use Rattle.gdc_run.specs.LibraryPhases.{ParsesLibrary, is_library, is_no_library, ModelsCell, has_model, no_cell, no_model}
+use Rattle.gdc_run.specs.Verdict.{ReadsLib, ReadsArcs, at_library, at_cell, of_cell, LookupGives, at_library_reading, at_arcs, with_arc_rows}
+use Rattle.gdc_run.specs.OneVerdict.{IsDecided, SameStep, HasOneAnswer}
+use Rattle.gdc_run.proofs.OneRows.{first_without}
+use Rattle.gdc_run.proofs.OneText.{stops_alike, reads_or_stops, reads_alike}
+use Rattle.gdc_run.proofs.Places.{some_is}
+
+-- ---- the slew and the load that are asked for
+
+pub one_grains : (value : List ℕ) (one other : ℕ) → IsGrains value one → IsGrains value other → one ≡ other
+one_grains value one other r s =
+    let number = one_decimal value r.number s.number r.reads s.reads in
+    let moved : IsRoundedPower s.number.digits (s.number.exponent +ℤ pos 6) (pos one) =
+    subst (λ (d : ℤ). IsRoundedPower d (s.number.exponent +ℤ pos 6) (pos one)) number.0
+    (subst (λ (e : ℤ). IsRoundedPower r.number.digits (e +ℤ pos 6) (pos one)) number.1 r.rounds) in
+    let same : pos one ≡ pos other = one_power s.number.digits (s.number.exponent +ℤ pos 6) (pos one) (pos other) moved s.rounds in
+    omega (arith, ints, same)
+
+-- ---- the library
+
+one_library : (bytes : List ℕ) (one other : Result Group Refusal) → ParsesLibrary bytes one → ParsesLibrary bytes other → one ≡ other
+one_library bytes _ _ (is_library tree says) (is_library also tells) = ap Ok (one_tree bytes tree also says tells)
+one_library bytes _ _ (is_library tree says) (is_no_library fault is) = absurd (is.nothing tree says)
+one_library bytes _ _ (is_no_library fault is) (is_library tree says) = absurd (is.nothing tree says)
+one_library bytes _ _ (is_no_library fault is) (is_no_library also its) =
+    ap (λ (f : SyntaxFault). Err (refusal.LibrarySyntax 0 f.token f.line f.cause)) (one_fault bytes fault also is its)
+
+-- ---- the model of a cell
+
+is_no_memory : NoSuchCell ≢ OutOfMemory
+is_no_memory e = cc
+
+one_cell : (library : Group) (name : List ℕ) (one other : Result TimedCell Refusal) → ModelsCell library name one → ModelsCell library name other → one ≡ other
+one_cell library name _ _ (has_model cell is) (has_model also its) = ap Ok (one_model_lem library name cell also is its)
+one_cell library name _ _ (has_model cell is) (no_cell fault) = absurd (is_no_memory (no_fault_beside_lem library name cell NoSuchCell is fault))
+one_cell library name _ _ (has_model cell is) (no_model fault found known bad) = absurd (known (no_fault_beside_lem library name cell fault is bad))
+one_cell library name _ _ (no_cell fault) (has_model cell is) = absurd (is_no_memory (no_fault_beside_lem library name cell NoSuchCell is fault))
+one_cell library name _ _ (no_cell fault) (no_cell also) = refl
+one_cell library name _ _ (no_cell missing) (no_model fault found known bad) = absurd (found (one_fault_lem library name fault NoSuchCell bad missing known is_no_memory))
+one_cell library name _ _ (no_model fault found known bad) (has_model cell is) = absurd (known (no_fault_beside_lem library name cell fault is bad))
+one_cell library name _ _ (no_model fault found known bad) (no_cell missing) = absurd (found (one_fault_lem library name fault NoSuchCell bad missing known is_no_memory))
+one_cell library name _ _ (no_model fault found known bad) (no_model also there told worse) =
+    ap (λ (f : CellFault). Err (refusal.CellFault name 0 f)) (one_fault_lem library name fault also bad worse known told)
+
+-- ---- the rows
+
+one_name : (pins : List Pin) (place : ℕ) (one other : List ℕ) → IsNamed pins place one → IsNamed pins place other → one ≡ other
+one_name pins place one other r s = r.named ∙ ap (λ (p : Pin). p.name) (some_is r.pin s.pin (sym r.here ∙ s.here)) ∙ sym s.named
+
+same_row : (one other : ArcRow) → one.from ≡ other.from → one.to ≡ other.to → one.edge ≡ other.edge → one.delay ≡ other.delay → one.slew.0 ≡ other.slew.0 → one ≡ other
+same_row one other from to edge delay slew = λ i. record { from = from i; to = to i; edge = edge i; delay = delay i; slew = record { 0 = slew i } }
+
+-- an edge with tables has one row
+abbrev IsRow : List Pin → ℕ → ℕ → ArcEdge → ArcRow → Type 0
+IsRow pins slew load at row = AreTables at.tables × IsArcRow pins slew load at row
+
+one_row : (pins : List Pin) (slew load : ℕ) (at : ArcEdge) (one other : ArcRow) → IsRow pins slew load at one → IsRow pins slew load at other → one ≡ other
+one_row pins slew load at one other (are, r) (also, s) =
+    same_row one other
+    (one_name pins at.arc.from one.from other.from r.from s.from)
+    (one_name pins at.arc.to one.to other.to r.to s.to)
+    (r.edge ∙ sym s.edge)
+    (one_interpolant_lem one_rounding_lem at.tables.delay slew load Femto one.delay other.delay are.delay r.delay s.delay)
+    (one_interpolant_lem one_rounding_lem at.tables.slew slew load Atto one.slew.0 other.slew.0 are.slew r.transition s.transition)
+
+abbrev HasTablesAt : ArcEdge → Type 0
+HasTablesAt at = AreTables at.tables
+
+edge_has : (arc : Arc) (edge : Edge) (tables : Option EdgeTables) → IfSome tables AreTables → AllByRecursion HasTablesAt (edge_of arc edge tables)
+edge_has arc edge None are = tt
+edge_has arc edge (Some tables) are = (are, tt)
+
+both_have : (one other : List ArcEdge) → AllByRecursion HasTablesAt one → AllByRecursion HasTablesAt other → AllByRecursion HasTablesAt (one ++ other)
+both_have [] other are more = more
+both_have (at ∷ one) other are more = (are.0, both_have one other are.1 more)
+
+edges_have : (arcs : List Arc) → AllByRecursion HasTables arcs → AllByRecursion HasTablesAt (arc_edges arcs)
+edges_have [] are = tt
+edges_have (arc ∷ arcs) are =
+    both_have (edges_of arc) (arc_edges arcs)
+    (both_have (edge_of arc Rise arc.rise) (edge_of arc Fall arc.fall) (edge_has arc Rise arc.rise are.0.rise) (edge_has arc Fall arc.fall are.0.fall))
+    (edges_have arcs are.1)
+
+with_tables : (pins : List Pin) (slew load : ℕ) (edges : List ArcEdge) (rows : List ArcRow) → AllByRecursion HasTablesAt edges → AllZip (IsArcRow pins slew load) edges rows → AllZip (IsRow pins slew load) edges rows
+with_tables pins slew load [] [] are all = tt
+with_tables pins slew load [] (row ∷ rows) are all = absurd all
+with_tables pins slew load (at ∷ edges) [] are all = absurd all
+with_tables pins slew load (at ∷ edges) (row ∷ rows) are all = ((are.0, all.0), with_tables pins slew load edges rows are.1 all.1)
+
+one_rows : (pins : List Pin) (slew load : ℕ) (edges : List ArcEdge) (one other : List ArcRow) → AllByRecursion HasTablesAt edges → AddsEdges pins slew load edges [] one → AddsEdges pins slew load edges [] other → one ≡ other
+one_rows pins slew load edges one other are r s =
+    r.is ∙ one_zip (IsRow pins slew load) (one_row pins slew load) edges r.added s.added (with_tables pins slew load edges r.added are r.each) (with_tables pins slew load edges s.added are s.each) ∙ sym s.is
+
+-- ---- an edge that is outside
+
+not_outside : (table : TimingTable) (slew load : ℕ) (outside : Outside) → Reaches table slew load → IsOutside table slew load outside → ⊥
+not_outside table slew load _ reaches (slew_past past) = reaches.slew_within past
+not_outside table slew load _ reaches (load_past within past) = reaches.load_within past
+
+one_outside : (table : TimingTable) (slew load : ℕ) (one other : Outside) → IsOutside table slew load one → IsOutside table slew load other → one ≡ other
+one_outside table slew load _ _ (slew_past past) (slew_past also) = refl
+one_outside table slew load _ _ (slew_past past) (load_past within also) = absurd (within past)
+one_outside table slew load _ _ (load_past within past) (slew_past also) = absurd (within also)
+one_outside table slew load _ _ (load_past within past) (load_past inside also) = refl
+
+inside_or_outside : (slew load : ℕ) (tables : EdgeTables) (part : Part) (outside : Outside) → IsInside slew load tables → IsEdgeOutside slew load tables part outside → ⊥
+inside_or_outside slew load tables _ outside inside (delay_outside is) = not_outside tables.delay slew load outside inside.delay is
+inside_or_outside slew load tables _ outside inside (transition_outside reaches is) = not_outside tables.slew slew load outside inside.transition is
+
+abbrev refusal_at : List ℕ → List ℕ → List ℕ → Edge → Part → Outside → Refusal
+refusal_at cell from to edge part outside = refusal.Outside cell from to edge 0 part outside.axis outside.value
+
+same_refusal : (cell : List ℕ) (pins : List Pin) (arc : Arc) (edge : Edge) (part : Part) (outside other : Outside) (one two : Refusal) → outside ≡ other
+    → IsEdgeRefusal cell pins arc edge part outside one → IsEdgeRefusal cell pins arc edge part other two → one ≡ two
+same_refusal cell pins arc edge part outside other _ _ same (outside_at {from = f} {to = t} from to) (outside_at {from = g} {to = u} start end) =
+    let first : f ≡ g = one_name pins arc.from f g from start in
+    let second : t ≡ u = one_name pins arc.to t u to end in
+    ap (λ x. refusal_at cell x t edge part outside) first ∙ ap (λ x. refusal_at cell g x edge part outside) second ∙ ap (λ (x : Outside). refusal_at cell g u edge part x) same
+
+one_part : (cell : List ℕ) (pins : List Pin) (arc : Arc) (edge : Edge) (slew load : ℕ) (tables : EdgeTables) (part more : Part) (outside other : Outside) (one two : Refusal)
+    → IsEdgeOutside slew load tables part outside → IsEdgeOutside slew load tables more other → IsEdgeRefusal cell pins arc edge part outside one → IsEdgeRefusal cell pins arc edge more other two → one ≡ two
+one_part cell pins arc edge slew load tables _ _ outside other one two (delay_outside is) (delay_outside its) r s =
+    same_refusal cell pins arc edge _ outside other one two (one_outside tables.delay slew load outside other is its) r s
+one_part cell pins arc edge slew load tables _ _ outside other one two (delay_outside is) (transition_outside reaches its) r s =
+    absurd (not_outside tables.delay slew load outside reaches is)
+one_part cell pins arc edge slew load tables _ _ outside other one two (transition_outside reaches is) (delay_outside its) r s =
+    absurd (not_outside tables.delay slew load other reaches its)
+one_part cell pins arc edge slew load tables _ _ outside other one two (transition_outside reaches is) (transition_outside reach its) r s =
+    same_refusal cell pins arc edge _ outside other one two (one_outside tables.slew slew load outside other is its) r s
+
+-- the edges of a cell are all inside, or the first that is not is one
+module _ (name : List ℕ) (pins : List Pin) (slew load : ℕ) where
+  abbrev Inside : ArcEdge → Type 0
+  Inside at = IsInside slew load at.tables
+
+  stands_inside : (front back : List ArcEdge) (at : ArcEdge) → AllByRecursion Inside (front ++ at ∷ back) → Inside at
+  stands_inside [] back at all = all.0
+  stands_inside (first ∷ front) back at all = stands_inside front back at all.1
+
+  no_outside : (edges : List ArcEdge) (refusal : Refusal) → All Inside edges → IsFirstOutside name pins slew load edges refusal → ⊥
+  no_outside edges refusal inside is =
+      inside_or_outside slew load is.here.tables is.part is.outside
+      (stands_inside is.before is.behind is.here (subst (AllByRecursion Inside) is.split (recursion_from_All Inside edges inside))) is.is_outside
+
+  abbrev IsRefusedAt : ArcEdge → Part → Outside → Refusal → Type 0
+  IsRefusedAt at part outside refusal = IsEdgeOutside slew load at.tables part outside × IsEdgeRefusal name pins at.arc at.edge part outside refusal
+
+  refused_alike : (at : ArcEdge) (part more : Part) (outside other : Outside) (one two : Refusal) → IsRefusedAt at part outside one → IsRefusedAt at more other two → one ≡ two
+  refused_alike at part more outside other one two r s = one_part name pins at.arc at.edge slew load at.tables part more outside other one two r.0 s.0 r.1 s.1
+
+  one_first : (edges : List ArcEdge) (one other : Refusal) → IsFirstOutside name pins slew load edges one → IsFirstOutside name pins slew load edges other → one ≡ other
+  one_first edges one other r s =
+      let same : r.here ≡ s.here =
+      first_without Inside r.before r.behind s.before s.behind r.here s.here (sym r.split ∙ s.split) (recursion_from_All Inside r.before r.inside) (recursion_from_All Inside s.before s.inside)
+      (λ inside. inside_or_outside slew load r.here.tables r.part r.outside inside r.is_outside) (λ inside. inside_or_outside slew load s.here.tables s.part s.outside inside s.is_outside) in
+      refused_alike s.here r.part s.part r.outside s.outside one other (subst (λ (at : ArcEdge). IsRefusedAt at r.part r.outside one) same (r.is_outside, r.refused)) (s.is_outside, s.refused)
+
+one_giving : (name : List ℕ) (cell : TimedCell) (slew load : ℕ) (one other : Result (List ArcRow) Refusal) → AllByRecursion HasTables cell.arcs → CellGives name cell slew load one → CellGives name cell slew load other → one ≡ other
+one_giving name cell slew load _ _ have (all_inside rows are) (all_inside more also) = ap Ok (one_rows cell.pins slew load (arc_edges cell.arcs) rows more (edges_have cell.arcs have) are also)
+one_giving name cell slew load _ _ have (all_inside rows are) (some_outside refusal is) = absurd (no_outside name cell.pins slew load (arc_edges cell.arcs) refusal are.inside is)
+one_giving name cell slew load _ _ have (some_outside refusal is) (all_inside rows are) = absurd (no_outside name cell.pins slew load (arc_edges cell.arcs) refusal are.inside is)
+one_giving name cell slew load _ _ have (some_outside refusal is) (some_outside also its) = ap Err (one_first name cell.pins slew load (arc_edges cell.arcs) refusal also is its)
+
+-- ---- what the bytes of a library say
+
+abbrev tree : Group → Result Group Refusal
+tree library = Ok library
+
+abbrev no_tree : Refusal → Result Group Refusal
+no_tree refusal = Err refusal
+
+abbrev model : TimedCell → Result TimedCell Refusal
+model cell = Ok cell
+
+abbrev no_cell_model : Refusal → Result TimedCell Refusal
+no_cell_model refusal = Err refusal
+
+module _ (name : List ℕ) (slew load : ℕ) (bytes : List ℕ) where
+  same_tree : (one other : Group) → ParsesLibrary bytes (Ok one) → ParsesLibrary bytes (Ok other) → one ≡ other
+  same_tree one other r s = let same : tree one ≡ tree other = one_library bytes (Ok one) (Ok other) r s in cc
+
+  tree_or_fault : (library : Group) (refusal : Refusal) → ParsesLibrary bytes (Ok library) → ParsesLibrary bytes (Err refusal) → ⊥
+  tree_or_fault library refusal r s = let same : tree library ≡ no_tree refusal = one_library bytes (Ok library) (Err refusal) r s in cc
+
+  model_or_fault : (library other : Group) (cell : TimedCell) (refusal : Refusal) → library ≡ other → ModelsCell library name (Ok cell) → ModelsCell other name (Err refusal) → ⊥
+  model_or_fault library other cell refusal same r s =
+      let equal : model cell ≡ no_cell_model refusal = one_cell other name (Ok cell) (Err refusal) (subst (λ (g : Group). ModelsCell g name (Ok cell)) same r) s in
+      cc
+
+  has_tables : (library : Group) (cell : TimedCell) → ModelsCell library name (Ok cell) → AllByRecursion HasTables cell.arcs
+  has_tables library cell (has_model _ is) = model_tables library name cell is
+
+  one_answer : (one other : Result (List ArcRow) Refusal) → ReadsArcs name slew load bytes one → ReadsArcs name slew load bytes other → one ≡ other
+  one_answer _ _ (at_library refusal parses) (at_library also fails) =
+      let same : no_tree refusal ≡ no_tree also = one_library bytes (Err refusal) (Err also) parses fails in
+      let equal : refusal ≡ also = cc in
+      ap Err equal
+  one_answer _ _ (at_library refusal parses) (at_cell library also says models) = absurd (tree_or_fault library refusal says parses)
+  one_answer _ _ (at_library refusal parses) (of_cell library cell answer says models gives) = absurd (tree_or_fault library refusal says parses)
+  one_answer _ _ (at_cell library refusal says models) (at_library also fails) = absurd (tree_or_fault library also says fails)
+  one_answer _ _ (at_cell library refusal says models) (at_cell other also tells fails) =
+      let same : no_cell_model refusal ≡ no_cell_model also =
+      one_cell other name (Err refusal) (Err also) (subst (λ (g : Group). ModelsCell g name (Err refusal)) (same_tree library other says tells) models) fails in
+      let equal : refusal ≡ also = cc in
+      ap Err equal
+  one_answer _ _ (at_cell library refusal says models) (of_cell other cell answer tells makes gives) = absurd (model_or_fault other library cell refusal (same_tree other library tells says) makes models)
+  one_answer _ _ (of_cell library cell answer says models gives) (at_library also fails) = absurd (tree_or_fault library also says fails)
+  one_answer _ _ (of_cell library cell answer says models gives) (at_cell other also tells fails) = absurd (model_or_fault library other cell also (same_tree library other says tells) models fails)
+  one_answer one other (of_cell library cell _ says models gives) (of_cell more also _ tells makes its) =
+      let equal : model cell ≡ model also = one_cell more name (Ok cell) (Ok also) (subst (λ (g : Group). ModelsCell g name (Ok cell)) (same_tree library more says tells) models) makes in
+      let same : cell ≡ also = cc in
+      one_giving name also slew load one other (has_tables more also makes) (subst (λ (c : TimedCell). CellGives name c slew load one) same gives) its
+
+-- ---- the command
+
+abbrev step_of : Result (List ArcRow) Refusal → Step Refusal FileKey (List ArcRow)
+step_of (Ok rows) = Go rows
+step_of (Err refusal) = Halt (RefusedBy refusal)
+
+same_step : (answer : Result (List ArcRow) Refusal) → SameStep (step_of answer) (step_of answer)
+same_step (Ok rows) = refl
+same_step (Err refusal) = inl refl
+
+-- the library is not read, or its bytes have an answer
+data Comes (held : Held) (file name : List ℕ) (slew load : ℕ) (step : Step Refusal FileKey (List ArcRow)) : Type 0 where
+  stops : (why : Stop Refusal FileKey) → ReadsLib (Some held) file (Halt why) → step ≡ Halt why → Comes held file name slew load step
+  reads : (bytes : List ℕ) (answer : Result (List ArcRow) Refusal) → ReadsLib (Some held) file (Go bytes) → ReadsArcs name slew load bytes answer → step ≡ step_of answer → Comes held file name slew load step
+
+comes : (held : Held) (file name : List ℕ) (slew load : ℕ) (step : Step Refusal FileKey (List ArcRow)) → LookupGives (Some held) file name slew load step → Comes held file name slew load step
+comes held file name slew load _ (at_library_reading why r) = stops why r refl
+comes held file name slew load _ (at_arcs bytes refusal r are) = reads bytes (Err refusal) r are refl
+comes held file name slew load _ (with_arc_rows bytes rows r are) = reads bytes (Ok rows) r are refl
+
+one_coming : (held : Held) (file name : List ℕ) (slew load : ℕ) (one other : Step Refusal FileKey (List ArcRow)) → Comes held file name slew load one → Comes held file name slew load other → IsDecided one → IsDecided other → SameStep one other
+one_coming held file name slew load one other (stops w r is) (stops v s its) d e =
+    subst (λ (x : Step Refusal FileKey (List ArcRow)). SameStep x other) (sym is) (subst (λ (x : Step Refusal FileKey (List ArcRow)). SameStep (Halt w) x) (sym its)
+    (stops_alike held Lib file w v r s (subst (λ (x : Step Refusal FileKey (List ArcRow)). IsDecided x) is d) (subst (λ (x : Step Refusal FileKey (List ArcRow)). IsDecided x) its e)))
+one_coming held file name slew load one other (stops w r is) (reads y b s u its) d e = absurd (reads_or_stops held Lib file y w s r (subst (λ (x : Step Refusal FileKey (List ArcRow)). IsDecided x) is d))
+one_coming held file name slew load one other (reads y b s u its) (stops w r is) d e = absurd (reads_or_stops held Lib file y w s r (subst (λ (x : Step Refusal FileKey (List ArcRow)). IsDecided x) is e))
+one_coming held file name slew load one other (reads x a r t is) (reads y b s u its) d e =
+    let same : a ≡ b = one_answer name slew load x a b t (subst (λ (z : List ℕ). ReadsArcs name slew load z b) (reads_alike held Lib file y x s r) u) in
+    subst (λ (z : Step Refusal FileKey (List ArcRow)). SameStep z other) (sym is) (subst (λ (z : Step Refusal FileKey (List ArcRow)). SameStep (step_of a) z) (sym its)
+    (subst (λ (z : Result (List ArcRow) Refusal). SameStep (step_of a) (step_of z)) same (same_step a)))
+
+pub one_lookup : (held : Held) (file name : List ℕ) (slew load : ℕ) → HasOneAnswer (LookupGives (Some held) file name slew load)
+one_lookup held file name slew load one other r s d e = one_coming held file name slew load one other (comes held file name slew load one r) (comes held file name slew load other s) d e
