@@ -1,7 +1,9 @@
 -- The tokens so far, and the state that the reader is in behind them.
-use Rattle.std.proofs.Common.{◌≡◌, ℕ, zero, suc, ◌+◌, ◌-◌, ◌<◌, ◌≤◌, List, [], ◌∷◌, ◌++◌, length, get_or, take, drop, length-drop, length-append, None, Some, Result, Ok, Err, refl, sym, ap, ◌∙◌, subst, arith, append_assoc, append-nil}
+use Rattle.std.proofs.Common.{◌≡◌, ℕ, zero, suc, ◌+◌, ◌-◌, ◌<◌, ◌≤◌, List, [], ◌∷◌, ◌++◌, length, get_or, take, drop, length-drop, length-append, None, Some, Result, Ok, Err, refl, sym, ap, ◌∙◌, subst, arith, append_assoc, append-nil, add-one, Bool, true, false, if◌then◌else◌}
 use Rattle.std.specs.Prelude.{⊤, slice_get}
-use Rattle.std.proofs.lemmas.List.{take_all}
+use Rattle.std.proofs.lemmas.List.{take_all, drop-drop}
+use Rattle.token_texts.specs.Blanks.{is_blank}
+use Rattle.token_texts.specs.Runs.{run_length}
 use Rattle.token_fronts.specs.Machine.{Stop, go_on, outcome}
 use Rattle.token_fronts.specs.ReadingLaw.{says_made, leaves_where_stopped, one_reading, one_leaving}
 use Rattle.verilog_netlist.specs.Tokens.{Lexeme, span_of, cut_at, AreTokensFrom, end, skip, take_one, AreTokens, IsToken}
@@ -22,7 +24,7 @@ use Rattle.verilog_netlist.specs.declared.scan.Cut.{Cut}
 use Rattle.verilog_netlist.specs.declared.scan.Cut.TheVariants.{Skip, Take}
 use Rattle.verilog_netlist.specs.declared.reading.ReadEnd.{ReadEnd}
 use Rattle.verilog_netlist.specs.declared.reading.ReadEnd.TheVariants.{Syntax, NotStructural, OutOfMemory}
-use Rattle.verilog_netlist.proofs.Cutting.{cut_within}
+use Rattle.verilog_netlist.proofs.Cutting.{cut_blank, cut_within}
 use Rattle.verilog_netlist.proofs.Parting.{one_parting}
 use Rattle.verilog_netlist.proofs.Fitting.{fits}
 
@@ -206,12 +208,42 @@ pub no_bytes : (l : List ℕ) → length l < 1 → l ≡ []
 no_bytes [] none = refl
 no_bytes (x ∷ xs) none = absurd (omega arith)
 
+read_on : {bytes rest more : List ℕ} {start place number : ℕ} {state : State} → rest ≡ more → start ≡ place → ReadTo bytes rest start number state → ReadTo bytes more place number state
+read_on {bytes} {rest} {more} {start} {place} {number} {state} e f h =
+    subst (λ (l : List ℕ). ReadTo bytes l place number state) e (subst (λ (n : ℕ). ReadTo bytes rest n number state) f h)
+
+-- blanks are passed over one by one
+blanks_passed : {bytes : List ℕ} {number : ℕ} {state : State} (rest : List ℕ) (start : ℕ) → ReadTo bytes rest start number state
+    → ReadTo bytes (drop (run_length is_blank rest) rest) (start + run_length is_blank rest) number state
+unfolding run_length
+blanks_passed [] start h = read_on refl (omega arith) h
+blanks_passed {bytes} {number} {state} (byte ∷ rest) start h = by (is_blank byte) refl (λ on. blanks_passed rest (start + 1) on)
+  where
+    by : (blank : Bool) → is_blank byte ≡ blank
+        → (ReadTo bytes rest (start + 1) number state → ReadTo bytes (drop (run_length is_blank rest) rest) (start + 1 + run_length is_blank rest) number state)
+        → ReadTo bytes (drop (run_length is_blank (byte ∷ rest)) (byte ∷ rest)) (start + run_length is_blank (byte ∷ rest)) number state
+    by true e later =
+        let run : run_length is_blank (byte ∷ rest) ≡ run_length is_blank rest + 1 = ap (λ (t : Bool). if t then run_length is_blank rest + 1 else 0) e in
+        let more = later (skipped byte rest 1 h (cut_blank byte rest e) (omega arith)) in
+        read_on (sym (ap (λ n. drop n (byte ∷ rest)) (run ∙ add-one (run_length is_blank rest)))) (omega arith) more
+    by false e later =
+        let run : run_length is_blank (byte ∷ rest) ≡ 0 = ap (λ (t : Bool). if t then run_length is_blank rest + 1 else 0) e in
+        read_on (sym (ap (λ n. drop n (byte ∷ rest)) run)) (omega arith) h
+
 module _ {bytes : List ℕ} {start number : ℕ} {state : State} (rest : List ℕ) (h : ReadTo bytes rest start number state) where
   pub skips : (first : ℕ) (after : List ℕ) (n : ℕ) → rest ≡ first ∷ after → cut_at first after ≡ Skip n → n ≤ length rest → (behind : List ℕ) → behind ≡ drop n rest → ReadTo bytes behind (start + n) number state
   skips first after n split cut le behind e =
       let size : length rest ≡ length (first ∷ after) = ap length split in
       subst (λ (l : List ℕ). ReadTo bytes l (start + n) number state) (sym (e ∙ ap (drop n) split))
       (skipped first after n (subst (λ (l : List ℕ). ReadTo bytes l start number state) split h) cut (omega arith))
+
+  -- and the blanks behind what is passed over
+  pub skips_blanks : (first : ℕ) (after : List ℕ) (n : ℕ) → rest ≡ first ∷ after → cut_at first after ≡ Skip n → n ≤ length rest
+      → (all : ℕ) → all ≡ n + run_length is_blank (drop n rest) → (behind : List ℕ) → behind ≡ drop all rest → ReadTo bytes behind (start + all) number state
+  skips_blanks first after n split cut le all is behind e =
+      let blanks : ℕ = run_length is_blank (drop n rest) in
+      read_on (drop-drop blanks n rest ∙ ap (λ m. drop m rest) (sym is) ∙ sym e) (omega arith)
+      (blanks_passed (drop n rest) (start + n) (skips first after n split cut le (drop n rest) refl))
 
   pub takes : (first : ℕ) (after : List ℕ) (n : ℕ) (kind : Kind) (at : Span) (now : State) → rest ≡ first ∷ after → cut_at first after ≡ Take n kind → 0 < n → n ≤ length rest → at ≡ span_of first start n
       → state_after (step_in state.mode kind at) state.entries ≡ Ok now → (behind : List ℕ) → behind ≡ drop n rest → ReadTo bytes behind (start + n) (number + 1) now

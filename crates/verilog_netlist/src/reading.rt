@@ -1,5 +1,7 @@
 //! Reads a netlist, or tells at which token it is none.
-ghost use Rattle.std.specs.Prelude.{◌≡◌, ◌+◌, ◌^◌, ◌<◌, ◌≤◌, List, length, IfOk, IfErr};
+ghost use Rattle.std.specs.Prelude.{◌≡◌, ◌+◌, ◌^◌, ◌<◌, ◌≤◌, List, length, drop, IfOk, IfErr};
+ghost use Rattle.token_texts.specs.Blanks.{is_blank};
+ghost use Rattle.token_texts.specs.Runs.{run_length};
 ghost use Rattle.verilog_netlist.specs.Spans.{text_at};
 ghost use Rattle.verilog_netlist.specs.Tokens.{span_of};
 ghost use Rattle.verilog_netlist.specs.Netlists.{SaysNetlist, IsDead, HasWord, Gives};
@@ -13,6 +15,7 @@ use crate::scan::{Cut, cut_at};
 use crate::spans::Span;
 use edge_io::Text;
 use std::alloc::Global;
+use token_texts::{Blank, run_length};
 
 /// Why a file is no netlist. Tokens count from 1; comments, attributes, directives and blanks are none.
 #[derive(Debug, Drop)]
@@ -63,6 +66,16 @@ fn refusal(alloc: Global, bytes: &[u8], number: u64, kind: Kind, at: Span) -> Re
     }
 }
 
+/// So many bytes that are passed over, and the blanks behind them.
+#[inline]
+fn with_blanks(count: usize, rest: &[u8]) -> usize
+    requires { count ≤ length rest.now }
+    ensures value { result ≡ count + run_length is_blank (drop count rest.now) }
+    ensures within { result ≤ length rest.now }
+{
+    count + run_length::<Blank>(rest.split_at(count).1)
+}
+
 /// Reads the bytes of a netlist (IEEE 1364-2005, structural), in one pass.
 ///
 /// `Syntax` and `NotStructural` come exactly where the bytes are no text of the grammar; their token is the first with which no
@@ -87,8 +100,9 @@ pub fn read_entries(alloc: Global, bytes: &[u8]) -> Result<Vec<Entry>, ReadEnd>
     while let [first, behind @ ..] = rest {
         match cut_at(rest, *first, behind) {
             Cut::Skip(count) => {
-                rest = rest.split_at(count).1;
-                start += count;
+                let passed = with_blanks(count, rest);
+                rest = rest.split_at(passed).1;
+                start += passed;
             }
             Cut::Take(count, kind) => {
                 let at = span_of(*first, start, count);

@@ -3,13 +3,13 @@ use Rattle.std.proofs.Common.{Bool, sym, subst}
 use Rattle.verilog_netlist.specs.Steps.{step_in}
 use Rattle.verilog_netlist.specs.Modes.{State, state_after}
 use Rattle.verilog_netlist.specs.ReaderStates.{state_of, Steps}
-use Rattle.verilog_netlist.proofs.SoFar.{skips, takes, refuses, lacks, says, few_said, one_netlist, first_and_rest, no_bytes}
+use Rattle.verilog_netlist.proofs.SoFar.{skips_blanks, takes, refuses, lacks, says, few_said, one_netlist, first_and_rest, no_bytes}
 use Rattle.verilog_netlist.proofs.reading.read_entries.Goals as goal
 
 pub loop-rest-preserved-in-Skip : goal.loop-rest-preserved-in-Skip
 loop-rest-preserved-in-Skip c =
     let split = first_and_rest c.loop-rest.rest.now c.in-len1-up.len_at_least in
-    skips c.loop-rest.rest.now c.loop-rest.invariant _ _ c.in-Skip.count split (sym c.in-Skip.ensures.value) c.in-Skip.ensures.within.1 _ c.split_at.ensures.back
+    skips_blanks c.loop-rest.rest.now c.loop-rest.invariant _ _ c.in-Skip.count split (sym c.in-Skip.ensures.value) c.in-Skip.ensures.within.1 _ c.with_blanks-passed.ensures.value _ c.split_at.ensures.back
 
 pub returns-in-Ok-false-clause-dead : goal.returns-in-Ok-false-clause-dead
 returns-in-Ok-false-clause-dead c =
