@@ -1,10 +1,13 @@
 -- The first declarations of names, and bad ranges by them.
-use Rattle.std.proofs.Common.{◌≡◌, ℕ, zero, suc, ◌+◌, ◌<◌, ◌≤◌, Bool, true, false, nat_lt, List, [], ◌∷◌, ◌++◌, length, drop, get_or, slice_get, Option, Some, None, refl, sym, ap, ap₂, ◌∙◌, arith, cond, if◌then◌else◌, true≢false, Decides, is_some, add-one, drop-cons}
+use Rattle.std.proofs.Common.{subst, ◌≡◌, ℕ, zero, suc, ◌+◌, ◌<◌, ◌≤◌, max, Bool, true, false, ◌&&◌, ◌==◌, nat_lt, List, [], ◌∷◌, ◌++◌, length, drop, get_or, slice_get, Option, Some, None, refl, sym, ap, ap₂, ◌∙◌, arith, cond, if◌then◌else◌, true≢false, Decides, is_some, add-one, drop-cons}
+use Rattle.std.proofs.Math.Nat.{le-max_left, le-max_right}
 use Rattle.std.proofs.lemmas.Bool.{lt-ltb, le-ltb}
+use Rattle.std.proofs.lemmas.List.{drop_all}
+use Rattle.std.specs.Str.{bytes_eq}
 use Rattle.verilog_netlist.specs.Spans.{text_at}
 use Rattle.verilog_netlist.specs.Ranges.{most_bits, and_more, bits_of, joined_width, is_bad_entry, declares, or_first, first_declared, module_at, declared_by, IsBadRange, declared_range, is_bad_declaration, is_bad_bit, is_bad_part, whole_width}
 use Rattle.verilog_netlist.specs.NameKeys.{Key, key_in, same_key}
-use Rattle.verilog_netlist.specs.DeclaredNames.{Rows, declared_key, row_at, AddsRow, AddsDeclared, HoldsDeclared}
+use Rattle.verilog_netlist.specs.DeclaredNames.{Rows, declared_key, row_at, found_in, widened, AddsRow, AddsDeclared, HoldsDeclared, BoundsWidths, IsAtMost}
 use Rattle.verilog_netlist.specs.declared.declared.Declaration.{Declaration}
 use Rattle.verilog_netlist.specs.declared.entries.Entry.{Entry}
 use Rattle.verilog_netlist.specs.declared.entries.Entry.TheVariants.{Module, Header, Declared, Instance, Port, Whole, Bit, Part, Constant}
@@ -90,6 +93,32 @@ declared_next bytes entries n old new here e in_module stands holds adds asked n
     ∙ ap₂ (λ (m : ℕ) (x : Option Entry). or_first (first_declared bytes entries asked name n) (declares bytes asked name m x)) in_module (sym stands)
     ∙ sym (first_step bytes entries asked name n)
 
+-- no name has more bits than the widest of the declared ones
+width_now : (d : Declaration) (widest : ℕ) (now : Bool) → 1 ≤ widest → whole_width (declared_range (if now then Some d else None)) ≤ max widest (whole_width d.range)
+width_now d widest true one = le-max_right widest (whole_width d.range)
+width_now d widest false one = let more = le-max_left widest (whole_width d.range) in omega arith
+
+width_here : (bytes : List ℕ) (asked : ℕ) (name : List ℕ) (here : ℕ) (e : Entry) (widest : ℕ) → 1 ≤ widest
+    → whole_width (declared_range (declares bytes asked name here (Some e))) ≤ widened e widest
+width_here bytes asked name here (Declared by span bounds) widest one =
+    width_now (record { by = by; range = bounds }) widest ((asked == here) && bytes_eq name (text_at bytes span)) one
+width_here bytes asked name here _ widest one = one
+
+wider : (e : Entry) (widest : ℕ) → widest ≤ widened e widest
+wider (Declared by span bounds) widest = le-max_left widest (whole_width bounds)
+wider _ widest = omega arith
+
+pub bounds_first : BoundsWidths [] 1
+bounds_first asked name = omega arith
+
+pub bounds_next : (bytes : List ℕ) (here : ℕ) (e : Entry) (old new : Rows) (widest : ℕ) → AddsDeclared bytes here e old new → BoundsWidths old widest → BoundsWidths new (widened e widest)
+bounds_next bytes here e old new widest adds bounds asked name =
+    subst (λ (d : Option Declaration). whole_width (declared_range d) ≤ widened e widest) (sym (adds asked name)) (by (found_in old asked name) (bounds asked name))
+  where
+    by : (d : Option Declaration) → whole_width (declared_range d) ≤ widest → whole_width (declared_range (or_first d (declares bytes asked name here (Some e)))) ≤ widened e widest
+    by None one = width_here bytes asked name here e widest one
+    by (Some first) few = let more = wider e widest in omega arith
+
 -- the bits of the expressions before this place, all of them expressions, and those from it on
 module _ (bytes : List ℕ) (f : List ℕ → Option Declaration) (entries : List Entry) where
   pub record WidthSoFar (width index : ℕ) : Type 0 where
@@ -121,13 +150,58 @@ module _ (bytes : List ℕ) (f : List ℕ → Option Declaration) (entries : Lis
 
     pub width_all : length entries ≤ index → false ≡ nat_lt most_bits (joined_width bytes f entries)
     width_all past =
-        sym (le-ltb most_bits (joined_width bytes f entries) (let whole = h.whole in let few = h.few in let none = ap (joined_width bytes f) (drop_all entries index past) in omega arith))
-      where
-        drop_all : (l : List Entry) (n : ℕ) → length l ≤ n → drop n l ≡ []
-        drop_all [] zero past = refl
-        drop_all [] (suc n) past = refl
-        drop_all (e ∷ l) zero past = absurd (omega arith)
-        drop_all (e ∷ l) (suc n) past = drop_all l n (omega arith)
+        sym (le-ltb most_bits (joined_width bytes f entries) (let whole = h.whole in let few = h.few in let none = ap (joined_width bytes f) (drop_all index entries past) in omega arith))
+
+-- expressions that have at most so many bits before this place
+module _ (bytes : List ℕ) (entries : List Entry) (rows : Rows) where
+  abbrev by_rows : ℕ → List ℕ → Option Declaration
+  by_rows asked name = found_in rows asked name
+
+  pub record BoundSoFar (width index : ℕ) : Type 0 where
+    pub whole : (asked : ℕ) → joined_width bytes (by_rows asked) entries ≤ width + joined_width bytes (by_rows asked) (drop index entries)
+    pub few : width ≤ most_bits
+
+  pub bound_first : BoundSoFar 0 0
+  bound_first = record { whole = λ asked. omega arith; few = omega arith }
+
+  at_most : (most bits : Option ℕ) (f : List ℕ → Option Declaration) (more : ℕ) (n : ℕ) → most ≡ Some n → IsAtMost bits most → and_more bytes f bits more ≤ n + more
+  at_most (Some most) (Some bits) f more n is below = let same : most ≡ n = cc in omega arith
+  at_most (Some most) None f more n is below = absurd below
+  at_most None bits f more n is below = absurd (cc)
+
+  none_more : (bits : Option ℕ) (f : List ℕ → Option Declaration) (more : ℕ) → IsAtMost bits None → and_more bytes f bits more ≡ 0
+  none_more None f more below = refl
+  none_more (Some bits) f more below = absurd below
+
+  module _ (width index : ℕ) (h : BoundSoFar width index) (within : index < length entries) (d : Entry) (most : Option ℕ)
+      (bound : (asked : ℕ) → IsAtMost (bits_of bytes (by_rows asked) (get_or entries index d)) most) where
+    from_here : (asked : ℕ) → joined_width bytes (by_rows asked) (drop index entries)
+        ≡ and_more bytes (by_rows asked) (bits_of bytes (by_rows asked) (get_or entries index d)) (joined_width bytes (by_rows asked) (drop (index + 1) entries))
+    from_here asked =
+        ap (joined_width bytes (by_rows asked)) (drop-cons entries index d within)
+        ∙ ap (λ (n : ℕ). and_more bytes (by_rows asked) (bits_of bytes (by_rows asked) (get_or entries index d)) (joined_width bytes (by_rows asked) (drop n entries))) (sym (add-one index))
+
+    -- no expression stands here
+    pub bound_ends : most ≡ None → (asked : ℕ) → nat_lt most_bits (joined_width bytes (by_rows asked) entries) ≡ false
+    bound_ends is asked =
+        let bits : Option ℕ = bits_of bytes (by_rows asked) (get_or entries index d) in
+        let more : ℕ = joined_width bytes (by_rows asked) (drop (index + 1) entries) in
+        let none = none_more bits (by_rows asked) more (subst (λ (m : Option ℕ). IsAtMost bits m) is (bound asked)) in
+        le-ltb most_bits (joined_width bytes (by_rows asked) entries) (let whole = h.whole asked in let few = h.few in let here = from_here asked in omega arith)
+
+    pub bound_next : (n : ℕ) → most ≡ Some n → width + n ≤ most_bits → BoundSoFar (width + n) (index + 1)
+    bound_next n is few = record {
+      whole = λ asked.
+          let bits : Option ℕ = bits_of bytes (by_rows asked) (get_or entries index d) in
+          let more : ℕ = joined_width bytes (by_rows asked) (drop (index + 1) entries) in
+          let whole = h.whole asked in let here = from_here asked in let below = at_most most bits (by_rows asked) more n is (bound asked) in omega arith;
+      few = few;
+    }
+
+  pub bound_all : (width index : ℕ) → BoundSoFar width index → length entries ≤ index → (asked : ℕ) → nat_lt most_bits (joined_width bytes (by_rows asked) entries) ≡ false
+  bound_all width index h past asked =
+      le-ltb most_bits (joined_width bytes (by_rows asked) entries)
+      (let whole = h.whole asked in let few = h.few in let none = ap (joined_width bytes (by_rows asked)) (drop_all index entries past) in omega arith)
 
 -- a fault here
 module _ (bytes : List ℕ) (entries : List Entry) (n : ℕ) (e : Entry) (f : List ℕ → Option Declaration) (stands : slice_get entries n ≡ Some e)

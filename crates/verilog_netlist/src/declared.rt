@@ -1,10 +1,11 @@
 //! The first declaration of each name of a module.
 ghost use Rattle.std.specs.Prelude.{◌≡◌, ◌^◌, ◌<◌, length, IfOk, OnOk};
 ghost use Rattle.verilog_netlist.specs.NameKeys.{key_in};
-ghost use Rattle.verilog_netlist.specs.DeclaredNames.{declared_key, found_in, AddsRow, AddsDeclared, HoldsDeclared};
+ghost use Rattle.verilog_netlist.specs.DeclaredNames.{declared_key, found_in, widened, AddsRow, AddsDeclared, HoldsDeclared, BoundsWidths};
 
 use crate::entries::{Decl, Entry, Range};
 use crate::namespaces::Names;
+use crate::ranges::whole_width;
 use crate::repeats::{NameKey, Scopes, code_of};
 use edge_io::OutOfMemory;
 use indexmap::IndexMap;
@@ -21,6 +22,8 @@ pub struct Declaration {
 #[derive(Drop)]
 pub struct DeclaredNames<'a> {
     pub rows: IndexMap<NameKey<'a>, Declaration>,
+    /// No name has more bits than this, and no undeclared one.
+    pub widest: u64,
 }
 
 /// A name that is declared in the module of this number.
@@ -52,7 +55,8 @@ impl<'a> DeclaredNames<'a> {
         name: &'a [u8],
         declaration: Declaration,
     ) -> Result<(), OutOfMemory>
-        ensures { OnOk result (AddsRow self.old.rows.entries self.new.rows.entries (declared_key scope name.now) declaration) }
+        ensures rows { OnOk result (AddsRow self.old.rows.entries self.new.rows.entries (declared_key scope name.now) declaration) }
+        ensures widest { self.new.widest ≡ self.old.widest }
     {
         let key = declared_key(scope, name);
         if self.rows.get(&key).is_some() {
@@ -66,15 +70,28 @@ impl<'a> DeclaredNames<'a> {
 
     /// Adds what an entry of this module declares.
     fn add_entry(&mut self, scope: u32, bytes: &'a [u8], entry: Entry) -> Result<(), OutOfMemory>
-        ensures { OnOk result (AddsDeclared bytes.now scope entry self.old.rows.entries self.new.rows.entries) }
+        ensures rows { OnOk result (AddsDeclared bytes.now scope entry self.old.rows.entries self.new.rows.entries) }
+        ensures widest { OnOk result (self.new.widest ≡ widened entry self.old.widest) }
     {
         match entry {
             Entry::Declared(by, name, range) => {
+                self.widest = self.widest.max(whole_width(range));
                 self.add(scope, name.of(bytes), Declaration { by, range })
             }
             _ => Ok(()),
         }
     }
+}
+
+/// How many entries declare a name.
+fn count_declared(entries: &[Entry]) -> usize {
+    let mut count = 0;
+    for entry in entries {
+        if matches!(entry, Entry::Declared(_, _, _)) {
+            count += 1;
+        }
+    }
+    count
 }
 
 /// Collects the first declarations of all names. It takes time in proportion to the bytes of the names.
@@ -84,10 +101,13 @@ pub(crate) fn collect_declared<'a>(
     entries: &[Entry],
 ) -> Result<DeclaredNames<'a>, OutOfMemory>
     requires { length entries.now < 2 ^ 30 }
-    ensures { IfOk result (λ names. HoldsDeclared bytes.now entries.now (length entries.now) names.rows.entries) }
+    ensures rows { IfOk result (λ names. HoldsDeclared bytes.now entries.now (length entries.now) names.rows.entries) }
+    ensures widest { IfOk result (λ names. BoundsWidths names.rows.entries names.widest) }
 {
+    let many = count_declared(entries);
     let mut names = DeclaredNames {
-        rows: IndexMap::new(alloc),
+        rows: IndexMap::with_capacity(alloc, many)?,
+        widest: 1,
     };
     let mut scopes = Scopes::new();
     for (place, entry) in entries.iter().enumerate() {

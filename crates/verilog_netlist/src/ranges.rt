@@ -1,7 +1,7 @@
 //! Looks for bad ranges, selects, constants and connections.
-ghost use Rattle.std.specs.Prelude.{◌≡◌, ◌^◌, ◌<◌, ◌≤◌, nat_lt, length, IfOk, IfSome};
+ghost use Rattle.std.specs.Prelude.{◌≡◌, ℕ, false, ◌^◌, ◌<◌, ◌≤◌, nat_lt, length, IfOk, IfSome};
 ghost use Rattle.verilog_netlist.specs.Ranges.{most_bits, width_of, has_large_bound, is_past, is_past_limits, is_wire, one_range, differ, is_bad_declaration, is_outside, declared_range, is_bad_bit, runs_against, is_bad_part, is_bad_width, whole_width, bits_of, joined_width, is_bad_entry, IsFirstBadRange};
-ghost use Rattle.verilog_netlist.specs.DeclaredNames.{found_in, HoldsDeclared};
+ghost use Rattle.verilog_netlist.specs.DeclaredNames.{found_in, HoldsDeclared, BoundsWidths, IsAtMost};
 
 use crate::declared::{Declaration, DeclaredNames, collect_declared};
 use crate::entries::{Decl, Entry, Range};
@@ -210,9 +210,45 @@ impl DeclaredNames<'_> {
         false
     }
 
+    /// As many bits as an expression can have, or nothing of what is none. No name is looked up.
+    #[inline]
+    fn most_bits(&self, bytes: &[u8], entry: Entry) -> Option<u64>
+        requires { BoundsWidths self.now.rows.entries self.now.widest }
+        ensures { (scope : ℕ) → IsAtMost (bits_of bytes.now (found_in self.now.rows.entries scope) entry) result }
+    {
+        match entry {
+            Entry::Whole(_) => Some(self.widest),
+            Entry::Bit(_, _) => Some(1),
+            Entry::Part(_, select) => Some(select.width()),
+            Entry::Constant(token) => Some(u64::from(constant_width(token.of(bytes)))),
+            _ => None,
+        }
+    }
+
+    /// Whether the expressions at the front of these entries can have too many bits, as wide as names are at most. Those of most
+    /// connections cannot, and their names need not be looked up.
+    fn may_be_wide(&self, bytes: &[u8], behind: &[Entry]) -> bool
+        requires { BoundsWidths self.now.rows.entries self.now.widest }
+        ensures { (scope : ℕ) → result ≡ false
+            → nat_lt most_bits (joined_width bytes.now (found_in self.now.rows.entries scope) behind.now) ≡ false }
+    {
+        let mut width = 0;
+        for entry in behind {
+            let Some(bits) = self.most_bits(bytes, *entry) else {
+                return false;
+            };
+            if bits > MOST_BITS - width {
+                return true;
+            }
+            width += bits;
+        }
+        false
+    }
+
     /// Whether an entry is bad, with these entries behind it.
     #[inline]
     fn is_bad(&self, scope: u32, bytes: &[u8], entry: Entry, behind: &[Entry]) -> bool
+        requires { BoundsWidths self.now.rows.entries self.now.widest }
         ensures { result ≡ is_bad_entry bytes.now (found_in self.now.rows.entries scope) behind.now entry }
     {
         match entry {
@@ -220,7 +256,7 @@ impl DeclaredNames<'_> {
                 let first = self.find(scope, name.of(bytes));
                 is_bad_declaration(first, Declaration { by, range })
             }
-            Entry::Port(_) => self.is_wide(scope, bytes, behind),
+            Entry::Port(_) => self.may_be_wide(bytes, behind) && self.is_wide(scope, bytes, behind),
             Entry::Bit(name, place) => {
                 let first = self.find(scope, name.of(bytes));
                 is_bad_bit(declared_range(first), place)
@@ -238,6 +274,7 @@ impl DeclaredNames<'_> {
     pub(crate) fn first_bad_range(&self, bytes: &[u8], entries: &[Entry]) -> Option<usize>
         requires few { length entries.now < 2 ^ 30 }
         requires rows { HoldsDeclared bytes.now entries.now (length entries.now) self.now.rows.entries }
+        requires widest { BoundsWidths self.now.rows.entries self.now.widest }
         ensures { IsFirstBadRange bytes.now entries.now result }
     {
         let mut scopes = Scopes::new();

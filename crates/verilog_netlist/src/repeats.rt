@@ -2,7 +2,7 @@
 ghost use Rattle.std.specs.Prelude.{◌≡◌, ℕ, ◌+◌, ◌^◌, ◌<◌, List, length, count_by, map, IfOk, OnOk};
 ghost use Rattle.verilog_netlist.specs.Namespaces.{IsFirstRepeated, begins_module, begins_instance};
 ghost use Rattle.verilog_netlist.specs.Firsts.{first_or};
-ghost use Rattle.verilog_netlist.specs.NameKeys.{code_of, keys_in, scope_in, is_held, with_name, counted, HoldsNames};
+ghost use Rattle.verilog_netlist.specs.NameKeys.{code_of, keys_in, key_of, scope_in, holds, with_key, is_held, with_name, counted, HoldsNames};
 
 use crate::entries::Entry;
 use crate::namespaces::Names;
@@ -84,7 +84,29 @@ impl Scopes {
     }
 }
 
+/// Adds a name among others, and tells whether it was there.
+fn add_key<'a>(
+    keys: &mut IndexSet<NameKey<'a>>,
+    among: Names,
+    scopes: Scopes,
+    name: &'a [u8],
+) -> Result<bool, OutOfMemory>
+    ensures held { IfOk result (λ held. held ≡ holds (keys_in keys.old.keys) (key_of among scopes name.now)) }
+    ensures keys { OnOk result (keys_in keys.new.keys ≡ with_key (keys_in keys.old.keys) (key_of among scopes name.now)) }
+{
+    let key = NameKey {
+        code: code_of(among),
+        scope: scopes.of(among),
+        name,
+    };
+    match keys.insert_full(key) {
+        Ok((_, is_new)) => Ok(!is_new),
+        Err(_) => Err(OutOfMemory),
+    }
+}
+
 /// Adds a name, if it is among names that must differ, and tells whether it was there.
+#[inline(always)]
 fn add_name<'a>(
     keys: &mut IndexSet<NameKey<'a>>,
     among: Option<Names>,
@@ -94,17 +116,9 @@ fn add_name<'a>(
     ensures held { IfOk result (λ held. held ≡ is_held among scopes name.now (keys_in keys.old.keys)) }
     ensures keys { OnOk result (keys_in keys.new.keys ≡ with_name among scopes name.now (keys_in keys.old.keys)) }
 {
-    let Some(among) = among else {
-        return Ok(false);
-    };
-    let key = NameKey {
-        code: code_of(among),
-        scope: scopes.of(among),
-        name,
-    };
-    match keys.insert_full(key) {
-        Ok((_, is_new)) => Ok(!is_new),
-        Err(_) => Err(OutOfMemory),
+    match among {
+        Some(among) => add_key(keys, among, scopes, name),
+        None => Ok(false),
     }
 }
 
@@ -127,6 +141,17 @@ fn first_or(found: Option<usize>, place: usize, here: bool) -> Option<usize>
     }
 }
 
+/// How many entries have a name that must be new.
+fn count_names(entries: &[Entry]) -> usize {
+    let mut count = 0;
+    for entry in entries {
+        if entry.own_names().is_some() {
+            count += 1;
+        }
+    }
+    count
+}
+
 /// Collects all names. It takes time in proportion to the bytes of the names.
 pub(crate) fn collect_names<'a>(
     alloc: Global,
@@ -137,7 +162,8 @@ pub(crate) fn collect_names<'a>(
     ensures repeated { IfOk result (λ table. IsFirstRepeated bytes.now entries.now table.repeated) }
     ensures keys { IfOk result (λ table. HoldsNames bytes.now entries.now (length entries.now) (keys_in table.keys.keys)) }
 {
-    let mut keys = IndexSet::new(alloc);
+    let many = count_names(entries);
+    let mut keys = IndexSet::with_capacity(alloc, many)?;
     let mut repeated = None;
     let mut scopes = Scopes::new();
     for (place, entry) in entries.iter().enumerate() {

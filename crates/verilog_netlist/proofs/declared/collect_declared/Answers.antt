@@ -1,10 +1,11 @@
 -- One entry more.
 use Rattle.std.proofs.Common.{ℕ, ◌+◌, List, get_or, sym, ap, ◌∙◌, subst}
+use Rattle.verilog_netlist.specs.DeclaredNames.{BoundsWidths}
 use Rattle.verilog_netlist.specs.declared.entries.Entry.{Entry}
 use Rattle.verilog_netlist.specs.declared.namespaces.Names.TheVariants as names
 use Rattle.verilog_netlist.specs.declared.repeats.Scopes.{Scopes}
 use Rattle.verilog_netlist.proofs.Repeating.{Counts, count_on, scope_is, no_entry, stands_at, itself_at}
-use Rattle.verilog_netlist.proofs.Ranging.{declared_next}
+use Rattle.verilog_netlist.proofs.Ranging.{declared_next, bounds_next}
 use Rattle.verilog_netlist.proofs.declared.collect_declared.Goals as goal
 
 pub loop-place-preserved : goal.loop-place-preserved
@@ -17,5 +18,7 @@ loop-place-preserved c =
     let in_module = ap (λ (s : Scopes). s.modules) c.from-scopes.ensures ∙ scope_is entries place c.loop-place.scopes counts e c.loop-place-test.true here names.Wires in (
       subst (λ (s : Scopes). Counts entries (place + 1) s) (sym c.from-scopes.ensures) (count_on entries place c.loop-place.scopes counts e c.loop-place-test.true here),
       declared_next c.args.bytes.now entries place c.loop-place.names.rows.entries c.add_entry.new.self.rows.entries c.from-scopes.result.modules e in_module
-          (stands_at entries place c.loop-place-test.true) c.loop-place.invariant.1 c.in_ok-add_entry.ensures,
+          (stands_at entries place c.loop-place-test.true) c.loop-place.invariant.1 c.in_ok-add_entry.ensures.rows,
+      subst (λ (n : ℕ). BoundsWidths c.add_entry.new.self.rows.entries n) (sym c.in_ok-add_entry.ensures.widest)
+          (bounds_next c.args.bytes.now c.from-scopes.result.modules e c.loop-place.names.rows.entries c.add_entry.new.self.rows.entries c.loop-place.names.widest c.in_ok-add_entry.ensures.rows c.loop-place.invariant.2),
     )

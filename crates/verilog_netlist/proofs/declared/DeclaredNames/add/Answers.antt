@@ -8,8 +8,8 @@ use Rattle.verilog_netlist.specs.declared.repeats.NameKey.{NameKey}
 use Rattle.verilog_netlist.proofs.Ranging.{adds_new, is_none}
 use Rattle.verilog_netlist.proofs.declared.DeclaredNames.add.Goals as goal
 
-pub returns-in-Ok : goal.returns-in-Ok
-returns-in-Ok c =
+pub returns-in-Ok-clause-rows : goal.returns-in-Ok-clause-rows
+returns-in-Ok-clause-rows c =
     let key : NameKey = c.declared_key-key.result in
     let none = sym c.get.ensures.value ∙ ap option_copied (is_none c.get.result (sym c.is_some.ensures ∙ c.if-is_some.false)) in
     let new = insert_entry-new (λ (one other : NameKey). same_key (key_in one) (key_in other)) c.args.self.now.rows key c.args.declaration none in
