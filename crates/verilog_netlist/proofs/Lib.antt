@@ -17,5 +17,6 @@ pub mod Naming
 pub mod NetNaming
 pub mod TableReading
 pub mod Numbering
+pub mod Sounding
 pub mod Faulting
 pub mod Refusing

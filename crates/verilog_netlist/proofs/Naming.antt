@@ -82,7 +82,7 @@ or_or None y z = refl
 or_or (Some x) y z = refl
 
 -- an entry more says what the entries before it left open
-said_push : {X : Type 0} (says : Entry → Option X) (items : List Entry) (e : Entry) → first_said says (items ++ e ∷ []) ≡ option_or (first_said says items) (says e)
+pub said_push : {X : Type 0} (says : Entry → Option X) (items : List Entry) (e : Entry) → first_said says (items ++ e ∷ []) ≡ option_or (first_said says items) (says e)
 said_push says [] e = or_none (says e)
 said_push says (item ∷ items) e = ap (option_or (says item)) (said_push says items e) ∙ or_or (says item) (first_said says items) (says e)
 

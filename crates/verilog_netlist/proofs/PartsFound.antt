@@ -241,3 +241,45 @@ module _ (begins : Entry → Bool) where
           next_within
           n.counted
           (λ more. n.begins_it)
+
+    -- the part of this number in a stretch, and how many have begun before it and before its end
+    pub record PartThere (a b k : ℕ) : Type 0 where
+      pub place : ℕ
+      pub end : ℕ
+      pub part : IsPartAt entries begins (stretch entries a b) k place end
+      pub low : a ≤ place
+      pub high : end ≤ b
+      pub before : begun begins entries place ≡ begun begins entries a + k
+      pub past : begun begins entries end ≡ begun begins entries a + k + 1
+
+    pub part_there : (a b k : ℕ) → a ≤ b → b ≤ all → begun begins entries a + k < begun begins entries b → PartThere a b k
+    part_there a b k order within here = elim (le_or_lt (begun begins entries b) (begun begins entries a + k + 1)) [
+      | inr more ↦ record {
+        place = get_or table (begun begins entries a + k) 0;
+        end = get_or table (begun begins entries a + k + 1) 0;
+        part = found_next a b k order within more;
+        low = behind_a a b k order within here;
+        high = next_within a b k order within more;
+        before = counted_at (begun begins entries a + k) here;
+        past = counted_at (begun begins entries a + k + 1) more;
+      }
+      | inl last ↦ record {
+        place = get_or table (begun begins entries a + k) 0;
+        end = b;
+        part = found_last a b k order within here (omega arith);
+        low = behind_a a b k order within here;
+        high = omega arith;
+        before = counted_at (begun begins entries a + k) here;
+        past = omega arith;
+      }
+    ]
+      where
+        counted_at : (g : ℕ) → g < begun begins entries b → begun begins entries (get_or table g 0) ≡ g
+        counted_at g few = (placed all g (omega arith) (let l = length_places all (omega arith) in let m = begun_on b all within in omega arith)).counted
+
+    -- where fewer have begun stands before
+    pub begun_order : (p q : ℕ) → begun begins entries p < begun begins entries q → p < q
+    begun_order p q fewer = elim (le_or_lt q p) [
+      | inr less ↦ less
+      | inl more ↦ absurd (let m = begun_on q p more in omega arith)
+    ]

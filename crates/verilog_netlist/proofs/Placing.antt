@@ -11,7 +11,7 @@ use Rattle.verilog_netlist.specs.declared.places.InstanceRow.{InstanceRow}
 use Rattle.verilog_netlist.specs.declared.places.ModuleExtent.{ModuleExtent}
 use Rattle.verilog_netlist.specs.declared.places.InstanceExtent.{InstanceExtent}
 use Rattle.verilog_netlist.specs.declared.places.Places.{Places}
-use Rattle.verilog_netlist.proofs.PartsFound.{le_or_lt, begun_no, length_places, behind_a, next_within, found_last, found_next}
+use Rattle.verilog_netlist.proofs.PartsFound.{le_or_lt, begun_no, placed, length_places, behind_a, next_within, found_last, found_next}
 
 module _ (entries : List Entry) where
   pub no_places : (p : Places) → p.modules.items ≡ [] → p.instances.items ≡ [] → p.connections.items ≡ [] → HoldsPlaces entries 0 p
@@ -147,6 +147,23 @@ module _ (entries : List Entry) where
             last = ap (λ (r : ModuleRow). r.instances) other;
             connections = ap (λ (r : ModuleRow). r.connections) other;
           }
+
+      pub module_begun : begun begins_module entries row.place ≡ m
+      module_begun = ap (λ (r : ModuleRow). begun begins_module entries r.place) this ∙ (placed begins_module entries all m (omega arith) (let r = rows in omega arith)).counted
+
+      pub module_ended : begun begins_module entries next.place ≡ m + 1
+      module_ended = ap (λ (r : ModuleRow). begun begins_module entries r.place) next_is ∙ elim (le_or_lt (length table) (m + 1)) [
+        | inl last ↦ ap (begun begins_module entries) (get_or_push table all 0 (m + 1) (let r = rows in omega arith)) ∙ (let r = rows in let l = lengths in omega arith)
+        | inr more ↦ ap (begun begins_module entries) (get_or_append_left table (all ∷ []) 0 (m + 1) more) ∙ (placed begins_module entries all (m + 1) (omega arith) more).counted
+      ]
+
+      -- where a module ends the next one begins, or the file ends
+      pub module_next : next.place < all → begins_module (entry_at entries next.place) ≡ true
+      module_next = elim (le_or_lt (length table) (m + 1)) [
+        | inl last ↦ λ less. absurd (let p = ap (λ (r : ModuleRow). r.place) next_is in let g = get_or_push table all 0 (m + 1) (let r = rows in omega arith) in omega arith)
+        | inr more ↦ λ less. ap (λ (n : ℕ). begins_module (entry_at entries n)) (ap (λ (r : ModuleRow). r.place) next_is ∙ get_or_append_left table (all ∷ []) 0 (m + 1) more)
+            ∙ (placed begins_module entries all (m + 1) (omega arith) more).begins_it
+      ]
 
     instance_at : (n : ℕ) (row : InstanceRow) → n < length p.instances.items → row ≡ get_or p.instances.items n row → row ≡ instance_row entries (get_or (places_below begins_instance entries all) n 0)
     instance_at n row within is =

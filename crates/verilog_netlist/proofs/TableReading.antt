@@ -1,19 +1,19 @@
 -- The tables of a netlist's modules, read.
-use Rattle.std.proofs.Common.{◌≡◌, ℕ, zero, suc, ◌+◌, ◌-◌, ◌<◌, ◌≤◌, Bool, List, [], ◌∷◌, ◌++◌, length, take, drop, get_or, slice_get, map, Some, refl, sym, ap, ap₂, ◌∙◌, arith, not, cond, if◌then◌else◌, add-one, drop-cons, append-nil}
+use Rattle.std.proofs.Common.{◌≡◌, ℕ, zero, suc, ◌+◌, ◌-◌, ◌<◌, ◌≤◌, Bool, true, List, [], ◌∷◌, ◌++◌, length, take, drop, get_or, slice_get, map, Some, refl, sym, ap, ap₂, ◌∙◌, arith, not, cond, if◌then◌else◌, add-one, drop-cons, append-nil}
 use Rattle.std.specs.List.{flat_map, position_or_len}
 use Rattle.std.specs.Option.{option_map}
 use Rattle.std.specs.Str.{bytes_eq}
 use Rattle.std.specs.Prelude.{count_by}
-use Rattle.std.proofs.lemmas.List.{length-map, take_all, get_or_default, get_or-drop, take_more, drop-take, length-append, length-drop}
+use Rattle.std.proofs.lemmas.List.{length-map, take_all, get_or_default, get_or-drop, take_more, drop-take, get_or-take, length-append, length-drop, length-take}
 use Rattle.std.proofs.lemmas.List.Concat.{flat_map-append}
-use Rattle.std.proofs.lemmas.Option.{slice_get-map, get_or_from_slice_get}
+use Rattle.std.proofs.lemmas.Option.{slice_get-map, slice_get-get_or, get_or_from_slice_get}
 use Rattle.verilog_netlist.specs.Spans.{text_at}
 use Rattle.verilog_netlist.specs.Namespaces.{name_of, begins_module, begins_instance}
 use Rattle.verilog_netlist.specs.Parts.{Part, parts, begins_connection}
 use Rattle.verilog_netlist.specs.PartPlaces.{no_entry, entry_at, begun, places_below, instance_row, stretch, IsPartAt, IsModuleExtent, IsInstanceExtent}
 use Rattle.verilog_netlist.specs.ModuleNames.{NetName, name_in, names_in, texts_in, number_of}
 use Rattle.verilog_netlist.specs.NameRows.{view_row, name_from, facts_in, rows_of, start_at, own_at, no_row}
-use Rattle.verilog_netlist.specs.NetModules.{NetModule, NetInstance, no_module, no_instance, no_connection, bit_after, bits_from, joined_bits, module_of, instance_of, connection_of, module_at, instance_at}
+use Rattle.verilog_netlist.specs.NetModules.{NetModule, NetInstance, NetConnection, no_module, no_instance, no_connection, bit_after, bits_from, bits_in, run_of, joined_bits, runs_at, bits_at, module_of, instance_of, connection_of, module_at, instance_at, connection_at}
 use Rattle.verilog_netlist.specs.ModuleTables.{modules_in, name_row, part_at, names_at, run_at, bits_between, AreTables, IsModuleAt, IsInstanceAt, IsConnectionAt, IsNumberAt}
 use Rattle.verilog_netlist.specs.declared.entries.Entry.{Entry}
 use Rattle.verilog_netlist.specs.declared.net_names.NameRow.{NameRow}
@@ -25,7 +25,7 @@ use Rattle.verilog_netlist.specs.declared.runs.Bit.TheVariants.{Tied, Wire}
 use Rattle.verilog_netlist.specs.declared.runs.Run.{Run}
 use Rattle.verilog_netlist.specs.declared.tables.Tables.{Tables}
 use Rattle.verilog_netlist.proofs.PartsFound.{length_parts, length_places, count_split, begun_on}
-use Rattle.verilog_netlist.proofs.Placing.{rows, module_found, module_extent}
+use Rattle.verilog_netlist.proofs.Placing.{rows, module_found, module_extent, module_begun, module_ended, module_next}
 
 map_map : {X Y Z : Type 0} (f : Y → Z) (g : X → Y) (l : List X) → map f (map g l) ≡ map (λ x. f (g x)) l
 map_map f g [] = refl
@@ -38,6 +38,11 @@ made make none ps k part is = get_or_from_slice_get (map make ps) k (make part) 
 counted : (begins : Entry → Bool) (entries : List Entry) (a b : ℕ) → a ≤ b → begun begins entries a + length (parts begins (stretch entries a b)) ≡ begun begins entries b
 counted begins entries a b order =
     ap (λ (n : ℕ). begun begins entries a + n) (length_parts begins (stretch entries a b)) ∙ sym (count_split begins entries a (b - a) b (omega arith))
+
+-- the bits of the runs of expressions are those of the expressions
+bits_joined : (bytes : List ℕ) (names : List NetName) (l : List Entry) → bits_in (map (run_of bytes names) l) ≡ flat_map (joined_bits bytes names) l
+bits_joined bytes names [] = refl
+bits_joined bytes names (e ∷ l) = ap (λ (rest : List Bit). joined_bits bytes names e ++ rest) (bits_joined bytes names l)
 
 module _ (t : Tables) (h : AreTables t) where
   abbrev bytes : List ℕ
@@ -96,6 +101,27 @@ module _ (t : Tables) (h : AreTables t) where
       let there = get_or_default t.places.modules.items (m + 1) no_row next within in
       is_module m (extent_of m) (module_found entries t.places h.places m row next within here there) (module_extent entries t.places h.places m row next within here there) refl refl
 
+  -- the counts of modules at the place of a module and at its end
+  pub record ModuleCounts (m : ℕ) : Type 0 where
+    pub begins : begins_module (entry_at entries (extent_of m).place) ≡ true
+    pub before : begun begins_module entries (extent_of m).place ≡ m
+    pub past : begun begins_module entries (extent_of m).end ≡ m + 1
+    pub next : (extent_of m).end < length entries → begins_module (entry_at entries (extent_of m).end) ≡ true
+
+  pub module_counts : (m : ℕ) → m < length (modules_in t) → ModuleCounts m
+  module_counts m below =
+      let within : m + 1 < length t.places.modules.items = let l = length_modules in omega arith in
+      let row = get_or t.places.modules.items m no_row in
+      let next = get_or t.places.modules.items (m + 1) no_row in
+      let here = get_or_default t.places.modules.items m no_row row (omega arith) in
+      let there = get_or_default t.places.modules.items (m + 1) no_row next within in
+      record {
+        begins = (module_found entries t.places h.places m row next within here there).begins_it;
+        before = module_begun entries t.places h.places m row next within here there;
+        past = module_ended entries t.places h.places m row next within here there;
+        next = module_next entries t.places h.places m row next within here there;
+      }
+
   module _ (m : ℕ) (x : ModuleExtent) (at : IsModuleAt t m x) where
     pub names_are : names_at t m ≡ names_in bytes (stretch entries (x.place + 1) x.end)
     names_are = ap (λ (o : NetModule). o.names) at.value
@@ -128,10 +154,14 @@ module _ (t : Tables) (h : AreTables t) where
       }
 
   module _ (m k : ℕ) (y : InstanceExtent) (at : IsInstanceAt t m k y) (c : ℕ) (z : ConnectionExtent) (part : IsPartAt entries begins_connection (stretch entries (y.place + 1) y.end) c z.place z.end) (inside : (y.place < z.place) × (z.end ≤ y.end)) where
+    connection_value : connection_at (modules_in t) m k c ≡ connection_of bytes (names_at t m) (part_at t z.place z.end)
+    connection_value = ap (λ (o : NetInstance). get_or o.connections c no_connection) at.value
+        ∙ made (connection_of bytes (names_at t m)) no_connection (parts begins_connection (stretch entries (y.place + 1) y.end)) c (part_at t z.place z.end) part.is
+
     pub is_connection : IsConnectionAt t m k c z
     is_connection = record {
-      value = ap (λ (o : NetInstance). get_or o.connections c no_connection) at.value
-          ∙ made (connection_of bytes (names_at t m)) no_connection (parts begins_connection (stretch entries (y.place + 1) y.end)) c (part_at t z.place z.end) part.is;
+      value = connection_value;
+      bits = ap (λ (o : NetConnection). bits_in o.runs) connection_value ∙ bits_joined bytes (names_at t m) (stretch entries (z.place + 1) z.end);
       head = part.head;
       within = part.within;
       start = (let a = inside.0 in let s = at.start in omega arith);
@@ -178,7 +208,7 @@ module _ (t : Tables) (h : AreTables t) where
     pub within_numbers : start_at t.places (m + 1) ≤ length t.names.numbers.items
     within_numbers = h.names.behind m (let l = length_modules in omega arith)
 
-    position_named : (own : List Entry) (text : List ℕ) (texts : List (List ℕ)) → position_or_len (λ (name : NetName). bytes_eq text name.text) (map (name_in bytes own) texts) ≡ position_or_len (bytes_eq text) texts
+    pub position_named : (own : List Entry) (text : List ℕ) (texts : List (List ℕ)) → position_or_len (λ (name : NetName). bytes_eq text name.text) (map (name_in bytes own) texts) ≡ position_or_len (bytes_eq text) texts
     position_named own text [] = refl
     position_named own text (other ∷ texts) = ap (λ (n : ℕ). cond (not (bytes_eq text other)) (1 + n) 0) (position_named own text texts)
 
@@ -264,3 +294,23 @@ module _ (t : Tables) (m : ℕ) where
     bit_later end rest order below past =
         sym (slice_get_behind (joined_bits t.bytes.now (names_at t m) (entry_at t.entries.items place)) (bits_between t m (place + 1) end) rest (rest - run.count) (let l = run_length in omega arith))
         ∙ ap (λ (l : List Bit). slice_get l rest) (sym (split end order below))
+
+-- the runs of a connection
+module _ (t : Tables) (m k c : ℕ) (z : ConnectionExtent) (at : IsConnectionAt t m k c z) where
+  runs_are : runs_at (modules_in t) m k c ≡ map (run_of t.bytes.now (names_at t m)) (stretch t.entries.items (z.place + 1) z.end)
+  runs_are = ap (λ (o : NetConnection). o.runs) at.value
+
+  length_joined : length (stretch t.entries.items (z.place + 1) z.end) ≡ z.end - (z.place + 1)
+  length_joined = length-take (z.end - (z.place + 1)) (drop (z.place + 1) t.entries.items) ∙ (let d = length-drop (z.place + 1) t.entries.items in let w = at.within in omega arith)
+
+  pub runs_counted : length (runs_at (modules_in t) m k c) ≡ z.end - (z.place + 1)
+  runs_counted = ap length runs_are ∙ length-map (stretch t.entries.items (z.place + 1) z.end) (run_of t.bytes.now (names_at t m)) ∙ length_joined
+
+  pub run_found : (r : ℕ) → r < length (runs_at (modules_in t) m k c) → slice_get (runs_at (modules_in t) m k c) r ≡ Some (run_at t m (z.place + 1 + r))
+  run_found r below =
+      let few : r < z.end - (z.place + 1) = let n = runs_counted in omega arith in
+      ap (λ (l : List Run). slice_get l r) runs_are
+      ∙ slice_get-map (run_of t.bytes.now (names_at t m)) (stretch t.entries.items (z.place + 1) z.end) r
+      ∙ ap (option_map (run_of t.bytes.now (names_at t m)))
+      (slice_get-get_or (stretch t.entries.items (z.place + 1) z.end) r no_entry (let l = length_joined in omega arith)
+      ∙ ap (λ (e : Entry). Some e) (get_or-take (z.end - (z.place + 1)) (drop (z.place + 1) t.entries.items) r no_entry few ∙ get_or-drop (z.place + 1) t.entries.items r no_entry))

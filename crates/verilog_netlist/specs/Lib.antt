@@ -24,3 +24,4 @@ pub mod NameRows
 pub mod ModuleTables
 pub mod Parsed
 pub mod ModuleNumbers
+pub mod SoundModules

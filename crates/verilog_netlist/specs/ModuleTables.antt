@@ -7,7 +7,7 @@ use Rattle.verilog_netlist.specs.Parts.{Part}
 use Rattle.verilog_netlist.specs.PartPlaces.{entry_at, stretch, ArePlaces, IsModuleExtent, IsInstanceExtent}
 use Rattle.verilog_netlist.specs.ModuleNames.{NetName, is_in, number_of}
 use Rattle.verilog_netlist.specs.NameRows.{view_row, name_from, start_at, AreNetNames}
-use Rattle.verilog_netlist.specs.NetModules.{NetModule, modules_of, module_of, instance_of, connection_of, run_of, joined_bits, module_at, instance_at, connection_at}
+use Rattle.verilog_netlist.specs.NetModules.{NetModule, modules_of, module_of, instance_of, connection_of, run_of, joined_bits, module_at, instance_at, connection_at, bits_at}
 use Rattle.verilog_netlist.specs.declared.net_names.Group.TheVariants as group
 use Rattle.verilog_netlist.specs.declared.net_names.NameRow.{NameRow}
 use Rattle.verilog_netlist.specs.declared.runs.Bit.{Bit}
@@ -54,8 +54,13 @@ module _ (t : Tables) where
     pub start : start_at t.places m < x.place
     pub end : x.end ≤ start_at t.places (m + 1)
 
+  -- the bits that are joined between two places of a module
+  abbrev pub bits_between : ℕ → ℕ → ℕ → List Bit
+  bits_between m from end = flat_map (joined_bits t.bytes.now (names_at m)) (stretch t.entries.items from end)
+
   pub record IsConnectionAt (m k c : ℕ) (x : ConnectionExtent) : Type 0 where
     pub value : connection_at (modules_in t) m k c ≡ connection_of t.bytes.now (names_at m) (part_at x.place x.end)
+    pub bits : bits_at (modules_in t) m k c ≡ bits_between m (x.place + 1) x.end
     pub head : x.place < x.end
     pub within : x.end ≤ length t.entries.items
     pub start : start_at t.places m < x.place
@@ -68,7 +73,3 @@ module _ (t : Tables) where
 
   abbrev pub run_at : ℕ → ℕ → Run
   run_at m place = run_of t.bytes.now (names_at m) (entry_at t.entries.items place)
-
-  -- the bits that are joined between two places of a module
-  abbrev pub bits_between : ℕ → ℕ → ℕ → List Bit
-  bits_between m from end = flat_map (joined_bits t.bytes.now (names_at m)) (stretch t.entries.items from end)

@@ -14,10 +14,10 @@ use Rattle.verilog_netlist.specs.declared.runs.Bit.{Bit}
 use Rattle.verilog_netlist.specs.declared.runs.Bit.TheVariants.{Tied, Wire}
 use Rattle.verilog_netlist.specs.declared.runs.Run.{Run}
 
--- a connection: the port, and what is joined to each of its bits, from the left
+-- a connection: the port, and what is joined to it, from the left, as runs of bits
 pub record NetConnection : Type 0 where
   pub port : List ℕ
-  pub bits : List Bit
+  pub runs : List Run
 
 -- an instance: of which cell or module, its name, its connections as written
 pub record NetInstance : Type 0 where
@@ -39,6 +39,13 @@ bit_after (Wire name bit) n = Wire name (bit + n)
 abbrev pub bits_from : Bit → ℕ → List Bit
 bits_from first zero = []
 bits_from first (suc n) = first ∷ bits_from (bit_after first 1) n
+
+abbrev pub bits_of_run : Run → List Bit
+bits_of_run run = bits_from run.first run.count
+
+-- the bits of runs, one run after another
+abbrev pub bits_in : List Run → List Bit
+bits_in runs = flat_map bits_of_run runs
 
 -- the place in a range from the left
 abbrev pub from_left : Option Range → ℕ → ℕ
@@ -71,10 +78,10 @@ module _ (bytes : List ℕ) (names : List NetName) where
   run_of _ = record { first = Tied; count = 0 }
 
   abbrev pub joined_bits : Entry → List Bit
-  joined_bits expression = let run = run_of expression in bits_from run.first run.count
+  joined_bits expression = bits_of_run (run_of expression)
 
   abbrev pub connection_of : Part → NetConnection
-  connection_of part = record { port = text_at bytes (name_of part.head); bits = flat_map joined_bits part.behind }
+  connection_of part = record { port = text_at bytes (name_of part.head); runs = map run_of part.behind }
 
   abbrev pub instance_of : Part → NetInstance
   instance_of part = record {
@@ -103,7 +110,7 @@ abbrev pub no_instance : NetInstance
 no_instance = record { cell = []; name = []; connections = [] }
 
 abbrev pub no_connection : NetConnection
-no_connection = record { port = []; bits = [] }
+no_connection = record { port = []; runs = [] }
 
 abbrev pub module_at : List NetModule → ℕ → NetModule
 module_at modules m = get_or modules m no_module
@@ -116,6 +123,13 @@ instance_at modules m k = get_or (module_at modules m).instances k no_instance
 
 abbrev pub connection_at : List NetModule → ℕ → ℕ → ℕ → NetConnection
 connection_at modules m k c = get_or (instance_at modules m k).connections c no_connection
+
+-- the runs of a connection, and what is joined to each of its bits
+abbrev pub runs_at : List NetModule → ℕ → ℕ → ℕ → List Run
+runs_at modules m k c = (connection_at modules m k c).runs
+
+abbrev pub bits_at : List NetModule → ℕ → ℕ → ℕ → List Bit
+bits_at modules m k c = bits_in (runs_at modules m k c)
 
 -- a run of at most 2 ^ 32 bits, of which the first is at most as far from the left
 abbrev pub IsNear : Bit → Type 0

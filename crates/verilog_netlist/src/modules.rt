@@ -1,12 +1,14 @@
 //! The modules of a netlist.
 ghost use Rattle.std.specs.Prelude.{◌≡◌, ℕ, ◌<◌, List, length, slice_get, Some, IfOk, IfSome, IfNone};
-ghost use Rattle.verilog_netlist.specs.NetModules.{module_at, name_at, instance_at, connection_at};
+ghost use Rattle.verilog_netlist.specs.NetModules.{module_at, name_at, instance_at, connection_at, runs_at, bits_at, HasFewBits};
 ghost use Rattle.verilog_netlist.specs.ModuleTables.{modules_in, AreTables};
 ghost use Rattle.verilog_netlist.specs.ModuleNumbers.{AreNumbers};
+ghost use Rattle.verilog_netlist.specs.Netlist.{SaysSound};
+ghost use Rattle.verilog_netlist.specs.SoundModules.{Differ};
 
 use crate::entries::Range;
 use crate::net_names::Way;
-use crate::runs::Bit;
+use crate::runs::{Bit, Run};
 use crate::tables::Tables;
 use edge_io::OutOfMemory;
 use indexmap::IndexMap;
@@ -26,13 +28,14 @@ impl<'a> Model for Modules<'a> {
     ghost use Rattle.verilog_netlist.specs.NetModules.{NetModule};
     ghost use Rattle.verilog_netlist.specs.ModuleTables.{modules_in, AreTables};
     ghost use Rattle.verilog_netlist.specs.ModuleNumbers.{AreNumbers};
+    ghost use Rattle.verilog_netlist.specs.Netlist.{SaysSound};
 
     ghost Value = { List NetModule };
 
     ghost view = { λ m. modules_in m.tables };
 
-    // what is kept is what the bytes say
-    ghost invariant = { λ m. AreTables m.tables × AreNumbers (modules_in m.tables) m.numbers.entries };
+    // what is kept is what the bytes say, and no name and no range of that is at fault
+    ghost invariant = { λ m. AreTables m.tables × AreNumbers (modules_in m.tables) m.numbers.entries × SaysSound m.tables.bytes.now m.tables.entries.items };
 }
 
 impl<'a> Modules<'a> {
@@ -40,9 +43,23 @@ impl<'a> Modules<'a> {
     pub(crate) fn of(tables: Tables<'a>, numbers: IndexMap<&'a [u8], usize>) -> Modules<'a>
         requires tables { AreTables tables }
         requires numbers { AreNumbers (modules_in tables) numbers.entries }
+        requires sound { SaysSound tables.bytes.now tables.entries.items }
         ensures { result ≡ modules_in tables.entry }
     {
         Modules { tables, numbers }
+    }
+
+    /// The law of modules, which its contract states: names differ, those of the modules of a file, those of a module, those of the
+    /// instances of a module, and those of the ports of an instance. It does nothing when it is called.
+    pub fn sound(&self)
+        ensures modules { Differ (length self.now) (λ m. (module_at self.now m).name) }
+        ensures names { (m : ℕ) → m < length self.now → Differ (length (module_at self.now m).names) (λ i. (name_at self.now m i).text) }
+        ensures instances { (m : ℕ) → m < length self.now
+            → Differ (length (module_at self.now m).instances) (λ k. (instance_at self.now m k).name) }
+        ensures ports { (m k : ℕ) → m < length self.now → k < length (module_at self.now m).instances
+            → Differ (length (instance_at self.now m k).connections) (λ c. (connection_at self.now m k c).port) }
+    {
+        let _ = &self.numbers;
     }
 
     /// How many modules the file has.
@@ -150,23 +167,48 @@ impl<'a> Modules<'a> {
         self.tables.name_at(self.tables.connection(m, k, c).place)
     }
 
+    /// How many runs of bits are joined to the port of a connection: one for each name, select and constant that is written there. A
+    /// declaration behind the instance counts as a run of no bits.
+    pub fn run_count(&self, m: usize, k: usize, c: usize) -> usize
+        requires within { m < length self.now }
+        requires instance { k < length (module_at self.now m).instances }
+        requires place { c < length (instance_at self.now m k).connections }
+        ensures { result ≡ length (runs_at self.now m k c) }
+    {
+        let extent = self.tables.connection(m, k, c);
+        extent.end - extent.place - 1
+    }
+
+    /// A run of a connection, from the left. The bits of a connection are those of its runs, one run after another.
+    pub fn run(&self, m: usize, k: usize, c: usize, r: usize) -> Run
+        requires within { m < length self.now }
+        requires instance { k < length (module_at self.now m).instances }
+        requires connection { c < length (instance_at self.now m k).connections }
+        requires place { r < length (runs_at self.now m k c) }
+        ensures value { slice_get (runs_at self.now m k c) r ≡ Some result }
+        ensures few { HasFewBits result }
+    {
+        let extent = self.tables.connection(m, k, c);
+        self.tables.run(m, extent.place + 1 + r)
+    }
+
     /// How many bits are joined to the port of a connection; 0 where nothing is. It takes one pass over what is joined.
     pub fn bit_count(&self, m: usize, k: usize, c: usize) -> usize
         requires within { m < length self.now }
         requires instance { k < length (module_at self.now m).instances }
         requires place { c < length (instance_at self.now m k).connections }
-        ensures { result ≡ length (connection_at self.now m k c).bits }
+        ensures { result ≡ length (bits_at self.now m k c) }
     {
         self.tables.bit_count(m, self.tables.connection(m, k, c))
     }
 
-    /// A bit of a connection, from the left. It takes one pass over what is joined before it.
+    /// A bit of a connection, from the left. It takes one pass over what is joined before it: to see all bits, go over the runs.
     pub fn bit(&self, m: usize, k: usize, c: usize, b: usize) -> Bit
         requires within { m < length self.now }
         requires instance { k < length (module_at self.now m).instances }
         requires connection { c < length (instance_at self.now m k).connections }
-        requires place { b < length (connection_at self.now m k c).bits }
-        ensures { slice_get (connection_at self.now m k c).bits b ≡ Some result }
+        requires place { b < length (bits_at self.now m k c) }
+        ensures { slice_get (bits_at self.now m k c) b ≡ Some result }
     {
         match self.tables.bit(m, self.tables.connection(m, k, c), b) {
             Some(bit) => bit,

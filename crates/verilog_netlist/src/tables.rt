@@ -113,7 +113,7 @@ impl<'a> Tables<'a> {
 
     /// The bits of what is joined at this place of a module; what is no expression has none.
     #[inline]
-    fn run(&self, m: usize, place: usize) -> Run
+    pub(crate) fn run(&self, m: usize, place: usize) -> Run
         requires sound { AreTables self.now }
         requires within { m < length (modules_in self.now) }
         requires start { start_at self.now.places m < place }
