@@ -18,5 +18,7 @@ pub mod NetNaming
 pub mod TableReading
 pub mod Numbering
 pub mod Sounding
+pub mod Joining
+pub mod BitsWithin
 pub mod Faulting
 pub mod Refusing

@@ -1,5 +1,5 @@
 -- In the modules of a netlist without a fault no name stands twice where names must differ.
-use Rattle.std.proofs.Common.{◌≡◌, ℕ, zero, suc, ◌+◌, ◌-◌, ◌<◌, ◌≤◌, Bool, true, false, ◌||◌, inl, inr, List, [], ◌∷◌, ◌++◌, length, map, get_or, Some, refl, sym, ap, ap₂, ◌∙◌, subst, arith, true≢false}
+use Rattle.std.proofs.Common.{◌≡◌, ℕ, zero, suc, ◌+◌, ◌<◌, ◌≤◌, Bool, true, false, ◌||◌, List, [], ◌∷◌, ◌++◌, length, map, get_or, refl, sym, ap, ◌∙◌, arith, true≢false}
 use Rattle.std.specs.List.{list_any}
 use Rattle.std.specs.Str.{bytes_eq}
 use Rattle.std.proofs.lemmas.List.{length-map, get_or-map}
@@ -17,7 +17,7 @@ use Rattle.verilog_netlist.specs.NetModules.{NetModule, NetInstance, NetConnecti
 use Rattle.verilog_netlist.specs.ModuleTables.{modules_in, names_at, AreTables, IsModuleAt, IsInstanceAt, IsConnectionAt}
 use Rattle.verilog_netlist.specs.SoundModules.{Differ}
 use Rattle.verilog_netlist.specs.declared.entries.Entry.{Entry}
-use Rattle.verilog_netlist.specs.declared.entries.Entry.TheVariants.{Module, Header, Declared, Instance, Port, Whole, Bit, Part, Constant}
+use Rattle.verilog_netlist.specs.declared.entries.Entry.TheVariants.{Module, Instance, Port}
 use Rattle.verilog_netlist.specs.declared.faults.NameFault.TheVariants as fault
 use Rattle.verilog_netlist.specs.declared.namespaces.Names.{Names}
 use Rattle.verilog_netlist.specs.declared.namespaces.Names.TheVariants as names
@@ -26,7 +26,7 @@ use Rattle.verilog_netlist.specs.declared.places.ModuleExtent.{ModuleExtent}
 use Rattle.verilog_netlist.specs.declared.places.InstanceExtent.{InstanceExtent}
 use Rattle.verilog_netlist.specs.declared.places.ConnectionExtent.{ConnectionExtent}
 use Rattle.verilog_netlist.specs.declared.tables.Tables.{Tables}
-use Rattle.verilog_netlist.proofs.PartsFound.{le_or_lt, begun_on, begun_yes, begun_order, part_there, PartThere}
+use Rattle.verilog_netlist.proofs.PartsFound.{begun_on, begun_yes, begun_order, part_there}
 use Rattle.verilog_netlist.proofs.Naming.{differ_all}
 use Rattle.verilog_netlist.proofs.TableReading.{extent_of, module_there, module_counts, names_are, is_instance, is_connection}
 

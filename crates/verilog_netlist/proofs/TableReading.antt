@@ -13,7 +13,7 @@ use Rattle.verilog_netlist.specs.Parts.{Part, parts, begins_connection}
 use Rattle.verilog_netlist.specs.PartPlaces.{no_entry, entry_at, begun, places_below, instance_row, stretch, IsPartAt, IsModuleExtent, IsInstanceExtent}
 use Rattle.verilog_netlist.specs.ModuleNames.{NetName, name_in, names_in, texts_in, number_of}
 use Rattle.verilog_netlist.specs.NameRows.{view_row, name_from, facts_in, rows_of, start_at, own_at, no_row}
-use Rattle.verilog_netlist.specs.NetModules.{NetModule, NetInstance, NetConnection, no_module, no_instance, no_connection, bit_after, bits_from, bits_in, run_of, joined_bits, runs_at, bits_at, module_of, instance_of, connection_of, module_at, instance_at, connection_at}
+use Rattle.verilog_netlist.specs.NetModules.{NetModule, NetInstance, NetConnection, no_module, no_instance, no_connection, bit_after, bits_from, bits_in, run_of, joined_bits, runs_at, module_of, instance_of, connection_of, module_at, instance_at, connection_at}
 use Rattle.verilog_netlist.specs.ModuleTables.{modules_in, name_row, part_at, names_at, run_at, bits_between, AreTables, IsModuleAt, IsInstanceAt, IsConnectionAt, IsNumberAt}
 use Rattle.verilog_netlist.specs.declared.entries.Entry.{Entry}
 use Rattle.verilog_netlist.specs.declared.net_names.NameRow.{NameRow}

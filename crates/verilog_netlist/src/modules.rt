@@ -4,7 +4,9 @@ ghost use Rattle.verilog_netlist.specs.NetModules.{module_at, name_at, instance_
 ghost use Rattle.verilog_netlist.specs.ModuleTables.{modules_in, AreTables};
 ghost use Rattle.verilog_netlist.specs.ModuleNumbers.{AreNumbers};
 ghost use Rattle.verilog_netlist.specs.Netlist.{SaysSound};
-ghost use Rattle.verilog_netlist.specs.SoundModules.{Differ};
+ghost use Rattle.verilog_netlist.specs.SoundModules.{Differ, AreWithin};
+ghost use Rattle.verilog_netlist.specs.declared.runs.Bit.{Bit};
+ghost use Rattle.verilog_netlist.specs.declared.runs.Run.{Run};
 
 use crate::entries::Range;
 use crate::net_names::Way;
@@ -35,7 +37,8 @@ impl<'a> Model for Modules<'a> {
     ghost view = { λ m. modules_in m.tables };
 
     // what is kept is what the bytes say, and no name and no range of that is at fault
-    ghost invariant = { λ m. AreTables m.tables × AreNumbers (modules_in m.tables) m.numbers.entries × SaysSound m.tables.bytes.now m.tables.entries.items };
+    ghost invariant = { λ m. AreTables m.tables × AreNumbers (modules_in m.tables) m.numbers.entries
+        × SaysSound m.tables.bytes.now m.tables.entries.items };
 }
 
 impl<'a> Modules<'a> {
@@ -50,7 +53,8 @@ impl<'a> Modules<'a> {
     }
 
     /// The law of modules, which its contract states: names differ, those of the modules of a file, those of a module, those of the
-    /// instances of a module, and those of the ports of an instance. It does nothing when it is called.
+    /// instances of a module, and those of the ports of an instance. What is joined to a port are bits of names of the module, within
+    /// their ranges. It does nothing when it is called.
     pub fn sound(&self)
         ensures modules { Differ (length self.now) (λ m. (module_at self.now m).name) }
         ensures names { (m : ℕ) → m < length self.now → Differ (length (module_at self.now m).names) (λ i. (name_at self.now m i).text) }
@@ -58,6 +62,12 @@ impl<'a> Modules<'a> {
             → Differ (length (module_at self.now m).instances) (λ k. (instance_at self.now m k).name) }
         ensures ports { (m k : ℕ) → m < length self.now → k < length (module_at self.now m).instances
             → Differ (length (instance_at self.now m k).connections) (λ c. (connection_at self.now m k c).port) }
+        ensures runs { (m k c r : ℕ) (run : Run) → m < length self.now → k < length (module_at self.now m).instances
+            → c < length (instance_at self.now m k).connections → slice_get (runs_at self.now m k c) r ≡ Some run
+            → AreWithin (module_at self.now m).names run.first run.count }
+        ensures bits { (m k c b : ℕ) (bit : Bit) → m < length self.now → k < length (module_at self.now m).instances
+            → c < length (instance_at self.now m k).connections → slice_get (bits_at self.now m k c) b ≡ Some bit
+            → AreWithin (module_at self.now m).names bit 1 }
     {
         let _ = &self.numbers;
     }

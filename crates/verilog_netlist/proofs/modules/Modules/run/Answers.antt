@@ -1,5 +1,5 @@
 -- The run of the entry of this number behind the port.
-use Rattle.std.proofs.Common.{ℕ, List, length, slice_get, Some, ap, sym, ◌∙◌, arith}
+use Rattle.std.proofs.Common.{List, length, slice_get, Some, ap, sym, ◌∙◌, arith}
 use Rattle.verilog_netlist.specs.NetModules.{NetModule, runs_at}
 use Rattle.verilog_netlist.specs.declared.runs.Run.{Run}
 use Rattle.verilog_netlist.proofs.TableReading.{runs_counted, run_found}

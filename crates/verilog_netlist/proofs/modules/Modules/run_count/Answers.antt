@@ -1,5 +1,5 @@
 -- As many as there are entries behind the port.
-use Rattle.std.proofs.Common.{ℕ, List, length, ap, sym, ◌∙◌, arith}
+use Rattle.std.proofs.Common.{List, length, ap, arith}
 use Rattle.verilog_netlist.specs.NetModules.{NetModule, runs_at}
 use Rattle.verilog_netlist.proofs.TableReading.{runs_counted}
 use Rattle.verilog_netlist.proofs.modules.Modules.run_count.Goals as goal

@@ -1,8 +1,13 @@
 -- Where names are the same, one is repeated.
-use Rattle.std.proofs.Common.{◌<◌, ℕ, List, length, subst}
-use Rattle.verilog_netlist.specs.SoundModules.{Differ}
-use Rattle.verilog_netlist.specs.NetModules.{NetModule, module_at, name_at, instance_at, connection_at}
+use Rattle.std.proofs.Common.{◌≡◌, ◌<◌, ℕ, List, length, slice_get, Some, subst}
+use Rattle.verilog_netlist.specs.SoundModules.{Differ, AreWithin}
+use Rattle.verilog_netlist.specs.NetModules.{NetModule, module_at, name_at, instance_at, connection_at, runs_at, bits_at}
+use Rattle.verilog_netlist.specs.ModuleTables.{modules_in}
 use Rattle.verilog_netlist.proofs.Sounding.{modules_differ, names_differ, instances_differ, ports_differ}
+use Rattle.verilog_netlist.proofs.Joining.{runs_within}
+use Rattle.verilog_netlist.proofs.BitsWithin.{bit_within}
+use Rattle.verilog_netlist.specs.declared.runs.Bit.{Bit}
+use Rattle.verilog_netlist.specs.declared.runs.Run.{Run}
 use Rattle.verilog_netlist.proofs.modules.Modules.sound.Goals as goal
 
 pub returns-clause-modules : goal.returns-clause-modules
@@ -24,3 +29,16 @@ pub returns-clause-ports : goal.returns-clause-ports
 returns-clause-ports c =
     subst (λ (l : List NetModule). (m k : ℕ) → m < length l → k < length (module_at l m).instances → Differ (length (instance_at l m k).connections) (λ c. (connection_at l m k c).port)) c.self.view_is
     (λ m k below within. ports_differ c.self.inside.tables c.self.invariant.0 c.self.invariant.2.1 m below k within)
+
+pub returns-clause-runs : goal.returns-clause-runs
+returns-clause-runs c =
+    subst (λ (l : List NetModule). (m k c r : ℕ) (run : Run) → m < length l → k < length (module_at l m).instances → c < length (instance_at l m k).connections
+    → slice_get (runs_at l m k c) r ≡ Some run → AreWithin (module_at l m).names run.first run.count) c.self.view_is
+    (λ m k d r run below. runs_within c.self.inside.tables c.self.invariant.0 m below c.self.invariant.2.1 k d r run)
+
+pub returns-clause-bits : goal.returns-clause-bits
+returns-clause-bits c =
+    subst (λ (l : List NetModule). (m k c b : ℕ) (bit : Bit) → m < length l → k < length (module_at l m).instances → c < length (instance_at l m k).connections
+    → slice_get (bits_at l m k c) b ≡ Some bit → AreWithin (module_at l m).names bit 1) c.self.view_is
+    (λ m k d b bit below few within. bit_within (module_at (modules_in c.self.inside.tables) m).names (runs_at (modules_in c.self.inside.tables) m k d)
+    (λ r run. runs_within c.self.inside.tables c.self.invariant.0 m below c.self.invariant.2.1 k d r run few within) b bit)
