@@ -21,3 +21,4 @@ pub mod ReferenceLemmas
 pub mod HeadLemmas
 pub mod MapOrder
 pub mod SectionOrder
+pub mod NodeTexts
