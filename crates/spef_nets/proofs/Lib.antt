@@ -21,3 +21,4 @@ pub mod ValuePoints
 pub mod NodeNameLemmas
 pub mod FewLemmas
 pub mod FewKeys
+pub mod EveryNode
