@@ -11,6 +11,8 @@ pub mod OneWires
 pub mod PinLists
 pub mod Places
 pub mod ReadBack
+pub mod SettledNames
+pub mod SmallDelays
 pub mod TreeRows
 pub mod WireRows
 pub mod Work

@@ -109,7 +109,7 @@ module _ (net : NetElements) (whole : AreWhole 1 net) (driver : ℕ) (has : HasD
   abbrev pins : Pins
   pins = listed_pins 1 net driver
 
-  abbrev IsNamed : NodeName → Type 0
+  abbrev pub IsNamed : NodeName → Type 0
   IsNamed name = (number : ℕ) × (slice_get net.nodes number ≡ Some name)
 
   conn_named : (conn : Listed) → conn.node < length net.nodes → IsNamed (conn_name net conn)
@@ -145,7 +145,7 @@ module _ (net : NetElements) (whole : AreWhole 1 net) (driver : ℕ) (has : HasD
   conns_joined [] ys p q = q
   conns_joined (x ∷ xs) ys p q = (p.0, conns_joined xs ys p.1 q)
 
-  driver_named : IsNamed pins.driver
+  pub driver_named : IsNamed pins.driver
   driver_named =
       let at : slice_index_or net.conns driver no_conn ≡ has.driver = index_is net.conns driver has.driver no_conn has.stands in
       subst (λ (c : Listed). IsNamed (conn_name net c)) (sym at)
@@ -159,6 +159,9 @@ module _ (net : NetElements) (whole : AreWhole 1 net) (driver : ℕ) (has : HasD
           stands_in (d ∷ conns) zero c all at = let same : d ≡ c = cc in subst InNet same all.0
           stands_in (d ∷ conns) (suc k) c all at = stands_in conns k c all.1 at
 
+  pub sinks_named : AllByRecursion IsNamed pins.sinks
+  sinks_named = map_named (without driver net.conns) (conns_joined (take driver net.conns) (drop (suc driver) net.conns) (taken driver net.conns conns_in) (dropped (suc driver) net.conns conns_in))
+
   nodes_named : (front : ℕ) (nodes : List NodeName) → ((k : ℕ) (name : NodeName) → slice_get nodes k ≡ Some name → slice_get net.nodes (front + k) ≡ Some name) → AllByRecursion IsNamed nodes
   nodes_named front [] stand = tt
   nodes_named front (name ∷ nodes) stand =
@@ -170,7 +173,7 @@ module _ (net : NetElements) (whole : AreWhole 1 net) (driver : ℕ) (has : HasD
   all_named : AllByRecursion IsNamed (names net pins)
   all_named =
       joined (pins.driver ∷ pins.sinks) net.nodes
-      (driver_named, map_named (without driver net.conns) (conns_joined (take driver net.conns) (drop (suc driver) net.conns) (taken driver net.conns conns_in) (dropped (suc driver) net.conns conns_in)))
+      (driver_named, sinks_named)
       (nodes_named 0 net.nodes (λ k name at. let same : 0 + k ≡ k = omega arith in ap (slice_get net.nodes) same ∙ at))
 
   name_stands : (all : List NodeName) (k : ℕ) (name : NodeName) → AllByRecursion IsNamed all → slice_get all k ≡ Some name → IsNamed name

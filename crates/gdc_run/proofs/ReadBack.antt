@@ -1,44 +1,150 @@
--- The rows that `wires` gives are rows for one corner, of wires alone, and so are read back.
-use Rattle.std.proofs.Common.{◌≡◌, ℕ, inl, List, [], ◌∷◌, length, map, Ok, refl, sym, ◌∙◌, subst}
-use Rattle.std.specs.Prelude.{All}
+-- The rows that `wires` gives are rows for one corner, of wires alone, whose names are settled where they begin no comment, and so are read back.
+use Rattle.std.proofs.Common.{◌≡◌, ◌≤◌, ◌^◌, ℕ, inl, Bool, false, List, [], ◌∷◌, ◌++◌, length, map, Option, Some, Result, Ok, refl, sym, ◌∙◌, subst, unsigned_abs}
+use Rattle.std.specs.Prelude.{All, slice_get}
 use Rattle.std.specs.List.{AllZip, AllByRecursion}
-use Rattle.std.proofs.lemmas.List.Elements.{All-from_recursion, All-append}
+use Rattle.std.proofs.lemmas.List.Elements.{All-nil, All-append, All-contains, All-from_recursion, All-pop, All-weaker, recursion_from_All}
 use Rattle.std.proofs.lemmas.Slice.Zip.{AllZip-long}
-use Rattle.spef_nets.specs.NetElements.{NetElements}
-use Rattle.sdf_writer.specs.SdfText.{WireRow, PathRow, SdfRows}
+use Rattle.corner_set.specs.declared.pick.Pick.{Pick}
+use Rattle.delay_units.specs.declared.Femto.{Femto}
+use Rattle.edge_io.specs.Holding.{Held}
+use Rattle.edge_io.specs.Told.{appended}
+use Rattle.gdc_words.specs.CommandLine.{Request, value_of, pick_from}
+use Rattle.gdc_words.specs.declared.commands.Command.{Command}
+use Rattle.gdc_words.specs.declared.commands.Command.TheVariants.{Wires, Show, Lookup, Help, Version}
+use Rattle.name_table.specs.declared.spef_names.NodeName.{NodeName}
+use Rattle.rc_tree.specs.ListedPins.{listed_pins}
+use Rattle.rc_tree.specs.NetElements.{NetElements as TreeElements}
+use Rattle.rc_tree.specs.Nodes.{Node, node_of}
+use Rattle.rc_tree.specs.Pins.{Pins}
+use Rattle.rc_tree.specs.SectionNets.{net_elements, on_net}
+use Rattle.sdf_read_back.specs.Names.{begins_comment, IsSettled, HalvesSettle, NamedSettles}
 use Rattle.sdf_read_back.specs.ReadBack.{ReadBack, OnlyReadBack, IsPathFit, AreFit}
+use Rattle.sdf_writer.specs.Bounds.{AreWithin}
+use Rattle.sdf_writer.specs.SdfText.{WireRow, PathRow, SdfRows}
+use Rattle.spef_nets.specs.NetElements.{NetElements, AreWhole}
+use Rattle.spef_text.specs.SpefFiles.{SpefText, IsFormed}
+use Rattle.spef_text.specs.Heads.{HeadText}
+use Rattle.verdict_phases.specs.Phases.{Step, Go}
 use Rattle.gdc_run.specs.AnnotationRows.{Wire, IsWireDelay, IsAnnotationRow}
-use Rattle.gdc_run.specs.ReadBack.{IsReadable, WiresReadBack}
-use Rattle.gdc_run.specs.Verdict.{with_rows}
-use Rattle.gdc_run.specs.WireNets.{NetGives, is_tree, NetsGive, no_net, and_net}
+use Rattle.gdc_run.specs.Outcomes.{OnDone, GivesText, GivesReadable}
+use Rattle.gdc_run.specs.Outputs.{output_text}
+use Rattle.gdc_run.specs.ReadBack.{HasNoComment, IsReadBack, IsReadable, IsAlwaysReadable}
+use Rattle.gdc_run.specs.SpefPhases.{DesignNets, sole_corner, ParsesSpef, is_spef, NetsSpef, are_nets}
+use Rattle.gdc_run.specs.Verdict.{ReadsNets, through, WiresGives, with_rows, CommandGives}
+use Rattle.gdc_run.specs.WireNets.{HasDriver, NetGives, is_tree, NetsGive, no_net, and_net}
+use Rattle.gdc_run.specs.declared.outcome.Outcome.{Outcome}
+use Rattle.gdc_run.specs.declared.outcome.Outcome.TheVariants.{Done, Refused, Usage, ReadFault, WriteFault, OutOfMemory}
+use Rattle.gdc_run.specs.declared.output.Output.{Output}
+use Rattle.gdc_run.specs.declared.output.Output.TheVariants as output
+use Rattle.gdc_run.proofs.OneRows.{IsNamed, driver_named, sinks_named}
+use Rattle.gdc_run.proofs.Places.{at_contains}
+use Rattle.gdc_run.proofs.SettledNames.{Settles, nets_settle}
+use Rattle.gdc_run.proofs.SmallDelays.{delay_within}
 
--- a row for one corner
-abbrev pub IsSingle : WireRow → Type 0
-IsSingle row = length row.delay ≡ 1
+-- a name that is settled, unless it begins a comment
+abbrev MaySettle : List ℕ → Type 0
+MaySettle name = begins_comment name ≡ false → IsSettled name
 
--- the rows of wires at one corner are such
-single_zip : {X : Type 0} (wire : X → Wire) → ((x : X) → length (wire x).corners ≡ 1) → (xs : List X) (rows : List WireRow) → AllZip IsAnnotationRow (map wire xs) rows → AllByRecursion IsSingle rows
-single_zip wire one [] [] are = tt
-single_zip wire one [] (row ∷ rows) are = absurd are
-single_zip wire one (x ∷ xs) [] are = absurd are
-single_zip wire one (x ∷ xs) (row ∷ rows) are =
-    (AllZip-long (IsWireDelay (wire x).at) (wire x).corners row.delay are.0.delay ∙ one x, single_zip wire one xs rows are.1)
+-- a row for one corner, whose delay may be written, and whose names are such
+record IsSound (row : WireRow) : Type 0 where
+  from : MaySettle row.from
+  to : MaySettle row.to
+  single : length row.delay ≡ 1
+  within : AreWithin row.delay
 
-net_single : (net : NetElements) (rows : List WireRow) → NetGives net (Ok rows) → All IsSingle rows
-net_single net rows (is_tree driver same has fit tree are) = All-from_recursion IsSingle rows (single_zip _ (λ sink. refl) _ rows are)
+abbrev IsGoodNet : NetElements → Type 0
+IsGoodNet net = All Settles net.nodes × AreWhole 1 net
 
-nets_single : (nets : List NetElements) (rows : List WireRow) → NetsGive nets (Ok rows) → All IsSingle rows
-nets_single nets rows no_net = All-from_recursion IsSingle [] tt
-nets_single nets rows (and_net {nets = front} {rows = before} {more = more} {net = net} gives one) = All-append IsSingle before more (nets_single front before gives) (net_single net more one)
+-- ---- the rows of a net
 
--- such rows, if each is readable, may be written, and no path stands among them
-fit : (IsName : List ℕ → Type 0) (rows : SdfRows) → All IsSingle rows.wires → All (IsReadable IsName) rows.wires → rows.paths ≡ [] → AreFit IsName 1 rows
-fit IsName rows single readable none = record {
-  wires = λ k d below. record { from = (readable k d below).from; to = (readable k d below).to; one_row = single k d below; within = (readable k d below).within };
-  paths = subst (λ (paths : List PathRow). All (IsPathFit IsName 1) paths) (sym none) (All-from_recursion (IsPathFit IsName 1) [] tt);
+module _ (net : NetElements) (good : IsGoodNet net) (driver : ℕ) (has : HasDriver net driver) where
+  name_settles : (name : NodeName) → (number : ℕ) × (slice_get net.nodes number ≡ Some name) → Settles name
+  name_settles name named = All-contains Settles net.nodes name good.0 (at_contains net.nodes named.0 name named.1)
+
+  driver_settles : Settles (listed_pins 1 net driver).driver
+  driver_settles = name_settles (listed_pins 1 net driver).driver (driver_named net good.1 driver has)
+
+  sinks_settle : AllByRecursion Settles (listed_pins 1 net driver).sinks
+  sinks_settle =
+      recursion_from_All Settles (listed_pins 1 net driver).sinks
+      (All-weaker (IsNamed net good.1 driver has) Settles name_settles (listed_pins 1 net driver).sinks
+      (All-from_recursion (IsNamed net good.1 driver has) (listed_pins 1 net driver).sinks (sinks_named net good.1 driver has)))
+
+delays_within : (at : Node) (net : TreeElements Node) (delays : List Femto) → ((delay : Femto) → IsWireDelay at net delay → unsigned_abs delay.0 ≤ 10 ^ 27) → AllZip (IsWireDelay at) (net ∷ []) delays → AreWithin delays
+delays_within at net [] small are = absurd are
+delays_within at net (delay ∷ []) small are = (small delay are.0, tt)
+delays_within at net (delay ∷ other ∷ delays) small are = absurd are.1
+
+row_sound : (driver sink : NodeName) (at : Node) (net : TreeElements Node) (row : WireRow) → Settles driver → Settles sink → ((delay : Femto) → IsWireDelay at net delay → unsigned_abs delay.0 ≤ 10 ^ 27)
+    → IsAnnotationRow (record { driver = driver; sink = sink; at = at; corners = net ∷ [] }) row → IsSound row
+row_sound driver sink at net row settled other small is = record {
+  from = subst MaySettle (sym is.from) settled;
+  to = subst MaySettle (sym is.to) other;
+  single = AllZip-long (IsWireDelay at) (net ∷ []) row.delay is.delay;
+  within = delays_within at net row.delay small is.delay;
 }
 
-pub reads_back : (IsName : List ℕ → Type 0) → ReadBack IsName → OnlyReadBack IsName → WiresReadBack IsName
-reads_back IsName law only held pick name rows (with_rows bytes design same reads nets gives) readable =
-    let fits = fit IsName rows (nets_single design.nets rows.wires gives.1) readable gives.2 in
-    record { says = law 1 (inl refl) rows fits; only = only 1 (inl refl) rows fits }
+rows_sound : (driver : NodeName) (at : NodeName → Node) (net : TreeElements Node) → Settles driver → ((node : Node) (delay : Femto) → IsWireDelay node net delay → unsigned_abs delay.0 ≤ 10 ^ 27)
+    → (sinks : List NodeName) (rows : List WireRow) → AllByRecursion Settles sinks
+    → AllZip IsAnnotationRow (map (λ sink. let wire : Wire = record { driver = driver; sink = sink; at = at sink; corners = net ∷ [] } in wire) sinks) rows → AllByRecursion IsSound rows
+rows_sound driver at net settled small [] [] all are = tt
+rows_sound driver at net settled small [] (row ∷ rows) all are = absurd are
+rows_sound driver at net settled small (sink ∷ sinks) [] all are = absurd are
+rows_sound driver at net settled small (sink ∷ sinks) (row ∷ rows) all are =
+    (row_sound driver sink (at sink) net row settled all.0 (small (at sink)) are.0, rows_sound driver at net settled small sinks rows all.1 are.1)
+
+net_sound : (net : NetElements) (rows : List WireRow) → IsGoodNet net → NetGives net (Ok rows) → All IsSound rows
+net_sound net rows good (is_tree driver same has fit tree are) =
+    let pins : Pins = listed_pins 1 net driver in
+    All-from_recursion IsSound rows
+    (rows_sound pins.driver (λ sink. on_net net pins (node_of sink)) (net_elements 1 net pins 0) (driver_settles net good driver has) (delay_within net good.1 driver fit) pins.sinks rows (sinks_settle net good driver has) are)
+
+nets_sound : (nets : List NetElements) (rows : List WireRow) → All IsGoodNet nets → NetsGive nets (Ok rows) → All IsSound rows
+nets_sound nets rows good no_net = All-nil IsSound
+nets_sound nets rows good (and_net {nets = front} {rows = before} {more = more} {net = net} gives one) =
+    let parts = All-pop IsGoodNet (front ++ net ∷ []) front (Some net) refl good in
+    All-append IsSound before more (nets_sound front before parts.0 gives) (net_sound net more parts.1 one)
+
+-- ---- the rows of a file
+
+-- such rows, if none begins a comment, may be written, and no path stands among them
+fit : (rows : SdfRows) → All IsSound rows.wires → All HasNoComment rows.wires → rows.paths ≡ [] → AreFit IsSettled 1 rows
+fit rows sound plain none = record {
+  wires = λ k d below. record { from = (sound k d below).from (plain k d below).from; to = (sound k d below).to (plain k d below).to; one_row = (sound k d below).single; within = (sound k d below).within };
+  paths = subst (λ (paths : List PathRow). All (IsPathFit IsSettled 1) paths) (sym none) (All-nil (IsPathFit IsSettled 1));
+}
+
+formed_of : (bytes : List ℕ) (file : SpefText) → ParsesSpef bytes (Ok file) → IsFormed file
+formed_of bytes file (is_spef same reads) = reads.formed
+
+module _ (halves : HalvesSettle) (named : NamedSettles) (law : ReadBack IsSettled) (only : OnlyReadBack IsSettled) where
+  section_nets : (pick : Pick) (file : SpefText) (head : HeadText) (nets : List NetElements) → IsFormed file → NetsSpef pick file head (Ok nets) → All IsGoodNet nets
+  section_nets pick file head nets formed (are_nets same faultless are whole) = nets_settle halves named file formed pick head nets are whole
+
+  file_nets : (pick : Pick) (bytes : List ℕ) (design : DesignNets) → ReadsNets pick bytes (Ok design) → All IsGoodNet design.nets
+  file_nets pick bytes design (through file head nets parses heads says) = section_nets pick file head nets (formed_of bytes file parses) says
+
+  wires_readable : (held : Option Held) (pick : Pick) (name : List ℕ) (rows : SdfRows) → WiresGives held pick name (Go rows) → IsReadable (output.Sdf rows)
+  wires_readable held pick name rows (with_rows bytes design same reads nets gives) plain =
+      let fits = fit rows (nets_sound design.nets rows.wires (file_nets pick bytes design nets) gives.1) plain gives.2 in
+      record { says = law 1 (inl refl) rows fits; only = only 1 (inl refl) rows fits }
+
+  command_readable : (held : Option Held) (command : Command) (request : Request) (made : Output) → CommandGives held command request (Go made) → IsReadable made
+  command_readable held Wires request made (rows, gives, is) = subst IsReadable (sym is) (wires_readable held _ _ rows gives)
+  command_readable held Show request made (rows, gives, is) = subst IsReadable (sym is) tt
+  command_readable held Lookup request made point = subst IsReadable (sym point.holds.2) tt
+  command_readable held Help request made is = let same : output.Help ≡ made = cc in subst IsReadable same tt
+  command_readable held Version request made is = let same : output.Version ≡ made = cc in subst IsReadable same tt
+
+  pub always_readable_lem : IsAlwaysReadable
+  always_readable_lem words held made (request, asked, gives) = command_readable held request.command request made gives
+
+-- what a run has done is readable
+pub done_readable : (words : List (List ℕ)) (held : Option Held) (written written' : Option (List ℕ)) (outcome : Outcome) → IsAlwaysReadable → OnDone outcome (GivesText words held (λ text. written' ≡ appended written text))
+    → OnDone outcome (GivesReadable words held (λ text. written' ≡ appended written text))
+done_readable words held written written' Done law (made, gives, holds) = (made, gives, law words held made gives, holds)
+done_readable words held written written' (Refused refusal) law done = tt
+done_readable words held written written' (Usage fault) law done = tt
+done_readable words held written written' (ReadFault key) law done = tt
+done_readable words held written written' WriteFault law done = tt
+done_readable words held written written' OutOfMemory law done = tt

@@ -15,6 +15,7 @@ use Rattle.gdc_run.specs.declared.outcome.Outcome.TheVariants.{Done, Refused, Us
 use Rattle.gdc_words.specs.CommandLine.{Request, Asks, value_of}
 use Rattle.gdc_run.specs.declared.output.Output.{Output}
 use Rattle.gdc_run.specs.Outputs.{output_text}
+use Rattle.gdc_run.specs.ReadBack.{IsReadable}
 use Rattle.gdc_run.specs.Verdict.{Gives, Answers, CommandGives}
 
 -- a fact of the run where it is done
@@ -51,6 +52,10 @@ UnlessWritten _ fact = fact
 -- the verdict gives what is to be written, of whose text this holds
 abbrev pub GivesText : List (List ℕ) → Option Held → (List ℕ → Type 0) → Type 0
 GivesText words held fact = (output : Output) × Gives words held (Answers (Go output)) × fact (output_text output)
+
+-- the same, and what is written is readable
+abbrev pub GivesReadable : List (List ℕ) → Option Held → (List ℕ → Type 0) → Type 0
+GivesReadable words held fact = (output : Output) × Gives words held (Answers (Go output)) × IsReadable output × fact (output_text output)
 
 -- the name of the file of a key
 abbrev pub name_of : Request → FileKey → List ℕ

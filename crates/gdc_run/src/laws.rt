@@ -1,20 +1,17 @@
 //! The laws of the verdict, and of what the program writes.
-ghost use Rattle.name_table.specs.WellSpelled.{IsWellSpelled};
-ghost use Rattle.sdf_read_back.specs.Names.{IsSettled};
 ghost use Rattle.gdc_run.specs.OneVerdict.{OneReading, OneVerdict};
-ghost use Rattle.gdc_run.specs.ReadBack.{WiresReadBack};
+ghost use Rattle.gdc_run.specs.ReadBack.{IsAlwaysReadable};
 
-use sdf_read_back::{read_back, settled_read_back};
+use sdf_read_back::{nodes_settle, settled_read_back};
 
-/// The law of reading back, which its contract states: of the rows that the verdict gives for `wires`, if their names are settled, as
-/// those of SPEF's nodes are that do not begin with `//`, or if they are well spelled, the SDF grammar relates the text that is
-/// written to the rows that are read back, and to no others. It does nothing when it is called.
-pub fn wires_read_back()
-    ensures settled { WiresReadBack IsSettled }
-    ensures well_spelled { WiresReadBack IsWellSpelled }
+/// The law of reading back, which its contract states: where the verdict gives rows to be written as SDF, and no name of them begins
+/// with `//`, the SDF grammar relates the text that is written to the rows that are read back, and to no others. It does nothing when
+/// it is called.
+pub fn always_readable()
+    ensures law { IsAlwaysReadable }
 {
+    nodes_settle();
     settled_read_back();
-    read_back();
 }
 
 /// The law of SPEF files, which its contract states: the bytes of a file have one answer. They say nets, all of whose sections are

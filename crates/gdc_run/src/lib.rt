@@ -20,7 +20,7 @@ mod top;
 mod wire_rows;
 mod wires;
 
-pub use laws::{one_reading, one_verdict, wires_read_back};
+pub use laws::{one_reading, one_verdict};
 pub use outcome::Outcome;
 pub use refusal::{Edge, FileKey, IndexKind, LimitKind, NumberKind, Part, Refusal};
 pub use top::run;

@@ -4,17 +4,15 @@ ghost use Rattle.edge_io.specs.Counts.{Rose};
 ghost use Rattle.edge_io.specs.Told.{appended, AppendsFrontOf};
 ghost use Rattle.gdc_words.specs.CommandLine.{Asks};
 ghost use Rattle.gdc_run.specs.Verdict.{Gives, Answers};
-ghost use Rattle.gdc_run.specs.Outcomes.{OnDone, IfRefused, IfUsage, IfReadFault, OnWriteFault, UnlessWritten, GivesText, HasReadFault, AnswersUsage};
+ghost use Rattle.gdc_run.specs.Outcomes.{OnDone, IfRefused, IfUsage, IfReadFault, OnWriteFault, UnlessWritten, GivesText, GivesReadable, HasReadFault, AnswersUsage};
 ghost use Rattle.gdc_run.specs.OneVerdict.{OneVerdict};
-ghost use Rattle.gdc_run.specs.ReadBack.{WiresReadBack};
 ghost use Rattle.gdc_run.specs.Saying.{Says};
-ghost use Rattle.sdf_read_back.specs.Names.{IsSettled};
 ghost use Rattle.gdc_run.specs.Completeness.{IsComplete};
 ghost use Rattle.gdc_run.specs.Ends.{MeansEnd, FollowsTop};
 ghost use Rattle.gdc_run.specs.Work.{WordsWork, IsWithin, OnEarlyEnd, BeforeSections};
 ghost use Rattle.verdict_phases.specs.Phases.{RefusedBy, Halt};
 
-use crate::laws::{one_verdict, wires_read_back};
+use crate::laws::{always_readable, one_verdict};
 use crate::lines::say;
 use crate::outcome::Outcome;
 use crate::output::{Output, write_output};
@@ -125,12 +123,10 @@ pub fn run<H: Shelf, O: Sink, E: Sink, L: Ledger>(
     err: &mut E,
     steps: &mut Steps<L>,
 ) -> Outcome
-    // Done: the verdict gives what is to be written, and its text stands behind what `out` held.
-    ensures done { OnDone result (GivesText words.now (H.held shelf.old)
+    // Done: the verdict gives what is to be written, and its text stands behind what `out` held. What is written for `wires` is
+    // read back, unless a name in it begins with `//`: the text says the rows that the verdict gives, and no others.
+    ensures done { OnDone result (GivesReadable words.now (H.held shelf.old)
         (λ text. O.written out.new ≡ appended (O.written out.old) text)) }
-
-    // What is written for `wires` is read back: the text of the rows that the verdict gives says these rows, and no others.
-    ensures read_back { WiresReadBack IsSettled }
 
     // A refusal is the verdict's.
     ensures refused { IfRefused result
@@ -167,7 +163,7 @@ pub fn run<H: Shelf, O: Sink, E: Sink, L: Ledger>(
     ensures steps { IsWithin (WordsWork words.now (H.held shelf.old)) steps.old steps.new }
     ensures no_steps { BeforeSections result (steps.new ≡ steps.old) }
 {
-    wires_read_back();
+    always_readable();
     one_verdict();
     let outcome = answer(alloc, words, shelf, out, steps);
     // The answer stays where its line could not be written.

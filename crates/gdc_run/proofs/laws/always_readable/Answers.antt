@@ -1,11 +1,8 @@
--- The law follows from that of rows in general.
-use Rattle.name_table.specs.WellSpelled.{IsWellSpelled}
-use Rattle.sdf_read_back.specs.Names.{IsSettled}
-use Rattle.gdc_run.proofs.ReadBack.{reads_back}
-use Rattle.gdc_run.proofs.laws.wires_read_back.Goals as goal
+-- The law follows from those of rows and of names.
+use Rattle.gdc_run.proofs.ReadBack.{always_readable_lem}
+use Rattle.gdc_run.proofs.laws.always_readable.Goals as goal
 
-pub returns-clause-settled : goal.returns-clause-settled
-returns-clause-settled c = reads_back IsSettled c.settled_read_back.ensures.law c.settled_read_back.ensures.only
-
-pub returns-clause-well_spelled : goal.returns-clause-well_spelled
-returns-clause-well_spelled c = reads_back IsWellSpelled c.read_back.ensures.law c.read_back.ensures.only
+pub returns : goal.returns
+returns c = record {
+  law = always_readable_lem c.nodes_settle.ensures.halves c.nodes_settle.ensures.named c.settled_read_back.ensures.law c.settled_read_back.ensures.only;
+}

@@ -1,5 +1,9 @@
 use Rattle.gdc_run.proofs.Completing.{complete_of, usage_of}
+use Rattle.gdc_run.proofs.ReadBack.{done_readable}
 use Rattle.gdc_run.proofs.top.run.Goals as goal
+
+pub returns-clause-done : goal.returns-clause-done
+returns-clause-done g c = done_readable _ _ _ _ _ c.always_readable.ensures.law c.answer-outcome.ensures.done
 
 pub returns-clause-complete : goal.returns-clause-complete
 returns-clause-complete g c =
