@@ -6,7 +6,7 @@ use super::parsed::PARSED;
 use edge_io::Text;
 use std::alloc::Global;
 use std::test::Fail;
-use verilog_netlist::{Bit, Modules, Range, Way, parse};
+use verilog_netlist::{Bit, Modules, Range, Run, Way, parse};
 
 /// Adds a number.
 fn tell_number(alloc: Global, text: &mut Text, number: usize) -> Result<(), Fail> {
@@ -159,6 +159,36 @@ fn joins(modules: &Modules<'_>, c: usize, b: usize, name: usize, bit: usize) -> 
     bit_of(modules, c, b) == Some(Bit::Wire { name, bit })
 }
 
+/// A run of a connection of the first instance of the first module, if there is one.
+fn run_of(modules: &Modules<'_>, c: usize, r: usize) -> Option<Run> {
+    if modules.module_count() == 0 {
+        return None;
+    }
+    if modules.instance_count(0) == 0 {
+        return None;
+    }
+    if c >= modules.connection_count(0, 0) {
+        return None;
+    }
+    if r >= modules.run_count(0, 0, c) {
+        return None;
+    }
+    Some(modules.run(0, 0, c, r))
+}
+
+/// Whether the run of a connection is these bits of a name.
+fn runs_over(
+    modules: &Modules<'_>,
+    c: usize,
+    r: usize,
+    name: usize,
+    bit: usize,
+    count: usize,
+) -> bool {
+    let first = Bit::Wire { name, bit };
+    run_of(modules, c, r) == Some(Run { first, count })
+}
+
 /// Wires of 65,536 bits that are joined whole: connection, its bit, the name and its bit.
 const WIDE: [(usize, usize, usize, usize); 6] = [
     (0, 0, 0, 0),
@@ -178,8 +208,31 @@ fn computes_the_bits_of_wide_connections(rt: HostRuntime) -> Result<(), Fail> {
             for row in WIDE.as_slice() {
                 assert!(rt; joins(&modules, row.0, row.1, row.2, row.3));
             }
+            assert!(rt; runs_over(&modules, 0, 0, 0, 0, 65_536));
+            assert!(rt; runs_over(&modules, 1, 0, 1, 1, 65_535));
+            assert!(rt; runs_over(&modules, 1, 1, 0, 65_535, 1));
+            assert!(rt; run_of(&modules, 0, 1).is_none());
+            assert!(rt; run_of(&modules, 1, 2).is_none());
             assert!(rt; bit_of(&modules, 0, 65_536).is_none());
             assert!(rt; bit_of(&modules, 1, 65_536).is_none());
+        }
+        Err(_) => assert!(rt; false),
+    }
+    Ok(())
+}
+
+#[test]
+fn finds_modules_by_name(rt: HostRuntime) -> Result<(), Fail> {
+    let file = b"module top; endmodule module \\leaf+ (x); input x; endmodule module n; endmodule";
+    match parse(rt.alloc(), file) {
+        Ok(modules) => {
+            assert!(rt; modules.find(b"top") == Some(0));
+            assert!(rt; modules.find(b"leaf+") == Some(1));
+            assert!(rt; modules.find(b"n") == Some(2));
+            // a port's name, and a part of a name, are no names of modules
+            assert!(rt; modules.find(b"x").is_none());
+            assert!(rt; modules.find(b"to").is_none());
+            assert!(rt; modules.find(b"").is_none());
         }
         Err(_) => assert!(rt; false),
     }
