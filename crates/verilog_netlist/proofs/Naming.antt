@@ -10,7 +10,7 @@ use Rattle.std.proofs.lemmas.Bool.{lt-ltb, le-ltb}
 use Rattle.indexmap.specs.IndexSet.{insert_key, insert_all}
 use Rattle.verilog_netlist.specs.Spans.{text_at}
 use Rattle.verilog_netlist.specs.Namespaces.{name_of}
-use Rattle.verilog_netlist.specs.ModuleNames.{is_in, first_said, direction_by, direction_of, declaration_of, texts_of}
+use Rattle.verilog_netlist.specs.ModuleNames.{is_in, first_said, direction_by, direction_of, declaration_of, texts_of, texts_in}
 use Rattle.verilog_netlist.specs.NameRows.{keys_of, AllDiffer, Facts, view_row, noted, facts_in, no_facts, noted_at, text_number, NotesEntry}
 use Rattle.verilog_netlist.specs.declared.declared.Declaration.{Declaration}
 use Rattle.verilog_netlist.specs.declared.entries.Direction.{Direction}
@@ -69,9 +69,13 @@ differ_insert texts text d = by (list_any (bytes_eq text) texts) refl
     by true h = subst (λ (b : Bool). AllDiffer (if b then texts else texts ++ text ∷ [])) (sym h) d
     by false h = subst (λ (b : Bool). AllDiffer (if b then texts else texts ++ text ∷ [])) (sym h) (differ_push texts text d h)
 
-pub differ_all : (texts more : List (List ℕ)) → AllDiffer texts → AllDiffer (insert_all bytes_eq texts more)
+differ_all : (texts more : List (List ℕ)) → AllDiffer texts → AllDiffer (insert_all bytes_eq texts more)
 differ_all texts [] d = d
 differ_all texts (text ∷ more) d = differ_all (insert_key bytes_eq texts text) more (differ_insert texts text d)
+
+-- the names of a module differ
+pub texts_differ : (bytes : List ℕ) (own : List Entry) → AllDiffer (texts_in bytes own)
+texts_differ bytes own = differ_all [] (texts_of bytes group.Headers own ++ (texts_of bytes group.Wires own ++ texts_of bytes group.Joined own)) tt
 
 or_none : {X : Type 0} (x : Option X) → option_or x None ≡ x
 or_none None = refl

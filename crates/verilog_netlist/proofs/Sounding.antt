@@ -1,5 +1,5 @@
 -- In the modules of a netlist without a fault no name stands twice where names must differ.
-use Rattle.std.proofs.Common.{◌≡◌, ℕ, zero, suc, ◌+◌, ◌<◌, ◌≤◌, Bool, true, false, ◌||◌, List, [], ◌∷◌, ◌++◌, length, map, get_or, refl, sym, ap, ◌∙◌, arith, true≢false}
+use Rattle.std.proofs.Common.{◌≡◌, ℕ, zero, suc, ◌+◌, ◌<◌, ◌≤◌, Bool, true, false, ◌||◌, List, [], ◌∷◌, length, map, get_or, refl, sym, ap, ◌∙◌, arith, true≢false}
 use Rattle.std.specs.List.{list_any}
 use Rattle.std.specs.Str.{bytes_eq}
 use Rattle.std.proofs.lemmas.List.{length-map, get_or-map}
@@ -11,7 +11,7 @@ use Rattle.verilog_netlist.specs.Namespaces.IsAmong.{by_own}
 use Rattle.verilog_netlist.specs.Faults.{IsFaultless}
 use Rattle.verilog_netlist.specs.Parts.{begins_connection}
 use Rattle.verilog_netlist.specs.PartPlaces.{entry_at, begun, stretch}
-use Rattle.verilog_netlist.specs.ModuleNames.{NetName, no_name, name_in, texts_of, texts_in}
+use Rattle.verilog_netlist.specs.ModuleNames.{NetName, no_name, name_in, texts_in}
 use Rattle.verilog_netlist.specs.NameRows.{AllDiffer}
 use Rattle.verilog_netlist.specs.NetModules.{NetModule, NetInstance, NetConnection, module_at, name_at, instance_at, connection_at}
 use Rattle.verilog_netlist.specs.ModuleTables.{modules_in, names_at, AreTables, IsModuleAt, IsInstanceAt, IsConnectionAt}
@@ -21,13 +21,12 @@ use Rattle.verilog_netlist.specs.declared.entries.Entry.TheVariants.{Module, Ins
 use Rattle.verilog_netlist.specs.declared.faults.NameFault.TheVariants as fault
 use Rattle.verilog_netlist.specs.declared.namespaces.Names.{Names}
 use Rattle.verilog_netlist.specs.declared.namespaces.Names.TheVariants as names
-use Rattle.verilog_netlist.specs.declared.net_names.Group.TheVariants as group
 use Rattle.verilog_netlist.specs.declared.places.ModuleExtent.{ModuleExtent}
 use Rattle.verilog_netlist.specs.declared.places.InstanceExtent.{InstanceExtent}
 use Rattle.verilog_netlist.specs.declared.places.ConnectionExtent.{ConnectionExtent}
 use Rattle.verilog_netlist.specs.declared.tables.Tables.{Tables}
 use Rattle.verilog_netlist.proofs.PartsFound.{begun_on, begun_yes, begun_order, part_there}
-use Rattle.verilog_netlist.proofs.Naming.{differ_all}
+use Rattle.verilog_netlist.proofs.Naming.{texts_differ}
 use Rattle.verilog_netlist.proofs.TableReading.{extent_of, module_there, module_counts, names_are, is_instance, is_connection}
 
 -- texts that all differ
@@ -46,9 +45,6 @@ differ_at (text ∷ texts) d i zero less below same = absurd (omega arith)
 differ_at (text ∷ texts) d zero (suc j) less below same =
     true≢false (sym (any_at (bytes_eq text) texts j (omega arith) ((bytes_eq-Decides text (get_or texts j [])).1 same)) ∙ d.0)
 differ_at (text ∷ texts) d (suc i) (suc j) less below same = differ_at texts d.1 i j (omega arith) (omega arith) same
-
-texts_differ : (bytes : List ℕ) (own : List Entry) → AllDiffer (texts_in bytes own)
-texts_differ bytes own = differ_all [] (texts_of bytes group.Headers own ++ (texts_of bytes group.Wires own ++ texts_of bytes group.Joined own)) tt
 
 among_modules : (e : Entry) → begins_module e ≡ true → IsAmong names.Modules e
 among_modules (Module name) is = by_own refl

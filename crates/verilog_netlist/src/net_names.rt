@@ -164,8 +164,7 @@ fn collect_texts<'a>(
     bytes: &'a [u8],
     entries: &[Entry],
 ) -> Result<IndexSet<&'a [u8]>, OutOfMemory>
-    ensures texts { IfOk result (λ texts. keys_of texts.keys ≡ texts_in bytes.now entries.now) }
-    ensures differ { IfOk result (λ texts. AllDiffer (keys_of texts.keys)) }
+    ensures { IfOk result (λ texts. keys_of texts.keys ≡ texts_in bytes.now entries.now) }
 {
     let mut texts = IndexSet::new(alloc);
     add_texts(&mut texts, bytes, entries, Group::Headers)?;
