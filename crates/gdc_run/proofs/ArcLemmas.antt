@@ -1,5 +1,5 @@
 -- Rows of arcs, edge after edge.
-use Rattle.std.proofs.Common.{◌≡◌, ℕ, ◌+◌, ◌<◌, ◌≤◌, Option, List, [], ◌∷◌, ◌++◌, length, append_assoc, take, drop, get_or, ℤ, Result, Ok, Err, refl, sym, ap, ◌∙◌, subst, arith, length-append}
+use Rattle.std.proofs.Common.{◌≡◌, ℕ, ◌+◌, ◌<◌, ◌≤◌, List, [], ◌∷◌, ◌++◌, length, append_assoc, take, drop, get_or, ℤ, Result, Ok, Err, refl, sym, ap, ◌∙◌, subst, arith, length-append}
 use Rattle.std.specs.Prelude.{IsErrAnd, IsTrue}
 use Rattle.std.specs.List.{AllZip}
 use Rattle.std.proofs.lemmas.List.{append-nil, take_more, take-append-drop, take_all}
@@ -10,29 +10,23 @@ use Rattle.delay_units.specs.declared.quantities.Atto.{Atto as AttoSeconds}
 use Rattle.nldm_lookup.specs.Interpolant.{IsInterpolant}
 use Rattle.nldm_lookup.specs.declared.faults.Outside.{Outside}
 use Rattle.nldm_lookup.specs.declared.grain.Grain.TheVariants.{Atto, Femto}
-use Rattle.edge_io.specs.Holding.{Held}
-use Rattle.liberty_groups.specs.Groups.{Group}
 use Rattle.timing_arcs.specs.Cells.{TimedCell, IsCell, HasDirection}
 use Rattle.timing_arcs.specs.declared.cell.Arc.{Arc}
 use Rattle.timing_arcs.specs.declared.cell.Direction.{Direction}
 use Rattle.timing_arcs.specs.declared.cell.Direction.TheVariants.{Input, Output}
 use Rattle.timing_arcs.specs.declared.cell.EdgeTables.{EdgeTables}
 use Rattle.timing_arcs.specs.declared.cell.Pin.{Pin}
-use Rattle.verdict_phases.specs.Lifting.{IsLifted}
-use Rattle.verdict_phases.specs.Phases.{FollowsNoFile, Follows, Go}
-use Rattle.verdict_phases.specs.declared.ends.PhaseEnd.{PhaseEnd}
+use Rattle.verdict_phases.specs.Phases.{FollowsNoFile}
 use Rattle.verdict_phases.specs.declared.ends.NoFileEnd.{NoFileEnd}
 use Rattle.verdict_phases.specs.declared.ends.NoFileEnd.TheVariants as no_file
 use Rattle.gdc_run.specs.declared.arc_rows.ArcRow.{ArcRow}
 use Rattle.gdc_run.specs.declared.arc_rows.Looked.{Looked}
 use Rattle.gdc_run.specs.declared.refusal.Edge.{Edge}
 use Rattle.gdc_run.specs.declared.refusal.Part.{Part}
-use Rattle.gdc_run.specs.declared.refusal.FileKey.{FileKey}
 use Rattle.gdc_run.specs.declared.refusal.Refusal.{Refusal}
 use Rattle.gdc_run.specs.declared.refusal.Refusal.TheVariants as refusal
 use Rattle.gdc_run.specs.ArcRows.{ArcEdge, IsNamed, edges_of, arc_edges, IsArcRow, IsInside, IsEdgeOutside, IsEdgeRefusal, IsFirstOutside, AddsEdges, CellGives, all_inside, some_outside, outside_at}
-use Rattle.gdc_run.specs.LibraryPhases.{ParsesLibrary, ModelsCell}
-use Rattle.gdc_run.specs.Work.{is_early, OnEarly}
+use Rattle.gdc_run.specs.Work.{is_early}
 use Rattle.gdc_run.specs.Looking.{IsLooked, IsRowOf}
 use Rattle.gdc_run.specs.NetRows.{OnRefusal}
 

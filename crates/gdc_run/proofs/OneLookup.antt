@@ -1,11 +1,10 @@
 -- `lookup` has one answer.
 use Rattle.std.proofs.Common.{◌≡◌, ◌≢◌, inl, ℕ, List, [], ◌∷◌, ◌++◌, Option, Some, None, ℤ, pos, ◌+ℤ◌, Result, Ok, Err, refl, sym, ap, ◌∙◌, subst, arith}
-use Rattle.std.specs.Prelude.{slice_get, All, IfSome}
+use Rattle.std.specs.Prelude.{All, IfSome}
 use Rattle.std.specs.List.{AllByRecursion, AllZip}
 use Rattle.std.proofs.lemmas.Int.{ints}
 use Rattle.std.proofs.lemmas.List.Elements.{recursion_from_All}
 use Rattle.delay_units.specs.Reading.{IsRoundedPower}
-use Rattle.delay_units.specs.declared.quantities.Atto.{Atto as AttoSeconds}
 use Rattle.delay_units.proofs.OneDecimal.{one_decimal}
 use Rattle.delay_units.proofs.ReadingLemmas.{one_power}
 use Rattle.delay_units.proofs.RoundingLemmas.{one_rounding_lem}
@@ -13,7 +12,6 @@ use Rattle.edge_io.specs.Holding.{Held}
 use Rattle.edge_io.specs.Zipping.{one_zip}
 use Rattle.gdc_words.specs.Decimals.{IsGrains}
 use Rattle.liberty_groups.specs.Groups.{Group}
-use Rattle.liberty_groups.specs.Answers.{SaysTree}
 use Rattle.liberty_groups.specs.declared.faults.SyntaxFault.{SyntaxFault}
 use Rattle.liberty_groups.proofs.OneFault.{one_fault}
 use Rattle.liberty_groups.proofs.SoFar.{one_tree}

@@ -6,7 +6,7 @@ use Rattle.verdict_phases.specs.FileReading.{ReadsFile}
 use Rattle.sdf_reader.specs.declared.rows.SdfRow.{SdfRow}
 use Rattle.sdf_reader.proofs.OneFault.{one_fault}
 use Rattle.sdf_reader.proofs.SoFar.{one_rows}
-use Rattle.gdc_words.specs.CommandLine.{Request, Asks, value_of, pick_from}
+use Rattle.gdc_words.specs.CommandLine.{Request, value_of, pick_from}
 use Rattle.gdc_words.specs.declared.commands.Command.{Command}
 use Rattle.gdc_words.specs.declared.commands.Command.TheVariants.{Wires, Show, Lookup, Help, Version}
 use Rattle.gdc_words.specs.declared.commands.Key.TheVariants as key

@@ -1,5 +1,5 @@
 -- The rows that `wires` gives are rows for one corner, of wires alone, whose names are settled where they begin no comment, and so are read back.
-use Rattle.std.proofs.Common.{◌≡◌, ◌≤◌, ◌^◌, ℕ, inl, Bool, false, List, [], ◌∷◌, ◌++◌, length, map, Option, Some, Result, Ok, refl, sym, ◌∙◌, subst, unsigned_abs}
+use Rattle.std.proofs.Common.{◌≡◌, ◌≤◌, ◌^◌, ℕ, inl, false, List, [], ◌∷◌, ◌++◌, length, map, Option, Some, Ok, refl, sym, subst, unsigned_abs}
 use Rattle.std.specs.Prelude.{All, slice_get}
 use Rattle.std.specs.List.{AllZip, AllByRecursion}
 use Rattle.std.proofs.lemmas.List.Elements.{All-nil, All-append, All-contains, All-from_recursion, All-pop, All-weaker, recursion_from_All}
@@ -8,7 +8,7 @@ use Rattle.corner_set.specs.declared.pick.Pick.{Pick}
 use Rattle.delay_units.specs.declared.Femto.{Femto}
 use Rattle.edge_io.specs.Holding.{Held}
 use Rattle.edge_io.specs.Told.{appended}
-use Rattle.gdc_words.specs.CommandLine.{Request, value_of, pick_from}
+use Rattle.gdc_words.specs.CommandLine.{Request}
 use Rattle.gdc_words.specs.declared.commands.Command.{Command}
 use Rattle.gdc_words.specs.declared.commands.Command.TheVariants.{Wires, Show, Lookup, Help, Version}
 use Rattle.name_table.specs.declared.spef_names.NodeName.{NodeName}
@@ -24,12 +24,11 @@ use Rattle.sdf_writer.specs.SdfText.{WireRow, PathRow, SdfRows}
 use Rattle.spef_nets.specs.NetElements.{NetElements, AreWhole}
 use Rattle.spef_text.specs.SpefFiles.{SpefText, IsFormed}
 use Rattle.spef_text.specs.Heads.{HeadText}
-use Rattle.verdict_phases.specs.Phases.{Step, Go}
+use Rattle.verdict_phases.specs.Phases.{Go}
 use Rattle.gdc_run.specs.AnnotationRows.{Wire, IsWireDelay, IsAnnotationRow}
 use Rattle.gdc_run.specs.Outcomes.{OnDone, GivesText, GivesReadable}
-use Rattle.gdc_run.specs.Outputs.{output_text}
-use Rattle.gdc_run.specs.ReadBack.{HasNoComment, IsReadBack, IsReadable, IsAlwaysReadable}
-use Rattle.gdc_run.specs.SpefPhases.{DesignNets, sole_corner, ParsesSpef, is_spef, NetsSpef, are_nets}
+use Rattle.gdc_run.specs.ReadBack.{HasNoComment, IsReadable, IsAlwaysReadable}
+use Rattle.gdc_run.specs.SpefPhases.{DesignNets, ParsesSpef, is_spef, NetsSpef, are_nets}
 use Rattle.gdc_run.specs.Verdict.{ReadsNets, through, WiresGives, with_rows, CommandGives}
 use Rattle.gdc_run.specs.WireNets.{HasDriver, NetGives, is_tree, NetsGive, no_net, and_net}
 use Rattle.gdc_run.specs.declared.outcome.Outcome.{Outcome}

@@ -1,15 +1,15 @@
 -- The names of the nodes of a SPEF file, spelled in SDF, are settled where they begin no comment.
 use Rattle.std.proofs.Common.{◌≡◌, ℕ, ◌+◌, ◌<◌, Bool, true, false, cond, List, [], ◌∷◌, length, drop, Option, Some, None, refl, sym, subst, arith}
-use Rattle.std.specs.Prelude.{All, slice_get}
+use Rattle.std.specs.Prelude.{All}
 use Rattle.std.specs.Option.{option_map}
 use Rattle.std.specs.Str.{bytes_eq}
-use Rattle.std.proofs.lemmas.List.Elements.{All-head, All-tail, All-get_or}
+use Rattle.std.proofs.lemmas.List.Elements.{All-head, All-tail}
 use Rattle.corner_set.specs.declared.pick.Pick.{Pick}
 use Rattle.name_table.specs.Characters.{characters}
-use Rattle.name_table.specs.SpefNames.{whole_node, cut_node, node_name}
+use Rattle.name_table.specs.SpefNames.{node_name}
 use Rattle.name_table.specs.declared.spef_names.NodeName.{NodeName}
 use Rattle.sdf_read_back.specs.Names.{begins_comment, IsSettled, HalvesSettle, NamedSettles}
-use Rattle.spef_text.specs.Entries.{Section, no_section, section_at}
+use Rattle.spef_text.specs.Entries.{no_section, section_at}
 use Rattle.spef_text.specs.SpefFiles.{SpefText, IsFormed}
 use Rattle.spef_text.specs.Heads.{HeadText, text_of, digits_of}
 use Rattle.spef_text.specs.References.{marks_of, is_starred, index_end, digits_in, mapped_node}
@@ -20,7 +20,7 @@ use Rattle.spef_nets.specs.NetElements.{NetElements, AreWhole}
 use Rattle.spef_nets.specs.Sections.{AreNets}
 use Rattle.spef_nets.proofs.EveryNode.{every_node}
 use Rattle.gdc_run.specs.SpefPhases.{sole_corner}
-use Rattle.gdc_run.proofs.Places.{some_is, got_below, index_is, within}
+use Rattle.gdc_run.proofs.Places.{some_is, got_below, index_is}
 
 abbrev pub Settles : NodeName → Type 0
 Settles node = begins_comment node.sdf ≡ false → IsSettled node.sdf

@@ -1,5 +1,5 @@
 -- The delays of a net's wires are within what is written: its resistors and capacitances are so few and so small.
-use Rattle.std.proofs.Common.{◌≡◌, ℕ, zero, suc, ◌+◌, ◌*◌, ◌^◌, ◌<◌, ◌≤◌, inl, inr, Bool, true, false, cond, ◌&&◌, List, [], ◌∷◌, ◌++◌, length, map, take, drop, sum_by, ℤ, pos, unsigned_abs, length-append, subst, sym, arith}
+use Rattle.std.proofs.Common.{◌≡◌, ℕ, zero, suc, ◌+◌, ◌*◌, ◌^◌, ◌≤◌, inl, inr, Bool, true, false, cond, ◌&&◌, List, [], ◌∷◌, length, map, take, drop, sum_by, ℤ, pos, unsigned_abs, length-append, subst, arith}
 use Rattle.std.specs.Prelude.{All, slice_index, slice_index_or}
 use Rattle.std.specs.List.{range_with_len, enumerate_from}
 use Rattle.std.proofs.lemmas.Bool.{cases_lt}

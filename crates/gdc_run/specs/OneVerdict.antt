@@ -1,5 +1,5 @@
 -- That the verdict is one: what two verdicts on the same words and on the same files have in common.
-use Rattle.std.specs.Prelude.{◌≡◌, ℕ, ◌⊎◌, List, Some, Result, Ok}
+use Rattle.std.specs.Prelude.{◌≡◌, ℕ, ◌⊎◌, List, Some, Result}
 use Rattle.edge_io.specs.Holding.{Held}
 use Rattle.verdict_phases.specs.Phases.{Stop, RefusedBy, Unread, Reads, Step, Go, Halt}
 use Rattle.gdc_run.specs.declared.refusal.FileKey.{FileKey}
