@@ -9,7 +9,7 @@ use Rattle.std.proofs.lemmas.List.Folds.{list_any-append}
 use Rattle.std.proofs.lemmas.Option.{same_Some, slice_get_within, slice_get-get_or}
 use Rattle.std.proofs.lemmas.Slice.Eq.{bytes_eq-Decides}
 use Rattle.indexmap.specs.IndexSet.{insert_key, insert_all}
-use Rattle.verilog_netlist.specs.Spans.{text_at}
+use Rattle.token_texts.specs.Spans.{text_at}
 use Rattle.verilog_netlist.specs.Namespaces.{name_of, begins_module}
 use Rattle.verilog_netlist.specs.Faults.{IsFaultless}
 use Rattle.verilog_netlist.specs.Ranges.{largest_bound, width_of, whole_width, has_large_bound, is_outside, runs_against, is_bad_bit, is_bad_part, is_bad_entry, declared_range, declares, or_first, first_declared, declared_by}

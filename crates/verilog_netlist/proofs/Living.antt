@@ -9,7 +9,7 @@ use Rattle.verilog_netlist.specs.Words.{word_kind}
 use Rattle.verilog_netlist.specs.Tokens.{Lexeme, IsToken, is_token, cut_at, constant_length}
 use Rattle.verilog_netlist.specs.Steps.{place_at}
 use Rattle.verilog_netlist.specs.Modes.{State, next, finish}
-use Rattle.verilog_netlist.specs.declared.spans.Span.{Span}
+use Rattle.token_texts.specs.declared.spans.Span.{Span}
 use Rattle.verilog_netlist.specs.declared.kinds.Kind.{Kind}
 use Rattle.verilog_netlist.specs.declared.kinds.Kind.TheVariants as kind
 use Rattle.verilog_netlist.specs.declared.entries.Decl.{Decl}

@@ -8,7 +8,7 @@ use Rattle.std.proofs.lemmas.List.Folds.{list_any-append}
 use Rattle.std.proofs.lemmas.Slice.Eq.{bytes_eq-Decides}
 use Rattle.std.proofs.lemmas.Bool.{lt-ltb, le-ltb}
 use Rattle.indexmap.specs.IndexSet.{insert_key, insert_all}
-use Rattle.verilog_netlist.specs.Spans.{text_at}
+use Rattle.token_texts.specs.Spans.{text_at}
 use Rattle.verilog_netlist.specs.Namespaces.{name_of}
 use Rattle.verilog_netlist.specs.ModuleNames.{is_in, first_said, direction_by, direction_of, declaration_of, texts_of, texts_in}
 use Rattle.verilog_netlist.specs.NameRows.{keys_of, AllDiffer, Facts, view_row, noted, facts_in, no_facts, noted_at, text_number, NotesEntry}

@@ -1,6 +1,6 @@
 -- Whether a name lacks its pair.
 use Rattle.std.proofs.Common.{◌≡◌, ℕ, ◌<◌, Bool, true, false, not, ◌⊎◌, inl, inr, List, length, get_or, slice_get, Option, Some, None, refl, sym, ap, ◌∙◌, subst, true≢false, Decides}
-use Rattle.verilog_netlist.specs.Spans.{text_at}
+use Rattle.token_texts.specs.Spans.{text_at}
 use Rattle.verilog_netlist.specs.Namespaces.{name_of, IsAmong, by_own, in_header}
 use Rattle.verilog_netlist.specs.Directions.{paired_names, StandsAmong, IsUnpaired}
 use Rattle.verilog_netlist.specs.NameKeys.{code_of, Key, counted, key_of, key_at, holds, IsKeyBefore, HoldsNames, needed_names, is_lacking}

@@ -4,7 +4,7 @@ use Rattle.std.proofs.Math.Nat.{le-max_left, le-max_right}
 use Rattle.std.proofs.lemmas.Bool.{lt-ltb, le-ltb}
 use Rattle.std.proofs.lemmas.List.{drop_all}
 use Rattle.std.specs.Str.{bytes_eq}
-use Rattle.verilog_netlist.specs.Spans.{text_at}
+use Rattle.token_texts.specs.Spans.{text_at}
 use Rattle.verilog_netlist.specs.Ranges.{most_bits, and_more, bits_of, joined_width, is_bad_entry, declares, or_first, first_declared, module_at, declared_by, IsBadRange, declared_range, is_bad_declaration, is_bad_bit, is_bad_part, whole_width}
 use Rattle.verilog_netlist.specs.NameKeys.{Key, key_in, same_key}
 use Rattle.verilog_netlist.specs.DeclaredNames.{Rows, declared_key, row_at, found_in, widened, AddsRow, AddsDeclared, HoldsDeclared, BoundsWidths, IsAtMost}

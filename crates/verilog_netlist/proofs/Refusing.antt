@@ -1,6 +1,6 @@
 -- What is refused, and why.
 use Rattle.std.proofs.Common.{◌≡◌, ℕ, ◌<◌, List, length, slice_get, Some, Option, subst}
-use Rattle.verilog_netlist.specs.Spans.{text_at}
+use Rattle.token_texts.specs.Spans.{text_at}
 use Rattle.verilog_netlist.specs.Namespaces.{name_of}
 use Rattle.verilog_netlist.specs.Netlists.{SaysNetlist}
 use Rattle.verilog_netlist.specs.Faults.{HasFault, IsFirstFault, IsFaultless, FindsFault}

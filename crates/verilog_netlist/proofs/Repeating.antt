@@ -10,7 +10,7 @@ use Rattle.std.proofs.lemmas.List.Sums.{count_by_more_yes, count_by_more_no}
 use Rattle.std.proofs.lemmas.Option.{slice_get-get_or}
 use Rattle.std.proofs.lemmas.Slice.Eq.{bytes_eq-Decides}
 use Rattle.indexmap.specs.IndexSet.{insert_key}
-use Rattle.verilog_netlist.specs.Spans.{text_at}
+use Rattle.token_texts.specs.Spans.{text_at}
 use Rattle.verilog_netlist.specs.Namespaces.{name_of, own_names, header_names, IsAmong, by_own, in_header, begins_module, begins_instance, scope_of, IsRepeated}
 use Rattle.verilog_netlist.specs.Directions.{StandsAmong}
 pub use Rattle.verilog_netlist.specs.PartPlaces.{no_entry}

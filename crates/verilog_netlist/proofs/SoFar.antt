@@ -13,7 +13,7 @@ use Rattle.verilog_netlist.specs.Steps.{step_in}
 use Rattle.verilog_netlist.specs.Modes.{State, first_state, state_after, next, finish_in, finish}
 use Rattle.verilog_netlist.specs.Netlists.{SaysNetlist, LeavesNetlist, IsDead, IsRefusalAt, HasWord}
 use Rattle.verilog_netlist.specs.ReaderStates.{IsRefusalOf}
-use Rattle.verilog_netlist.specs.declared.spans.Span.{Span}
+use Rattle.token_texts.specs.declared.spans.Span.{Span}
 use Rattle.verilog_netlist.specs.declared.kinds.Kind.{Kind}
 use Rattle.verilog_netlist.specs.declared.entries.Entry.{Entry}
 use Rattle.verilog_netlist.specs.declared.modes.Mode.{Mode}

@@ -5,7 +5,7 @@ use Rattle.std.specs.Str.{bytes_eq}
 use Rattle.std.proofs.lemmas.List.{length-map, get_or-map}
 use Rattle.std.proofs.lemmas.Option.{slice_get-get_or}
 use Rattle.std.proofs.lemmas.Slice.Eq.{bytes_eq-Decides}
-use Rattle.verilog_netlist.specs.Spans.{text_at}
+use Rattle.token_texts.specs.Spans.{text_at}
 use Rattle.verilog_netlist.specs.Namespaces.{name_of, IsAmong, begins_module, begins_instance, scope_of}
 use Rattle.verilog_netlist.specs.Namespaces.IsAmong.{by_own}
 use Rattle.verilog_netlist.specs.Faults.{IsFaultless}

@@ -7,7 +7,7 @@ use Rattle.std.specs.Prelude.{count_by}
 use Rattle.std.proofs.lemmas.List.{length-map, take_all, get_or_default, get_or-drop, take_more, drop-take, get_or-take, length-append, length-drop, length-take}
 use Rattle.std.proofs.lemmas.List.Concat.{flat_map-append}
 use Rattle.std.proofs.lemmas.Option.{slice_get-map, slice_get-get_or, get_or_from_slice_get}
-use Rattle.verilog_netlist.specs.Spans.{text_at}
+use Rattle.token_texts.specs.Spans.{text_at}
 use Rattle.verilog_netlist.specs.Namespaces.{name_of, begins_module, begins_instance}
 use Rattle.verilog_netlist.specs.Parts.{Part, parts, begins_connection}
 use Rattle.verilog_netlist.specs.PartPlaces.{no_entry, entry_at, begun, places_below, instance_row, stretch, IsPartAt, IsModuleExtent, IsInstanceExtent}

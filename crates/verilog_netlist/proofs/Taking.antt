@@ -4,7 +4,7 @@ use Rattle.token_fronts.specs.Accepting.{Accepts, ended, taken}
 use Rattle.verilog_netlist.specs.Grammar.{Tok, Is, added, Listed, one, and_one, Many, none, more, Maybe, left_out, there, IsName, name, input, output, MaybeWire, no_wire, wire, range, no_range, with_range, AreDeclared, declared, IsAnsi, ansi, IsHeader, names, directions, IsPorts, ports, IsExpr, whole, bit, part, constant, in_braces, AreExprs, one_expr, and_expr, IsConnection, connection, IsInstance, instance, IsItem, directed, wires, instances, IsModule, is_module, IsNetlist}
 use Rattle.verilog_netlist.specs.Steps.{place_at, behind_expr, operand_step, joined_step, name_end_step, step_in}
 use Rattle.verilog_netlist.specs.Modes.{State, first_state, state_after, next, finish}
-use Rattle.verilog_netlist.specs.declared.spans.Span.{Span}
+use Rattle.token_texts.specs.declared.spans.Span.{Span}
 use Rattle.verilog_netlist.specs.declared.kinds.Kind.{Kind}
 use Rattle.verilog_netlist.specs.declared.kinds.Kind.TheVariants as kind
 use Rattle.verilog_netlist.specs.declared.entries.Direction.{Direction}

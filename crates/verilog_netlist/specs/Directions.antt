@@ -1,6 +1,6 @@
 -- Names of headers without a direction, and names with a direction that the header lacks.
 use Rattle.std.specs.Prelude.{◌≡◌, ℕ, List, slice_get, Option, Some, None}
-use Rattle.verilog_netlist.specs.Spans.{text_at}
+use Rattle.token_texts.specs.Spans.{text_at}
 use Rattle.verilog_netlist.specs.Firsts.{IsFirst}
 use Rattle.verilog_netlist.specs.Namespaces.{name_of, IsAmong, scope_of}
 use Rattle.verilog_netlist.specs.declared.entries.Entry.{Entry}

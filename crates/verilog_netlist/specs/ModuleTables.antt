@@ -1,7 +1,7 @@
 -- What the tables of a netlist's modules stand for.
 use Rattle.std.specs.Prelude.{◌≡◌, ℕ, true, ◌+◌, ◌^◌, ◌<◌, ◌≤◌, List, length}
 use Rattle.std.specs.List.{flat_map}
-use Rattle.verilog_netlist.specs.Spans.{text_at}
+use Rattle.token_texts.specs.Spans.{text_at}
 use Rattle.verilog_netlist.specs.Namespaces.{name_of}
 use Rattle.verilog_netlist.specs.Parts.{Part}
 use Rattle.verilog_netlist.specs.PartPlaces.{entry_at, stretch, ArePlaces, IsModuleExtent, IsInstanceExtent}

@@ -1,12 +1,12 @@
 -- The modules of a netlist.
 use Rattle.std.specs.Prelude.{ℕ, zero, suc, ◌+◌, ◌-◌, ◌^◌, ◌≤◌, nat_lt, if◌then◌else◌, List, [], ◌∷◌, map, get_or, Option, Some, None, ⊤}
 use Rattle.std.specs.List.{flat_map}
-use Rattle.verilog_netlist.specs.Spans.{text_at}
+use Rattle.token_texts.specs.Spans.{text_at}
 use Rattle.verilog_netlist.specs.Namespaces.{name_of, begins_module, begins_instance}
 use Rattle.verilog_netlist.specs.Ranges.{constant_width, width_of, whole_width}
 use Rattle.verilog_netlist.specs.Parts.{Part, parts, begins_connection}
 use Rattle.verilog_netlist.specs.ModuleNames.{NetName, no_name, names_in, number_of, range_of}
-use Rattle.verilog_netlist.specs.declared.spans.Span.{Span}
+use Rattle.token_texts.specs.declared.spans.Span.{Span}
 use Rattle.verilog_netlist.specs.declared.entries.Range.{Range}
 use Rattle.verilog_netlist.specs.declared.entries.Entry.{Entry}
 use Rattle.verilog_netlist.specs.declared.entries.Entry.TheVariants as entry

@@ -1,6 +1,6 @@
 -- What is answered of the bytes of a netlist, and what is refused.
 use Rattle.std.specs.Prelude.{◌≡◌, ℕ, List, slice_get, Some, ⊤, Result, MatchResult}
-use Rattle.verilog_netlist.specs.Spans.{text_at}
+use Rattle.token_texts.specs.Spans.{text_at}
 use Rattle.verilog_netlist.specs.Tokens.{AreTokens, Lexeme}
 use Rattle.verilog_netlist.specs.Namespaces.{name_of}
 use Rattle.verilog_netlist.specs.Netlists.{SaysNetlist, LeavesNetlist, IsRefusalAt}

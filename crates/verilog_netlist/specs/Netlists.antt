@@ -1,7 +1,7 @@
 -- What the bytes of a netlist say, and the token at which bytes are none.
 use Rattle.std.specs.Prelude.{◌≡◌, ℕ, ◌-◌, List, slice_get, Some, Result, MatchResult, ⊤}
 use Rattle.token_fronts.specs.Reading.{Says, Leaves}
-use Rattle.verilog_netlist.specs.Spans.{text_at}
+use Rattle.token_texts.specs.Spans.{text_at}
 use Rattle.verilog_netlist.specs.Tokens.{Lexeme, AreTokens, IsToken}
 use Rattle.verilog_netlist.specs.Grammar.{IsNetlist}
 use Rattle.verilog_netlist.specs.declared.kinds.Kind.TheVariants.{NotStructural as StartsOther}

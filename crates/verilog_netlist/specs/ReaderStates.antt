@@ -1,8 +1,8 @@
 -- What the reader's own state stands for.
 use Rattle.std.specs.Prelude.{◌≡◌, ℕ, Bool, true, false, List, Option, Some, None, Result, Ok, Err, ⊤}
-use Rattle.verilog_netlist.specs.Spans.{text_at}
+use Rattle.token_texts.specs.Spans.{text_at}
 use Rattle.verilog_netlist.specs.Modes.{State}
-use Rattle.verilog_netlist.specs.declared.spans.Span.{Span}
+use Rattle.token_texts.specs.declared.spans.Span.{Span}
 use Rattle.verilog_netlist.specs.declared.kinds.Kind.{Kind}
 use Rattle.verilog_netlist.specs.declared.kinds.Kind.TheVariants.{NotStructural as StartsOther}
 use Rattle.verilog_netlist.specs.declared.reading.ReadEnd.{ReadEnd}

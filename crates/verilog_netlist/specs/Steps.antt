@@ -1,6 +1,6 @@
 -- What each token does, by what is waited for. It is the grammar unrolled for the reader's loop; the proofs show that both say the same.
 use Rattle.std.specs.Prelude.{ℕ, zero, suc, nat_lt, if◌then◌else◌, Option, Some, None}
-use Rattle.verilog_netlist.specs.declared.spans.Span.{Span}
+use Rattle.token_texts.specs.declared.spans.Span.{Span}
 use Rattle.verilog_netlist.specs.declared.kinds.Kind.{Kind}
 use Rattle.verilog_netlist.specs.declared.kinds.Kind.TheVariants as kind
 use Rattle.verilog_netlist.specs.declared.entries.Direction.{Direction}

@@ -5,7 +5,7 @@ use Rattle.token_texts.specs.Blanks.{is_blank}
 use Rattle.token_texts.specs.Comments.{line_length, pair_place}
 use Rattle.token_texts.specs.Runs.{run_length}
 use Rattle.verilog_netlist.specs.Words.{word_kind}
-use Rattle.verilog_netlist.specs.declared.spans.Span.{Span}
+use Rattle.token_texts.specs.declared.spans.Span.{Span}
 use Rattle.verilog_netlist.specs.declared.kinds.Kind.{Kind}
 use Rattle.verilog_netlist.specs.declared.kinds.Kind.TheVariants.{Name, Number, Constant, LeftParen, RightParen, LeftBracket, RightBracket, LeftBrace, RightBrace, Dot, Comma, Semicolon, Colon, Bad}
 use Rattle.verilog_netlist.specs.declared.scan.Cut.{Cut}

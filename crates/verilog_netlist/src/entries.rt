@@ -1,5 +1,5 @@
 //! What a netlist says, one thing after another.
-use crate::spans::Span;
+use token_texts::Span;
 
 /// The direction of a port.
 #[derive(Clone, Copy, PartialEq, Eq, Debug)]

@@ -23,7 +23,6 @@ mod reading;
 mod repeats;
 mod runs;
 mod scan;
-mod spans;
 mod tables;
 mod words;
 
@@ -39,4 +38,4 @@ pub use ranges::first_bad_range;
 pub use reading::{ReadEnd, read_entries};
 pub use repeats::first_repeated;
 pub use runs::{Bit, Run};
-pub use spans::Span;
+pub use token_texts::Span;

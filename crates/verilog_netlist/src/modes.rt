@@ -4,7 +4,7 @@ ghost use Rattle.verilog_netlist.specs.Steps.{modules_step, module_name_step, mo
 
 use crate::entries::{Decl, Direction, Entry, Range};
 use crate::kinds::Kind;
-use crate::spans::Span;
+use token_texts::Span;
 
 /// How many `{` may be open in one another.
 const BRACE_LIMIT: u32 = 16;

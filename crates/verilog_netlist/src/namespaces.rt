@@ -4,7 +4,7 @@ ghost use Rattle.verilog_netlist.specs.Namespaces.{name_of, own_names, header_na
 ghost use Rattle.verilog_netlist.specs.NameKeys.{needed_names};
 
 use crate::entries::{Decl, Entry};
-use crate::spans::Span;
+use token_texts::Span;
 
 /// Names that must differ from one another: those of modules in a file; the names of a header, those that directions declare, those
 /// that `wire` declares and those of instances in a module; the ports of an instance.

@@ -1,6 +1,6 @@
 //! Reads a netlist whose names and ranges have no fault, or tells its first fault.
 ghost use Rattle.std.specs.Prelude.{◌≡◌, ◌^◌, ◌<◌, ◌≤◌, List, length, IfOk, IfErr, Some};
-ghost use Rattle.verilog_netlist.specs.Spans.{text_at};
+ghost use Rattle.token_texts.specs.Spans.{text_at};
 ghost use Rattle.verilog_netlist.specs.Namespaces.{name_of};
 ghost use Rattle.verilog_netlist.specs.Netlist.{SaysSound, IsRefused, HasItsWord, GivesSound, IsEndOf, IsNamed};
 ghost use Rattle.verilog_netlist.specs.declared.entries.Entry.{Entry};
@@ -8,9 +8,9 @@ ghost use Rattle.verilog_netlist.specs.declared.entries.Entry.{Entry};
 use crate::entries::Entry;
 use crate::faults::{NameFault, first_fault};
 use crate::reading::{ReadEnd, read_entries};
-use crate::spans::Span;
 use edge_io::Text;
 use std::alloc::Global;
+use token_texts::Span;
 
 /// Why a file is refused as a netlist. Tokens count from 1; comments, attributes, directives and blanks are none.
 #[derive(Debug, Drop)]

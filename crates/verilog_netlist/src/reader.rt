@@ -8,9 +8,9 @@ ghost use Rattle.verilog_netlist.specs.ReaderStates.{state_of, Steps, Finishes};
 use crate::entries::Entry;
 use crate::kinds::Kind;
 use crate::modes::{Mode, Step};
-use crate::spans::Span;
 use edge_io::OutOfMemory;
 use std::alloc::Global;
+use token_texts::Span;
 
 /// What is waited for, and what has been said.
 #[derive(Drop)]

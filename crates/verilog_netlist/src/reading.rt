@@ -2,7 +2,7 @@
 ghost use Rattle.std.specs.Prelude.{◌≡◌, ◌+◌, ◌^◌, ◌<◌, ◌≤◌, List, length, drop, IfOk, IfErr};
 ghost use Rattle.token_texts.specs.Blanks.{is_blank};
 ghost use Rattle.token_texts.specs.Runs.{run_length};
-ghost use Rattle.verilog_netlist.specs.Spans.{text_at};
+ghost use Rattle.token_texts.specs.Spans.{text_at};
 ghost use Rattle.verilog_netlist.specs.Tokens.{span_of};
 ghost use Rattle.verilog_netlist.specs.Netlists.{SaysNetlist, IsDead, HasWord, Gives};
 ghost use Rattle.verilog_netlist.specs.ReaderStates.{IsRefusalOf};
@@ -12,10 +12,9 @@ use crate::entries::Entry;
 use crate::kinds::Kind;
 use crate::reader::Reader;
 use crate::scan::{Cut, cut_at};
-use crate::spans::Span;
 use edge_io::Text;
 use std::alloc::Global;
-use token_texts::{Blank, run_length};
+use token_texts::{Blank, Span, run_length};
 
 /// Why a file is no netlist. Tokens count from 1; comments, attributes, directives and blanks are none.
 #[derive(Debug, Drop)]

@@ -1,6 +1,6 @@
 //! What is kept of the modules of a netlist.
 ghost use Rattle.std.specs.Prelude.{◌≡◌, ◌+◌, ◌<◌, ◌≤◌, length, map, slice_get};
-ghost use Rattle.verilog_netlist.specs.Spans.{text_at};
+ghost use Rattle.token_texts.specs.Spans.{text_at};
 ghost use Rattle.verilog_netlist.specs.Namespaces.{name_of};
 ghost use Rattle.verilog_netlist.specs.PartPlaces.{entry_at};
 ghost use Rattle.verilog_netlist.specs.NameRows.{start_at};
@@ -12,7 +12,7 @@ use crate::net_names::{NameRow, NetNames};
 use crate::places::{ConnectionExtent, InstanceExtent, ModuleExtent, Places};
 use crate::runs::{Bit, Run, bit_run, part_run, whole_run};
 use crate::scan::constant_width;
-use crate::spans::Span;
+use token_texts::Span;
 
 /// The bytes of a netlist and what they say, the places of its parts, and the names of its modules.
 #[derive(Drop)]

@@ -2,7 +2,7 @@
 use Rattle.std.proofs.Common.{sym, ap, ◌∙◌}
 use Rattle.std.specs.Str.{bytes_eq}
 use Rattle.indexmap.specs.IndexSet.{insert_key, insert_all}
-use Rattle.verilog_netlist.specs.Spans.{text_at}
+use Rattle.token_texts.specs.Spans.{text_at}
 use Rattle.verilog_netlist.specs.NameRows.{keys_of}
 use Rattle.verilog_netlist.proofs.Naming.{text_inserted, texts_yes}
 use Rattle.verilog_netlist.proofs.net_names.add_text.Goals as goal

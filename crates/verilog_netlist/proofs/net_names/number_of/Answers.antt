@@ -1,7 +1,7 @@
 -- The place of the name, or as many as there are.
 use Rattle.std.proofs.Common.{◌≡◌, ℕ, List, sym, ap, ◌∙◌, subst, length, Bor, IfOk}
 use Rattle.std.proofs.lemmas.List.{length-map}
-use Rattle.verilog_netlist.specs.Spans.{text_at}
+use Rattle.token_texts.specs.Spans.{text_at}
 use Rattle.verilog_netlist.specs.NameRows.{keys_of}
 use Rattle.verilog_netlist.proofs.Naming.{found_some, found_none, number_some, number_none}
 use Rattle.verilog_netlist.proofs.net_names.number_of.Goals as goal

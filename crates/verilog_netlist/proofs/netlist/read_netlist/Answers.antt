@@ -1,11 +1,11 @@
 -- What was read, and its first fault.
 use Rattle.std.proofs.Common.{ℕ, List, Some, sym, ap, ◌∙◌, subst}
 use Rattle.std.proofs.lemmas.Option.{slice_get-get_or}
-use Rattle.verilog_netlist.specs.Spans.{text_at}
+use Rattle.token_texts.specs.Spans.{text_at}
 use Rattle.verilog_netlist.specs.Faults.{FindsFault}
 use Rattle.verilog_netlist.specs.Netlist.{IsEndOf, IsNamed}
 use Rattle.verilog_netlist.specs.declared.entries.Entry.{Entry}
-use Rattle.verilog_netlist.specs.declared.spans.Span.{Span}
+use Rattle.token_texts.specs.declared.spans.Span.{Span}
 use Rattle.verilog_netlist.specs.declared.reading.ReadEnd.{ReadEnd}
 use Rattle.verilog_netlist.proofs.Refusing.{is_first, first_within, not_faultless, refuses}
 use Rattle.verilog_netlist.proofs.netlist.read_netlist.Goals as goal

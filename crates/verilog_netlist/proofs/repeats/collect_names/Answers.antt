@@ -1,6 +1,6 @@
 -- One name more, and whether it was there.
 use Rattle.std.proofs.Common.{◌≡◌, ℕ, List, get_or, refl, sym, ap, ◌∙◌, subst, ◌+◌, ◌||◌, Bool, Option, arith}
-use Rattle.verilog_netlist.specs.Spans.{text_at}
+use Rattle.token_texts.specs.Spans.{text_at}
 use Rattle.verilog_netlist.specs.Namespaces.{IsRepeated}
 use Rattle.verilog_netlist.specs.Firsts.{first_or}
 use Rattle.verilog_netlist.specs.NameKeys.{Key, keys_in, counted}

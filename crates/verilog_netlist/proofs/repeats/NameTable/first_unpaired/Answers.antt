@@ -1,6 +1,6 @@
 -- One name more, and whether it lacks its pair.
 use Rattle.std.proofs.Common.{ℕ, ◌+◌, List, get_or, sym, ap, ◌∙◌, subst, true≢false, arith}
-use Rattle.verilog_netlist.specs.Spans.{text_at}
+use Rattle.token_texts.specs.Spans.{text_at}
 use Rattle.verilog_netlist.specs.Directions.{IsUnpaired}
 use Rattle.verilog_netlist.specs.NameKeys.{Key, keys_in}
 use Rattle.verilog_netlist.specs.declared.entries.Entry.{Entry}
