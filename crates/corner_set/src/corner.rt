@@ -47,7 +47,8 @@ pub trait CornerSet: Drop {
     ghost corner_of_number: { (index : Self.Index) → corner_of (number_of index) ≡ Some index };
 
     /// Each number below the count has a corner, whose number it is.
-    ghost number_of_corner: { (number : ℕ) → number < COUNT → (index : Self.Index) × (corner_of number ≡ Some index) × (number_of index ≡ number) };
+    ghost number_of_corner: { (number : ℕ) → number < COUNT → (index : Self.Index) × (corner_of number ≡ Some index)
+        × (number_of index ≡ number) };
 
     /// No other number has one.
     ghost no_more: { (number : ℕ) → COUNT ≤ number → corner_of number ≡ None };

@@ -24,7 +24,8 @@ impl<C: CornerSet, T: Copy> Model for Grid<C, T> {
 
     ghost view = { λ grid. record { values = grid.values.items; room = grid.room } };
 
-    ghost invariant = { λ grid. (length grid.values.items ≡ grid.rows * C.COUNT) × (grid.rows ≤ grid.room) × (grid.room * C.COUNT ≤ vec_capacity grid.values) };
+    ghost invariant = { λ grid. (length grid.values.items ≡ grid.rows * C.COUNT) × (grid.rows ≤ grid.room)
+        × (grid.room * C.COUNT ≤ vec_capacity grid.values) };
 }
 
 impl<C: CornerSet, T: Copy> Grid<C, T> {

@@ -26,5 +26,6 @@ agree_at f g (suc n) h b lt =
     elim (cases_eq b n) [ inl same ↦ rw same both.0 | inr other ↦ agree_at f g n both.1 b (omega arith) ]
 
 -- a table that agrees with a class at each of the 256 bytes tells the class
-pub from_table : (table : List ℕ) (class : ℕ → Bool) (byte : ℕ) → byte < 256 → agree_below (is_listed table) class 256 ≡ true → is_listed table byte ≡ class byte
+pub from_table : (table : List ℕ) (class : ℕ → Bool) (byte : ℕ) → byte < 256 → agree_below (is_listed table) class 256 ≡ true
+    → is_listed table byte ≡ class byte
 from_table table class byte lt h = agree_at (is_listed table) class 256 h byte lt

@@ -11,7 +11,8 @@ pub record Gathered (text waiting : List ℕ) (before after : Option (List ℕ))
   pub written : after ≡ appended before front
 
 -- on `Ok` the text is written or waits; on `Err` a front of it was put at the end, and the count of faults rose
-pub record Pushes (text waiting : List ℕ) (before after : Option (List ℕ)) (faults faults' : ℕ) (result : Result (Unit {0}) Failed) : Type 0 where
+pub record Pushes (text waiting : List ℕ) (before after : Option (List ℕ)) (faults faults' : ℕ)
+    (result : Result (Unit {0}) Failed) : Type 0 where
   pub ok : OnOk result (Gathered text waiting before after)
   pub cut : OnErr result (AppendsFrontOf text before after)
   pub later : faults ≤ faults'

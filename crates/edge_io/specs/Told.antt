@@ -14,7 +14,8 @@ abbrev pub AppendsFrontOf : List ℕ → Option (List ℕ) → Option (List ℕ)
 AppendsFrontOf text before after = (count : ℕ) × (after ≡ appended before (take count text))
 
 -- one text after another
-pub appended-appended : (before : Option (List ℕ)) (first second : List ℕ) → appended (appended before first) second ≡ appended before (first ++ second)
+pub appended-appended : (before : Option (List ℕ)) (first second : List ℕ)
+    → appended (appended before first) second ≡ appended before (first ++ second)
 appended-appended None first second = refl
 appended-appended (Some before) first second = ap Some (append_assoc before first second)
 
@@ -24,15 +25,21 @@ appended-nothing None = refl
 appended-nothing (Some before) = ap Some (append-nil before)
 
 -- a front of a text is a front of a longer one that begins with it
-pub front_of_first : (first second : List ℕ) (before after : Option (List ℕ)) → AppendsFrontOf first before after → AppendsFrontOf (first ++ second) before after
+pub front_of_first : (first second : List ℕ) (before after : Option (List ℕ)) → AppendsFrontOf first before after
+    → AppendsFrontOf (first ++ second) before after
 front_of_first first second before after f =
     let count = min f.0 (length first) in
     let le : count ≤ length first = omega arith in
     (count, f.1 ∙ ap (appended before) (sym (take-append-le count first second le ∙ take_min f.0 first)))
 
 -- after a whole text, a front of the next is a front of both
-pub front_after : (first second : List ℕ) (before middle after : Option (List ℕ)) → middle ≡ appended before first → AppendsFrontOf second middle after → AppendsFrontOf (first ++ second) before after
-front_after first second before middle after whole f = (length first + f.0, f.1 ∙ ap (λ m. appended m (take f.0 second)) whole ∙ appended-appended before first (take f.0 second) ∙ ap (appended before) (sym (take-append-add first second f.0)))
+pub front_after : (first second : List ℕ) (before middle after : Option (List ℕ)) → middle ≡ appended before first
+    → AppendsFrontOf second middle after → AppendsFrontOf (first ++ second) before after
+front_after first second before middle after whole f = (
+  length first + f.0,
+  f.1 ∙ ap (λ m. appended m (take f.0 second)) whole ∙ appended-appended before first (take f.0 second) ∙ ap
+      (appended before) (sym (take-append-add first second f.0)),
+)
 
 -- all of a text is a front of it
 pub front_of_all : (text : List ℕ) (before after : Option (List ℕ)) → after ≡ appended before text → AppendsFrontOf text before after

@@ -42,7 +42,14 @@ impl Model for MemShelf {
 
     ghost Value = { ShelfState };
 
-    ghost view = { λ shelf. record { files = shelf.files.items; left = left_of shelf.files.items shelf.opened shelf.at; most = shelf.most; calls = shelf.plan; opens = shelf.opens; reads = shelf.reads } };
+    ghost view = { λ shelf. record {
+      files = shelf.files.items;
+      left = left_of shelf.files.items shelf.opened shelf.at;
+      most = shelf.most;
+      calls = shelf.plan;
+      opens = shelf.opens;
+      reads = shelf.reads;
+    } };
 
     ghost invariant = { λ shelf. IsOpen shelf.files.items shelf.opened shelf.at × (1 ≤ shelf.most) };
 }
@@ -76,7 +83,8 @@ impl MemShelf {
 
     /// The call of this number is to fail too.
     pub fn fail_at(&mut self, call: u64) -> Result<(), OutOfMemory>
-        ensures ok { OnOk result (self.new ≡ record self.old { calls = record self.old.calls { failing = self.old.calls.failing ++ call ∷ [] } }) }
+        ensures ok { OnOk result (self.new ≡ record self.old
+            { calls = record self.old.calls { failing = self.old.calls.failing ++ call ∷ [] } }) }
         ensures err { OnErr result (self.new ≡ self.old) }
     {
         self.plan.fail_at(call)

@@ -48,7 +48,8 @@ impl MemSink {
 
     /// The write of this number, from 1, is to fail too.
     pub fn fail_at(&mut self, call: u64) -> Result<(), OutOfMemory>
-        ensures ok { OnOk result (self.new ≡ record self.old { calls = record self.old.calls { failing = self.old.calls.failing ++ call ∷ [] } }) }
+        ensures ok { OnOk result (self.new ≡ record self.old
+            { calls = record self.old.calls { failing = self.old.calls.failing ++ call ∷ [] } }) }
         ensures err { OnErr result (self.new ≡ self.old) }
     {
         self.plan.fail_at(call)
@@ -70,7 +71,8 @@ impl Sink for MemSink {
     fn write(&mut self, piece: &[u8]) -> Result<usize, Failed>
         ensures most { self.new.most ≡ self.old.most }
         ensures room { self.new.room ≡ self.old.room }
-        ensures count { IfOk result (λ count. count ≡ min self.old.most (min (length piece.now) (self.old.room - length self.old.written))) }
+        ensures count { IfOk result (λ count. count
+            ≡ min self.old.most (min (length piece.now) (self.old.room - length self.old.written))) }
         ensures bound { IfOk result (λ count. count ≤ length piece.now) }
         ensures some { IfOk result (λ count. 0 < length piece.now → 0 < count) }
         ensures taken { IfOk result (λ count. self.new.written ≡ self.old.written ++ take count piece.now) }
@@ -81,7 +83,8 @@ impl Sink for MemSink {
 
         // It fails exactly at the writes that are to fail and where no room is left, other than one
         // of an empty piece, and the count of faults rises exactly there.
-        ensures fails { IsErr result ↔ ((0 < length piece.now) × (IsTrue (fails_next self.old.calls) ⊎ (self.old.room ≤ length self.old.written))) }
+        ensures fails { IsErr result
+            ↔ ((0 < length piece.now) × (IsTrue (fails_next self.old.calls) ⊎ (self.old.room ≤ length self.old.written))) }
         ensures calls { self.new.calls ≡ counted_call (fails_write self.old (length piece.now)) self.old.calls }
     {
         let fails = self.plan.begin();

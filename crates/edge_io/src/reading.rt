@@ -62,7 +62,8 @@ pub fn read_file<H: Shelf>(
     ensures short { IfOk result (λ text. length text ≤ limit) }
     ensures long { result ≡ Err ReadEnd.TooLong → HoldsMore (H.held shelf.old) name.now limit }
     ensures taken { result ≡ Err ReadEnd.TooLong → Took (H.held shelf.old) name.now (limit + 1) (H.left shelf.new) }
-    ensures fault { result ≡ Err ReadEnd.ReadFault → Rose (H.faults shelf.old) (H.faults shelf.new) ⊎ TellsMissing (H.held shelf.old) name.now }
+    ensures fault { result ≡ Err ReadEnd.ReadFault
+        → Rose (H.faults shelf.old) (H.faults shelf.new) ⊎ TellsMissing (H.held shelf.old) name.now }
     ensures later { H.faults shelf.old ≤ H.faults shelf.new }
     ensures opens { RoseBy 1 (H.opens shelf.old) (H.opens shelf.new) }
     ensures reads { H.reads shelf.new ≤ H.reads shelf.old + (limit + 1) }

@@ -54,7 +54,8 @@ impl WaitingBytes {
     /// room are written behind them. `Failed` comes only where the sink's count of faults rose.
     #[inline]
     pub fn push<O: Sink>(&mut self, sink: &mut O, bytes: &[u8]) -> Result<(), Failed>
-        ensures pushes { Pushes (self.old ++ bytes.now) self.new (O.written sink.old) (O.written sink.new) (O.faults sink.old) (O.faults sink.new) result }
+        ensures pushes { Pushes (self.old ++ bytes.now) self.new (O.written sink.old) (O.written sink.new) (O.faults sink.old)
+            (O.faults sink.new) result }
     {
         if bytes.len() <= SIZE - self.filled {
             self.keep(bytes);

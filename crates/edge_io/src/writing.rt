@@ -18,7 +18,8 @@ pub fn write_all<O: Sink>(sink: &mut O, bytes: &[u8]) -> Result<(), Failed>
 
 /// Writes two texts, one after the other.
 pub fn write_2<O: Sink>(sink: &mut O, first: &[u8], second: &[u8]) -> Result<(), Failed>
-    ensures writes { Writes (first.now ++ second.now) (O.written sink.old) (O.written sink.new) (O.faults sink.old) (O.faults sink.new) result }
+    ensures writes { Writes (first.now ++ second.now) (O.written sink.old) (O.written sink.new) (O.faults sink.old)
+        (O.faults sink.new) result }
 {
     write_all(sink, first)?;
     write_all(sink, second)?;
@@ -32,7 +33,8 @@ pub fn write_3<O: Sink>(
     second: &[u8],
     third: &[u8],
 ) -> Result<(), Failed>
-    ensures writes { Writes (first.now ++ (second.now ++ third.now)) (O.written sink.old) (O.written sink.new) (O.faults sink.old) (O.faults sink.new) result }
+    ensures writes { Writes (first.now ++ (second.now ++ third.now)) (O.written sink.old) (O.written sink.new) (O.faults sink.old)
+        (O.faults sink.new) result }
 {
     write_all(sink, first)?;
     write_2(sink, second, third)?;
@@ -47,7 +49,8 @@ pub fn write_4<O: Sink>(
     third: &[u8],
     fourth: &[u8],
 ) -> Result<(), Failed>
-    ensures writes { Writes (first.now ++ (second.now ++ (third.now ++ fourth.now))) (O.written sink.old) (O.written sink.new) (O.faults sink.old) (O.faults sink.new) result }
+    ensures writes { Writes (first.now ++ (second.now ++ (third.now ++ fourth.now))) (O.written sink.old) (O.written sink.new)
+        (O.faults sink.old) (O.faults sink.new) result }
 {
     write_all(sink, first)?;
     write_3(sink, second, third, fourth)?;
@@ -63,7 +66,8 @@ pub fn write_5<O: Sink>(
     fourth: &[u8],
     fifth: &[u8],
 ) -> Result<(), Failed>
-    ensures writes { Writes (first.now ++ (second.now ++ (third.now ++ (fourth.now ++ fifth.now)))) (O.written sink.old) (O.written sink.new) (O.faults sink.old) (O.faults sink.new) result }
+    ensures writes { Writes (first.now ++ (second.now ++ (third.now ++ (fourth.now ++ fifth.now)))) (O.written sink.old)
+        (O.written sink.new) (O.faults sink.old) (O.faults sink.new) result }
 {
     write_all(sink, first)?;
     write_4(sink, second, third, fourth, fifth)?;

@@ -20,7 +20,8 @@ pub fn elmore_into<C: CornerSet, L: Ledger>(
     steps: &mut Steps<L>,
 )
     requires room { node_count tree.now * C.COUNT ≤ length scratch.old }
-    ensures delays { (node : ℕ) (corner : C.Index) → node < node_count tree.now → HasDelay C.COUNT tree.now scratch.new node (C.number_of corner) }
+    ensures delays { (node : ℕ) (corner : C.Index) → node < node_count tree.now
+        → HasDelay C.COUNT tree.now scratch.new node (C.number_of corner) }
     ensures size { length scratch.new ≡ length scratch.old }
     ensures steps { steps.new ≤ steps.old + 12 * C.COUNT * node_count tree.now }
 {
@@ -44,7 +45,8 @@ fn delays_at<C: CornerSet, L: Ledger>(
     requires some { 0 < node_count tree.now }
     requires room { node_count tree.now * C.COUNT ≤ length scratch.old }
     ensures delays { (node : ℕ) → node < node_count tree.now → column C.COUNT scratch.new (C.number_of corner) node
-        ≡ delay_of (parent_of tree.now) (node_count tree.now) (ohms_of C.COUNT tree.now (C.number_of corner)) (farads_of C.COUNT tree.now (C.number_of corner)) node }
+        ≡ delay_of (parent_of tree.now) (node_count tree.now) (ohms_of C.COUNT tree.now (C.number_of corner))
+        (farads_of C.COUNT tree.now (C.number_of corner)) node }
     ensures others { KeepsOthers C.COUNT scratch.old scratch.new (C.number_of corner) }
     ensures steps { steps.new ≤ steps.old + 11 * node_count tree.now }
 {

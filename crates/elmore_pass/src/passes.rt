@@ -19,7 +19,8 @@ pub fn place_farads<C: CornerSet, L: Ledger>(
     steps: &mut Steps<L>,
 )
     requires { node_count tree.now * C.COUNT ≤ length scratch.old }
-    ensures placed { (node : ℕ) → node < node_count tree.now → column C.COUNT scratch.new (C.number_of corner) node ≡ farads_of C.COUNT tree.now (C.number_of corner) node }
+    ensures placed { (node : ℕ) → node < node_count tree.now
+        → column C.COUNT scratch.new (C.number_of corner) node ≡ farads_of C.COUNT tree.now (C.number_of corner) node }
     ensures others { KeepsOthers C.COUNT scratch.old scratch.new (C.number_of corner) }
     ensures steps { steps.new ≡ steps.old + 2 * node_count tree.now }
 {
@@ -39,7 +40,8 @@ pub fn gather<C: CornerSet, L: Ledger>(
 )
     requires some { 0 < node_count tree.now }
     requires room { node_count tree.now * C.COUNT ≤ length scratch.old }
-    requires placed { (node : ℕ) → node < node_count tree.now → column C.COUNT scratch.old (C.number_of corner) node ≡ farads_of C.COUNT tree.now (C.number_of corner) node }
+    requires placed { (node : ℕ) → node < node_count tree.now
+        → column C.COUNT scratch.old (C.number_of corner) node ≡ farads_of C.COUNT tree.now (C.number_of corner) node }
     ensures below { (node : ℕ) → node < node_count tree.now → column C.COUNT scratch.new (C.number_of corner) node
         ≡ farads_below (parent_of tree.now) (node_count tree.now) (farads_of C.COUNT tree.now (C.number_of corner)) node }
     ensures others { KeepsOthers C.COUNT scratch.old scratch.new (C.number_of corner) }
@@ -62,7 +64,8 @@ pub fn spread<C: CornerSet, L: Ledger>(
     requires below { (node : ℕ) → node < node_count tree.now → column C.COUNT scratch.old (C.number_of corner) node
         ≡ farads_below (parent_of tree.now) (node_count tree.now) (farads_of C.COUNT tree.now (C.number_of corner)) node }
     ensures delays { (node : ℕ) → node < node_count tree.now → column C.COUNT scratch.new (C.number_of corner) node
-        ≡ delay_of (parent_of tree.now) (node_count tree.now) (ohms_of C.COUNT tree.now (C.number_of corner)) (farads_of C.COUNT tree.now (C.number_of corner)) node }
+        ≡ delay_of (parent_of tree.now) (node_count tree.now) (ohms_of C.COUNT tree.now (C.number_of corner))
+        (farads_of C.COUNT tree.now (C.number_of corner)) node }
     ensures others { KeepsOthers C.COUNT scratch.old scratch.new (C.number_of corner) }
     ensures steps { steps.new ≤ steps.old + 5 * node_count tree.now }
 {
@@ -83,9 +86,11 @@ fn give_to_parent<C: CornerSet, L: Ledger>(
     requires room { node_count tree.now * C.COUNT ≤ length scratch.old }
     requires some { 0 < node.0 }
     requires within { node.0 < node_count tree.now }
-    requires fits { column C.COUNT scratch.old (C.number_of corner) (parent_of tree.now node.0) + column C.COUNT scratch.old (C.number_of corner) node.0 < 2 ^ 128 }
+    requires fits { column C.COUNT scratch.old (C.number_of corner) (parent_of tree.now node.0) + column C.COUNT scratch.old
+        (C.number_of corner) node.0 < 2 ^ 128 }
     ensures given { scratch.new ≡ slice_set scratch.old (place C.COUNT (parent_of tree.now node.0) (C.number_of corner))
-        (column C.COUNT scratch.old (C.number_of corner) (parent_of tree.now node.0) + column C.COUNT scratch.old (C.number_of corner) node.0) }
+        (column C.COUNT scratch.old (C.number_of corner) (parent_of tree.now node.0) + column C.COUNT scratch.old
+        (C.number_of corner) node.0) }
     ensures steps { steps.new ≡ steps.old + 4 }
 {
     let below = scratch.value(node, corner, steps);

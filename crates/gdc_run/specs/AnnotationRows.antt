@@ -9,7 +9,8 @@ use Rattle.rc_tree.specs.Nodes.{Node}
 use Rattle.rc_tree.specs.Elmore.{IsElmore}
 use Rattle.sdf_writer.specs.SdfText.{WireRow}
 
--- the wire from the driver of a net to one of its sinks: their names, the node of the net that the sink is on, and the net's elements at each corner
+-- the wire from the driver of a net to one of its sinks: their names, the node of the net that the sink is on, and the net's elements at
+-- each corner
 pub record Wire : Type 0 where
   pub driver : NodeName
   pub sink : NodeName

@@ -42,7 +42,8 @@ pub record IsNamed (pins : List Pin) (place : ℕ) (name : List ℕ) : Type 0 wh
   pub here : slice_get pins place ≡ Some pin
   pub named : name ≡ pin.name
 
--- the row of an edge: its pins, and the interpolants of its tables, each rounded once, the delay to a femtosecond and the transition to an attosecond
+-- the row of an edge: its pins, and the interpolants of its tables, each rounded once, the delay to a femtosecond and the transition to an
+-- attosecond
 pub record IsArcRow (pins : List Pin) (slew load : ℕ) (at : ArcEdge) (row : ArcRow) : Type 0 where
   pub from : IsNamed pins at.arc.from row.from
   pub to : IsNamed pins at.arc.to row.to
@@ -63,11 +64,14 @@ pub record IsInside (slew load : ℕ) (tables : EdgeTables) : Type 0 where
 -- the first table of an edge that does not, the delay before the transition
 pub data IsEdgeOutside (slew load : ℕ) (tables : EdgeTables) : Part → Outside → Type 0 where
   delay_outside : {outside : Outside} → IsOutside tables.delay slew load outside → IsEdgeOutside slew load tables Delay outside
-  transition_outside : {outside : Outside} → Reaches tables.delay slew load → IsOutside tables.slew slew load outside → IsEdgeOutside slew load tables Transition outside
+  transition_outside : {outside : Outside} → Reaches tables.delay slew load → IsOutside tables.slew slew load outside
+      → IsEdgeOutside slew load tables Transition outside
 
 -- the refusal of an edge that is outside, with the name of its cell
-pub data IsEdgeRefusal (cell : List ℕ) (pins : List Pin) (arc : Arc) (edge : Edge) (part : Part) (outside : Outside) : Refusal → Type 0 where
-  outside_at : {from to : List ℕ} → IsNamed pins arc.from from → IsNamed pins arc.to to → IsEdgeRefusal cell pins arc edge part outside (refusal.Outside cell from to edge 0 part outside.axis outside.value)
+pub data IsEdgeRefusal (cell : List ℕ) (pins : List Pin) (arc : Arc) (edge : Edge) (part : Part) (outside : Outside) : Refusal
+    → Type 0 where
+  outside_at : {from to : List ℕ} → IsNamed pins arc.from from → IsNamed pins arc.to to
+      → IsEdgeRefusal cell pins arc edge part outside (refusal.Outside cell from to edge 0 part outside.axis outside.value)
 
 -- the first of some edges that is outside is refused
 pub record IsFirstOutside (cell : List ℕ) (pins : List Pin) (slew load : ℕ) (edges : List ArcEdge) (refusal : Refusal) : Type 0 where
@@ -91,4 +95,5 @@ pub record AddsEdges (pins : List Pin) (slew load : ℕ) (edges : List ArcEdge) 
 -- a cell of a name gives a row for each edge of its arcs, or is refused for the first that is outside
 pub data CellGives (name : List ℕ) (cell : TimedCell) (slew load : ℕ) : Result (List ArcRow) Refusal → Type 0 where
   all_inside : (rows : List ArcRow) → AddsEdges cell.pins slew load (arc_edges cell.arcs) [] rows → CellGives name cell slew load (Ok rows)
-  some_outside : (refusal : Refusal) → IsFirstOutside name cell.pins slew load (arc_edges cell.arcs) refusal → CellGives name cell slew load (Err refusal)
+  some_outside : (refusal : Refusal) → IsFirstOutside name cell.pins slew load (arc_edges cell.arcs) refusal
+      → CellGives name cell slew load (Err refusal)

@@ -40,6 +40,7 @@ abbrev pub MeansEnd : List (List ℕ) → Option Held → ℕ → ℕ → ℕ �
 MeansEnd words held faults faults' opens opens' (Ok output) = Unit {0}
 MeansEnd words held faults faults' opens opens' (Err (Usage fault)) = Unit {0}
 MeansEnd words held faults faults' opens opens' (Err (Phase (phase.Refused refusal))) = Unit {0}
-MeansEnd words held faults faults' opens opens' (Err (Phase (phase.ReadFault key))) = HasReadFault words held key faults faults' opens opens'
+MeansEnd words held faults faults' opens opens' (Err (Phase (phase.ReadFault key))) =
+    HasReadFault words held key faults faults' opens opens'
 MeansEnd words held faults faults' opens opens' (Err (Phase phase.OutOfMemory)) = Unit {0}
 MeansEnd words held faults faults' opens opens' (Err OutOfMemory) = Unit {0}

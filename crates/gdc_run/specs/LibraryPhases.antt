@@ -15,10 +15,12 @@ use Rattle.gdc_run.specs.declared.refusal.Refusal.TheVariants as refusal
 -- the bytes are a Liberty file, which says this tree, or they leave its grammar at a token, whose line and cause are these
 pub data ParsesLibrary (bytes : List ℕ) : Result Group Refusal → Type 0 where
   is_library : (library : Group) → SaysTree bytes library → ParsesLibrary bytes (Ok library)
-  is_no_library : (fault : SyntaxFault) → IsFault bytes fault → ParsesLibrary bytes (Err (refusal.LibrarySyntax 0 fault.token fault.line fault.cause))
+  is_no_library : (fault : SyntaxFault) → IsFault bytes fault
+      → ParsesLibrary bytes (Err (refusal.LibrarySyntax 0 fault.token fault.line fault.cause))
 
 -- the library has this model of the cell of a name, or no cell of that name, or the model has this first fault
 pub data ModelsCell (library : Group) (name : List ℕ) : Result TimedCell Refusal → Type 0 where
   has_model : (cell : TimedCell) → IsModel library name cell → ModelsCell library name (Ok cell)
   no_cell : IsCellFault library name NoSuchCell → ModelsCell library name (Err (refusal.UnknownCell name 0))
-  no_model : (fault : CellFault) → fault ≢ NoSuchCell → fault ≢ OutOfMemory → IsCellFault library name fault → ModelsCell library name (Err (refusal.CellFault name 0 fault))
+  no_model : (fault : CellFault) → fault ≢ NoSuchCell → fault ≢ OutOfMemory → IsCellFault library name fault
+      → ModelsCell library name (Err (refusal.CellFault name 0 fault))

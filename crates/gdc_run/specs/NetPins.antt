@@ -19,5 +19,6 @@ conn_of net (Some place) = option_to_list (slice_get net.conns place)
 -- a connection after those of which the one at this place is the sole driver, or none is: the sole driver of all of them, or there
 -- are several
 abbrev pub IsNextDriver : Option ℕ → ℕ → Listed → Result (Option ℕ) DriverEnd → Type 0
-IsNextDriver found place conn (Ok next) = ((filter drives (conn ∷ []) ≡ []) × (next ≡ found)) ⊎ ((filter drives (conn ∷ []) ≡ conn ∷ []) × (found ≡ None) × (next ≡ Some place))
+IsNextDriver found place conn (Ok next) =
+    ((filter drives (conn ∷ []) ≡ []) × (next ≡ found)) ⊎ ((filter drives (conn ∷ []) ≡ conn ∷ []) × (found ≡ None) × (next ≡ Some place))
 IsNextDriver found place conn (Err end) = (one : ℕ) × (found ≡ Some one) × (drives conn ≡ true) × (end ≡ ManyDrivers)

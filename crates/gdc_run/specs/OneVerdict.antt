@@ -46,7 +46,8 @@ SameStep _ _ = ⊥
 
 -- phases have one answer, the resistor of a mesh and the reading of a file aside
 abbrev pub HasOneAnswer : {A : Type 0} → (Step Refusal FileKey A → Type 0) → Type 0
-HasOneAnswer {A} phase = (one other : Step Refusal FileKey A) → phase one → phase other → IsDecided one → IsDecided other → SameStep one other
+HasOneAnswer {A} phase = (one other : Step Refusal FileKey A) → phase one → phase other → IsDecided one → IsDecided other
+    → SameStep one other
 
 abbrev pub IsDecidedVerdict : Verdict → Type 0
 IsDecidedVerdict (Faulty fault) = Unit {0}
@@ -59,7 +60,8 @@ SameVerdict _ _ = ⊥
 
 -- these words and what is held have one verdict, the resistor of a mesh and the reading of a file aside
 abbrev pub HasOneVerdict : List (List ℕ) → Held → Type 0
-HasOneVerdict words held = (one other : Verdict) → Gives words (Some held) one → Gives words (Some held) other → IsDecidedVerdict one → IsDecidedVerdict other → SameVerdict one other
+HasOneVerdict words held = (one other : Verdict) → Gives words (Some held) one → Gives words (Some held) other → IsDecidedVerdict one
+    → IsDecidedVerdict other → SameVerdict one other
 
 -- the verdict is one
 abbrev pub OneVerdict : Type 0
@@ -67,4 +69,5 @@ OneVerdict = (words : List (List ℕ)) (held : Held) → HasOneVerdict words hel
 
 -- the bytes of a SPEF file have one answer: nets, or a refusal
 abbrev pub OneReading : Type 0
-OneReading = (pick : Pick) (bytes : List ℕ) (one other : Result DesignNets Refusal) → ReadsNets pick bytes one → ReadsNets pick bytes other → one ≡ other
+OneReading = (pick : Pick) (bytes : List ℕ) (one other : Result DesignNets Refusal) → ReadsNets pick bytes one
+    → ReadsNets pick bytes other → one ≡ other

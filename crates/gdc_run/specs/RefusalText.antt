@@ -169,11 +169,14 @@ axis_text Load = codes "load"
 
 -- What ends the line of a refusal that names no token and no node. The corner of a run with one library is `only`.
 abbrev pub last_words : Refusal → List ℕ
-last_words (LibrarySyntax corner token line cause) = (codes " token " ++ (decimal token ++ codes " line ")) ++ (decimal line ++ (codes " " ++ (cause_text cause ++ 10 ∷ [])))
+last_words (LibrarySyntax corner token line cause) = (codes " token " ++ (decimal token ++ codes " line "))
+    ++ (decimal line ++ (codes " " ++ (cause_text cause ++ 10 ∷ [])))
 last_words (UnknownCell cell corner) = codes " only\n"
 last_words (refusal.CellFault cell corner fault) = codes " only " ++ (fault_text fault ++ 10 ∷ [])
 last_words (Outside instance from to edge corner part axis value) =
-    (codes " " ++ (from ++ (codes " " ++ (to ++ codes " ")))) ++ ((edge_text edge ++ (codes " only " ++ (part_text part ++ (codes " " ++ axis_text axis)))) ++ (codes " " ++ (decimal value ++ 10 ∷ [])))
+    (codes " " ++ (from ++ (codes " " ++ (to ++ codes " "))))
+    ++ ((edge_text edge ++ (codes " only " ++ (part_text part ++ (codes " " ++ axis_text axis))))
+    ++ (codes " " ++ (decimal value ++ 10 ∷ [])))
 last_words _ = 10 ∷ []
 
 -- what ends the line of a refusal: its token, or its node, or its last words
@@ -184,4 +187,5 @@ line_end None None words = words
 
 -- the line of a refusal
 abbrev pub refusal_line : Refusal → List ℕ
-refusal_line refusal = (codes "gdc: " ++ (head_text refusal ++ field_text refusal)) ++ line_end (token_in refusal) (node_in refusal) (last_words refusal)
+refusal_line refusal = (codes "gdc: " ++ (head_text refusal ++ field_text refusal))
+    ++ line_end (token_in refusal) (node_in refusal) (last_words refusal)

@@ -18,7 +18,8 @@ use Rattle.gdc_run.specs.declared.refusal.Refusal.TheVariants.{SpefSyntax, SpefF
 pub data ParsesSpef (bytes : List ℕ) : Result SpefText Refusal → Type 0 where
   is_spef : (file : SpefText) → Reads bytes file → ParsesSpef bytes (Ok file)
   no_spef : (token : ℕ) → LeavesSpef bytes token → HasForm bytes (grammar.Syntax token) → ParsesSpef bytes (Err (SpefSyntax token))
-  no_form : (word : List ℕ) (token : ℕ) → LeavesSpef bytes token → HasForm bytes (grammar.Form word token) → ParsesSpef bytes (Err (SpefForm word token))
+  no_form : (word : List ℕ) (token : ℕ) → LeavesSpef bytes token → HasForm bytes (grammar.Form word token)
+      → ParsesSpef bytes (Err (SpefForm word token))
 
 -- the file has a head, or a unit or an index of it is no good
 pub data HeadsSpef (file : SpefText) : Result HeadText Refusal → Type 0 where
@@ -37,9 +38,14 @@ pub record DesignNets : Type 0 where
 
 -- the sections have no fault and say this of their nets, each with its elements and no others, or they have a first fault
 pub data NetsSpef (pick : Pick) (file : SpefText) (head : HeadText) : Result (List NetElements) Refusal → Type 0 where
-  are_nets : (nets : List NetElements) → AreFaultless file head → AreNets (sole_corner pick) file head nets → All (AreWhole 1) nets → NetsSpef pick file head (Ok nets)
-  unknown_index : (token : ℕ) → IsSectionEnd file head (section.UnknownIndex token) → NetsSpef pick file head (Err (NameIndex Unknown token))
+  are_nets : (nets : List NetElements) → AreFaultless file head → AreNets (sole_corner pick) file head nets → All (AreWhole 1) nets
+      → NetsSpef pick file head (Ok nets)
+  unknown_index : (token : ℕ) → IsSectionEnd file head (section.UnknownIndex token)
+      → NetsSpef pick file head (Err (NameIndex Unknown token))
   bad_number : (token : ℕ) → IsSectionEnd file head (section.BadNumber token) → NetsSpef pick file head (Err (SpefNumber BadNumber token))
-  value_too_large : (token : ℕ) → IsSectionEnd file head (section.ValueTooLarge token) → NetsSpef pick file head (Err (SpefNumber ValueTooLarge token))
-  repeated_net : (net : List ℕ) (token : ℕ) → IsSectionEnd file head (section.RepeatedNet net token) → NetsSpef pick file head (Err (RepeatedNet net))
-  foreign_coupling : (net : List ℕ) (token : ℕ) → IsSectionEnd file head (section.ForeignCoupling net token) → NetsSpef pick file head (Err (ForeignCoupling net token))
+  value_too_large : (token : ℕ) → IsSectionEnd file head (section.ValueTooLarge token)
+      → NetsSpef pick file head (Err (SpefNumber ValueTooLarge token))
+  repeated_net : (net : List ℕ) (token : ℕ) → IsSectionEnd file head (section.RepeatedNet net token)
+      → NetsSpef pick file head (Err (RepeatedNet net))
+  foreign_coupling : (net : List ℕ) (token : ℕ) → IsSectionEnd file head (section.ForeignCoupling net token)
+      → NetsSpef pick file head (Err (ForeignCoupling net token))

@@ -50,16 +50,22 @@ ReadsSdf held name step = ReadsFile file_limit held Sdf (Limit (File Sdf)) name 
 -- what the bytes of a SPEF file say of their nets: its grammar, its head and its sections are read
 pub data ReadsNets (pick : Pick) (bytes : List ℕ) : Result DesignNets Refusal → Type 0 where
   at_grammar : (refusal : Refusal) → ParsesSpef bytes (Err refusal) → ReadsNets pick bytes (Err refusal)
-  at_head : (file : SpefText) (refusal : Refusal) → ParsesSpef bytes (Ok file) → HeadsSpef file (Err refusal) → ReadsNets pick bytes (Err refusal)
-  at_sections : (file : SpefText) (head : HeadText) (refusal : Refusal) → ParsesSpef bytes (Ok file) → HeadsSpef file (Ok head) → NetsSpef pick file head (Err refusal) → ReadsNets pick bytes (Err refusal)
-  through : (file : SpefText) (head : HeadText) (nets : List NetElements) → ParsesSpef bytes (Ok file) → HeadsSpef file (Ok head) → NetsSpef pick file head (Ok nets) → ReadsNets pick bytes (Ok (record { design = head.design; nets = nets }))
+  at_head : (file : SpefText) (refusal : Refusal) → ParsesSpef bytes (Ok file) → HeadsSpef file (Err refusal)
+      → ReadsNets pick bytes (Err refusal)
+  at_sections : (file : SpefText) (head : HeadText) (refusal : Refusal) → ParsesSpef bytes (Ok file) → HeadsSpef file (Ok head)
+      → NetsSpef pick file head (Err refusal) → ReadsNets pick bytes (Err refusal)
+  through : (file : SpefText) (head : HeadText) (nets : List NetElements) → ParsesSpef bytes (Ok file) → HeadsSpef file (Ok head)
+      → NetsSpef pick file head (Ok nets) → ReadsNets pick bytes (Ok (record { design = head.design; nets = nets }))
 
 -- `wires`: the SPEF file is read, then its nets, in its order, and each gives its rows
 pub data WiresGives (held : Option Held) (pick : Pick) (name : List ℕ) : Step Refusal FileKey SdfRows → Type 0 where
   at_reading : (why : Stop Refusal FileKey) → ReadsSpef held name (Halt why) → WiresGives held pick name (Halt why)
-  at_spef : (bytes : List ℕ) (refusal : Refusal) → ReadsSpef held name (Go bytes) → ReadsNets pick bytes (Err refusal) → WiresGives held pick name (Halt (RefusedBy refusal))
-  at_nets : (bytes : List ℕ) (design : DesignNets) (refusal : Refusal) → ReadsSpef held name (Go bytes) → ReadsNets pick bytes (Ok design) → RowsOf design (Err refusal) → WiresGives held pick name (Halt (RefusedBy refusal))
-  with_rows : (bytes : List ℕ) (design : DesignNets) (rows : SdfRows) → ReadsSpef held name (Go bytes) → ReadsNets pick bytes (Ok design) → RowsOf design (Ok rows) → WiresGives held pick name (Go rows)
+  at_spef : (bytes : List ℕ) (refusal : Refusal) → ReadsSpef held name (Go bytes) → ReadsNets pick bytes (Err refusal)
+      → WiresGives held pick name (Halt (RefusedBy refusal))
+  at_nets : (bytes : List ℕ) (design : DesignNets) (refusal : Refusal) → ReadsSpef held name (Go bytes) → ReadsNets pick bytes (Ok design)
+      → RowsOf design (Err refusal) → WiresGives held pick name (Halt (RefusedBy refusal))
+  with_rows : (bytes : List ℕ) (design : DesignNets) (rows : SdfRows) → ReadsSpef held name (Go bytes) → ReadsNets pick bytes (Ok design)
+      → RowsOf design (Ok rows) → WiresGives held pick name (Go rows)
 
 -- the bytes are an SDF file (IEEE 1497), which says these rows, or its dead token is this one
 pub data ParsesSdf (bytes : List ℕ) : Result (List SdfRow) Refusal → Type 0 where
@@ -69,8 +75,10 @@ pub data ParsesSdf (bytes : List ℕ) : Result (List SdfRow) Refusal → Type 0 
 -- `show`: the SDF file is read, and then its grammar
 pub data ShowGives (held : Option Held) (name : List ℕ) : Step Refusal FileKey (List SdfRow) → Type 0 where
   at_sdf_reading : (why : Stop Refusal FileKey) → ReadsSdf held name (Halt why) → ShowGives held name (Halt why)
-  at_sdf : (bytes : List ℕ) (refusal : Refusal) → ReadsSdf held name (Go bytes) → ParsesSdf bytes (Err refusal) → ShowGives held name (Halt (RefusedBy refusal))
-  with_sdf_rows : (bytes : List ℕ) (rows : List SdfRow) → ReadsSdf held name (Go bytes) → ParsesSdf bytes (Ok rows) → ShowGives held name (Go rows)
+  at_sdf : (bytes : List ℕ) (refusal : Refusal) → ReadsSdf held name (Go bytes) → ParsesSdf bytes (Err refusal)
+      → ShowGives held name (Halt (RefusedBy refusal))
+  with_sdf_rows : (bytes : List ℕ) (rows : List SdfRow) → ReadsSdf held name (Go bytes) → ParsesSdf bytes (Ok rows)
+      → ShowGives held name (Go rows)
 
 -- the phase that reads the library
 abbrev pub ReadsLib : Option Held → List ℕ → Step Refusal FileKey (List ℕ) → Type 0
@@ -110,7 +118,8 @@ As put phase (Halt why) = phase (Halt why)
 abbrev pub CommandGives : Option Held → Command → Request → Step Refusal FileKey Output → Type 0
 CommandGives held Wires request step = As output.Sdf (WiresGives held (pick_from request.given) (value_of request.given key.Spef)) step
 CommandGives held Show request step = As output.Listing (ShowGives held (value_of request.given key.Sdf)) step
-CommandGives held Lookup request step = ReadsPoint request (λ slew load. As output.Arcs (LookupGives held (value_of request.given key.Lib) (value_of request.given key.Cell) slew load) step)
+CommandGives held Lookup request step = ReadsPoint request
+    (λ slew load. As output.Arcs (LookupGives held (value_of request.given key.Lib) (value_of request.given key.Cell) slew load) step)
 CommandGives held Help request step = step ≡ Go output.Help
 CommandGives held Version request step = step ≡ Go output.Version
 

@@ -23,7 +23,12 @@ drives conn = if conn.port then conn.direction == 73 else conn.direction == 79
 
 -- the wires of a net with these pins, one for each sink, at one corner
 abbrev pub wires_of : NetElements → Pins → List Wire
-wires_of net pins = map (λ sink. record { driver = pins.driver; sink = sink; at = on_net net pins (node_of sink); corners = net_elements 1 net pins 0 ∷ [] }) pins.sinks
+wires_of net pins = map (λ sink. record {
+  driver = pins.driver;
+  sink = sink;
+  at = on_net net pins (node_of sink);
+  corners = net_elements 1 net pins 0 ∷ [];
+}) pins.sinks
 
 -- the connection at this place drives the net, and no other does
 pub record HasDriver (net : NetElements) (place : ℕ) : Type 0 where
@@ -41,16 +46,21 @@ pub data IsNoTree (net : NetElements) (pins : Pins) : Refusal → Type 0 where
 -- the one that drives are its sinks.
 pub data NetGives (net : NetElements) : Result (List WireRow) Refusal → Type 0 where
   no_driver : filter drives net.conns ≡ [] → NetGives net (Err (NoDriver net.net))
-  many_drivers : (one other : Listed) (others : List Listed) → filter drives net.conns ≡ one ∷ other ∷ others → NetGives net (Err (ManyDrivers net.net))
-  no_tree : (driver : ℕ) (refusal : Refusal) → HasDriver net driver → IsNoTree net (listed_pins 1 net driver) refusal → NetGives net (Err refusal)
-  is_tree : (driver : ℕ) (rows : List WireRow) → HasDriver net driver → IsFit net (listed_pins 1 net driver) → IsTree (net_elements 1 net (listed_pins 1 net driver) 0)
+  many_drivers : (one other : Listed) (others : List Listed) → filter drives net.conns ≡ one ∷ other ∷ others
+      → NetGives net (Err (ManyDrivers net.net))
+  no_tree : (driver : ℕ) (refusal : Refusal) → HasDriver net driver → IsNoTree net (listed_pins 1 net driver) refusal
+      → NetGives net (Err refusal)
+  is_tree : (driver : ℕ) (rows : List WireRow) → HasDriver net driver → IsFit net (listed_pins 1 net driver)
+      → IsTree (net_elements 1 net (listed_pins 1 net driver) 0)
       → AreAnnotationRows (wires_of net (listed_pins 1 net driver)) rows → NetGives net (Ok rows)
 
 -- the nets, up to the first that is refused
 pub data NetsGive : List NetElements → Result (List WireRow) Refusal → Type 0 where
   no_net : NetsGive [] (Ok [])
-  and_net : {nets : List NetElements} {rows more : List WireRow} {net : NetElements} → NetsGive nets (Ok rows) → NetGives net (Ok more) → NetsGive (nets ++ net ∷ []) (Ok (rows ++ more))
-  refused : {nets : List NetElements} {rows : List WireRow} {net : NetElements} {refusal : Refusal} (later : List NetElements) → NetsGive nets (Ok rows) → NetGives net (Err refusal) → NetsGive (nets ++ net ∷ later) (Err refusal)
+  and_net : {nets : List NetElements} {rows more : List WireRow} {net : NetElements} → NetsGive nets (Ok rows) → NetGives net (Ok more)
+      → NetsGive (nets ++ net ∷ []) (Ok (rows ++ more))
+  refused : {nets : List NetElements} {rows : List WireRow} {net : NetElements} {refusal : Refusal} (later : List NetElements)
+      → NetsGive nets (Ok rows) → NetGives net (Err refusal) → NetsGive (nets ++ net ∷ later) (Err refusal)
 
 -- the rows of a design's nets, those of wires alone
 abbrev pub RowsOf : DesignNets → Result SdfRows Refusal → Type 0

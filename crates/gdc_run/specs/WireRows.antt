@@ -25,9 +25,11 @@ pub data AddsNet (net : NetElements) : Result SdfRows Refusal → Result SdfRows
 -- the sections of a file are read, and their nets give rows: a fault of any section comes before a net that is refused
 pub data SectionsGive (pick : Pick) (file : SpefText) (head : HeadText) : Result SdfRows Refusal → Type 0 where
   faulty_section : (refusal : Refusal) → NetsSpef pick file head (Err refusal) → SectionsGive pick file head (Err refusal)
-  of_nets : (nets : List NetElements) (answer : Result SdfRows Refusal) → NetsSpef pick file head (Ok nets) → RowsOf (record { design = head.design; nets = nets }) answer → SectionsGive pick file head answer
+  of_nets : (nets : List NetElements) (answer : Result SdfRows Refusal) → NetsSpef pick file head (Ok nets)
+      → RowsOf (record { design = head.design; nets = nets }) answer → SectionsGive pick file head answer
 
 -- the bytes of a SPEF file are read, and its nets give rows
 pub data TextGives (pick : Pick) (bytes : List ℕ) : Result SdfRows Refusal → Type 0 where
   unread : (refusal : Refusal) → ReadsNets pick bytes (Err refusal) → TextGives pick bytes (Err refusal)
-  of_design : (design : DesignNets) (answer : Result SdfRows Refusal) → ReadsNets pick bytes (Ok design) → RowsOf design answer → TextGives pick bytes answer
+  of_design : (design : DesignNets) (answer : Result SdfRows Refusal) → ReadsNets pick bytes (Ok design) → RowsOf design answer
+      → TextGives pick bytes answer

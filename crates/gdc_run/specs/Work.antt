@@ -42,7 +42,8 @@ total_steps nets = sum_by most_steps nets
 -- the nets of the first sections of a file, in its order, none of which has a fault
 pub record AreFrontNets (pick : Pick) (file : SpefText) (head : HeadText) (nets : List NetElements) : Type 0 where
   pub few : length nets ≤ length file.reading.sections
-  pub each : (place : ℕ) (net : NetElements) → slice_get nets place ≡ Some net → IsNet (sole_corner pick) file head (section_at file.reading.sections place) net
+  pub each : (place : ℕ) (net : NetElements) → slice_get nets place ≡ Some net
+      → IsNet (sole_corner pick) file head (section_at file.reading.sections place) net
   pub faultless : AreFaultlessBefore file head (length nets)
 
 -- the work of the first sections of a file
@@ -52,7 +53,8 @@ pub data SectionsWork (pick : Pick) (file : SpefText) (head : HeadText) : ℕ �
 -- the work of a SPEF file's bytes: none before its head is read, and then that of its first sections
 pub data TextWork (pick : Pick) (bytes : List ℕ) : ℕ → Type 0 where
   no_head : TextWork pick bytes 0
-  of_head : {work : ℕ} (file : SpefText) (head : HeadText) → ParsesSpef bytes (Ok file) → HeadsSpef file (Ok head) → SectionsWork pick file head work → TextWork pick bytes work
+  of_head : {work : ℕ} (file : SpefText) (head : HeadText) → ParsesSpef bytes (Ok file) → HeadsSpef file (Ok head)
+      → SectionsWork pick file head work → TextWork pick bytes work
 
 -- the work of `wires`: none before the SPEF file is read, and then that of its bytes
 pub data WiresWork (held : Option Held) (pick : Pick) (name : List ℕ) : ℕ → Type 0 where
@@ -81,7 +83,8 @@ CommandWork held Version request work = work ≡ 0
 -- the work of these words and of what is held: none before the words are read, and then that of their command
 pub data WordsWork (words : List (List ℕ)) (held : Option Held) : ℕ → Type 0 where
   no_words : WordsWork words held 0
-  of_words : {work : ℕ} (request : Request) → Asks words (Ok request) → CommandWork held request.command request work → WordsWork words held work
+  of_words : {work : ℕ} (request : Request) → Asks words (Ok request) → CommandWork held request.command request work
+      → WordsWork words held work
 
 -- a count rose by no more than a work
 pub record IsWithin (Work : ℕ → Type 0) (before after : ℕ) : Type 0 where

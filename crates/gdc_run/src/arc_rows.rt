@@ -203,7 +203,8 @@ fn add_edge<L: Ledger>(
     requires from { arc.now.from < length pins.now }
     requires to { arc.now.to < length pins.now }
     ensures ok { OnOk result (AddsEdges pins.now (unsigned_abs at.slew.0) at.load.0 (edge_of arc.now edge tables.now) rows.old rows.new) }
-    ensures refused { OnRefusal result (IsFirstOutside cell.now pins.now (unsigned_abs at.slew.0) at.load.0 (edge_of arc.now edge tables.now)) }
+    ensures refused { OnRefusal result
+        (IsFirstOutside cell.now pins.now (unsigned_abs at.slew.0) at.load.0 (edge_of arc.now edge tables.now)) }
     ensures forward { steps.old ≤ steps.new }
     ensures steps { steps.new ≤ steps.old + 64 * length (edge_of arc.now edge tables.now) }
 {

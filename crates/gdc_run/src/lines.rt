@@ -31,7 +31,8 @@ fn kind_text(kind: UsageKind) -> &'static [u8]
 }
 
 fn say_usage<E: Sink>(fault: &UsageFault, err: &mut E) -> Result<(), Failed>
-    ensures writes { Writes (usage_line fault.now.kind fault.now.place fault.now.key) (E.written err.old) (E.written err.new) (E.faults err.old) (E.faults err.new) result }
+    ensures writes { Writes (usage_line fault.now.kind fault.now.place fault.now.key) (E.written err.old) (E.written err.new)
+        (E.faults err.old) (E.faults err.new) result }
 {
     let kind = kind_text(fault.kind);
     match &fault.key {
@@ -46,7 +47,8 @@ fn say_usage<E: Sink>(fault: &UsageFault, err: &mut E) -> Result<(), Failed>
 
 // Names a token at the end of a line.
 fn say_token<E: Sink>(token: u64, err: &mut E) -> Result<(), Failed>
-    ensures writes { Writes (codes " token " ++ (decimal token ++ 10 ∷ [])) (E.written err.old) (E.written err.new) (E.faults err.old) (E.faults err.new) result }
+    ensures writes { Writes (codes " token " ++ (decimal token ++ 10 ∷ [])) (E.written err.old) (E.written err.new) (E.faults err.old)
+        (E.faults err.new) result }
 {
     let mut buffer = Buffer::new();
     let digits = buffer.format(token).as_bytes();
@@ -55,7 +57,8 @@ fn say_token<E: Sink>(token: u64, err: &mut E) -> Result<(), Failed>
 
 // Names a node at the end of a line.
 fn say_node<E: Sink>(node: &NodeName, err: &mut E) -> Result<(), Failed>
-    ensures writes { Writes (codes " " ++ node_text node.now.head node.now.tail) (E.written err.old) (E.written err.new) (E.faults err.old) (E.faults err.new) result }
+    ensures writes { Writes (codes " " ++ node_text node.now.head node.now.tail) (E.written err.old) (E.written err.new) (E.faults err.old)
+        (E.faults err.new) result }
 {
     match &node.tail {
         None => write_3(err, b" ", node.head.bytes(), b"\n"),
@@ -110,7 +113,9 @@ fn axis_text(axis: Which) -> &'static [u8]
 
 // Names a token of a library at the end of a line, with its line and the cause.
 fn say_place<E: Sink>(token: u64, line: u64, cause: Cause, err: &mut E) -> Result<(), Failed>
-    ensures writes { Writes ((codes " token " ++ (decimal token ++ codes " line ")) ++ (decimal line ++ (codes " " ++ (cause_text cause ++ 10 ∷ [])))) (E.written err.old) (E.written err.new) (E.faults err.old) (E.faults err.new) result }
+    ensures writes { Writes ((codes " token " ++ (decimal token ++ codes " line "))
+        ++ (decimal line ++ (codes " " ++ (cause_text cause ++ 10 ∷ [])))) (E.written err.old) (E.written err.new) (E.faults err.old)
+        (E.faults err.new) result }
 {
     let mut token_buffer = Buffer::new();
     let token = token_buffer.format(token).as_bytes();
@@ -123,7 +128,8 @@ fn say_place<E: Sink>(token: u64, line: u64, cause: Cause, err: &mut E) -> Resul
 
 // Names an edge, the part of it, and an axis.
 fn say_edge<E: Sink>(edge: Edge, part: Part, axis: Which, err: &mut E) -> Result<(), Failed>
-    ensures writes { Writes (edge_text edge ++ (codes " only " ++ (part_text part ++ (codes " " ++ axis_text axis)))) (E.written err.old) (E.written err.new) (E.faults err.old) (E.faults err.new) result }
+    ensures writes { Writes (edge_text edge ++ (codes " only " ++ (part_text part ++ (codes " " ++ axis_text axis)))) (E.written err.old)
+        (E.written err.new) (E.faults err.old) (E.faults err.new) result }
 {
     write_5(
         err,
@@ -137,7 +143,8 @@ fn say_edge<E: Sink>(edge: Edge, part: Part, axis: Which, err: &mut E) -> Result
 
 // Names a value at the end of a line.
 fn say_value<E: Sink>(value: u64, err: &mut E) -> Result<(), Failed>
-    ensures writes { Writes (codes " " ++ (decimal value ++ 10 ∷ [])) (E.written err.old) (E.written err.new) (E.faults err.old) (E.faults err.new) result }
+    ensures writes { Writes (codes " " ++ (decimal value ++ 10 ∷ [])) (E.written err.old) (E.written err.new) (E.faults err.old)
+        (E.faults err.new) result }
 {
     let mut buffer = Buffer::new();
     let digits = buffer.format(value).as_bytes();
@@ -146,7 +153,8 @@ fn say_value<E: Sink>(value: u64, err: &mut E) -> Result<(), Failed>
 
 // Names the pins of an arc.
 fn say_pins<E: Sink>(from: &[u8], to: &[u8], err: &mut E) -> Result<(), Failed>
-    ensures writes { Writes (codes " " ++ (from.now ++ (codes " " ++ (to.now ++ codes " ")))) (E.written err.old) (E.written err.new) (E.faults err.old) (E.faults err.new) result }
+    ensures writes { Writes (codes " " ++ (from.now ++ (codes " " ++ (to.now ++ codes " ")))) (E.written err.old) (E.written err.new)
+        (E.faults err.old) (E.faults err.new) result }
 {
     write_5(err, b" ", from, b" ", to, b" ")
 }
@@ -184,7 +192,8 @@ fn say_last<E: Sink>(refusal: &Refusal, err: &mut E) -> Result<(), Failed>
 
 // Ends the line of a refusal.
 fn say_end<E: Sink>(refusal: &Refusal, err: &mut E) -> Result<(), Failed>
-    ensures writes { Writes (line_end (token_in refusal.now) (node_in refusal.now) (last_words refusal.now)) (E.written err.old) (E.written err.new) (E.faults err.old) (E.faults err.new) result }
+    ensures writes { Writes (line_end (token_in refusal.now) (node_in refusal.now) (last_words refusal.now)) (E.written err.old)
+        (E.written err.new) (E.faults err.old) (E.faults err.new) result }
 {
     if let Some(token) = refusal.token() {
         return say_token(token, err);
@@ -196,7 +205,8 @@ fn say_end<E: Sink>(refusal: &Refusal, err: &mut E) -> Result<(), Failed>
 }
 
 fn say_refusal<E: Sink>(refusal: &Refusal, err: &mut E) -> Result<(), Failed>
-    ensures writes { Writes (refusal_line refusal.now) (E.written err.old) (E.written err.new) (E.faults err.old) (E.faults err.new) result }
+    ensures writes { Writes (refusal_line refusal.now) (E.written err.old) (E.written err.new) (E.faults err.old)
+        (E.faults err.new) result }
 {
     write_3(err, b"gdc: ", refusal.head(), refusal.field())?;
     say_end(refusal, err)?;

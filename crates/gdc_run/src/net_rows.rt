@@ -72,7 +72,9 @@ fn add_rows<L: Ledger>(
     requires one_row { length delay.old.values ≡ 1 }
     requires delays { HasDelays tree.now delays.now }
     requires sinks { length tree.now.sinks ≡ length (listed_pins 1 net.now pins.now.driver).sinks }
-    ensures rows { OnOk result (AddsRows (listed_pins 1 net.now pins.now.driver) tree.now (length (listed_pins 1 net.now pins.now.driver).sinks) rows.old rows.new) }
+    ensures rows { OnOk result
+        (AddsRows (listed_pins 1 net.now pins.now.driver) tree.now
+        (length (listed_pins 1 net.now pins.now.driver).sinks) rows.old rows.new) }
     ensures one_row { length delay.new.values ≡ 1 }
     ensures steps { steps.new ≤ steps.old + length (listed_pins 1 net.now pins.now.driver).sinks }
 {

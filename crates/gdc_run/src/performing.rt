@@ -27,7 +27,8 @@ pub fn perform<H: Shelf, L: Ledger>(
     steps: &mut Steps<L>,
 ) -> Result<Output, PhaseEnd<Refusal, FileKey>>
     ensures follows { Follows (CommandGives (H.held shelf.old) asked.now.command asked.now) result }
-    ensures fault { AtReadFault result (HasCause (H.held shelf.old) asked.now (H.faults shelf.old) (H.faults shelf.new) (H.opens shelf.old) (H.opens shelf.new)) }
+    ensures fault { AtReadFault result
+        (HasCause (H.held shelf.old) asked.now (H.faults shelf.old) (H.faults shelf.new) (H.opens shelf.old) (H.opens shelf.new)) }
     ensures steps { IsWithin (CommandWork (H.held shelf.old) asked.now.command asked.now) steps.old steps.new }
     ensures no_steps { OnEarly result (steps.new ≡ steps.old) }
 {

@@ -66,7 +66,8 @@ fn decide<H: Shelf, L: Ledger>(
     steps: &mut Steps<L>,
 ) -> Result<Output, End>
     ensures follows { FollowsTop words.now (H.held shelf.old) result }
-    ensures fault { MeansEnd words.now (H.held shelf.old) (H.faults shelf.old) (H.faults shelf.new) (H.opens shelf.old) (H.opens shelf.new) result }
+    ensures fault { MeansEnd words.now (H.held shelf.old) (H.faults shelf.old) (H.faults shelf.new) (H.opens shelf.old)
+        (H.opens shelf.new) result }
     ensures steps { IsWithin (WordsWork words.now (H.held shelf.old)) steps.old steps.new }
     ensures no_steps { OnEarlyEnd result (steps.new ≡ steps.old) }
 {

@@ -93,7 +93,8 @@ is_decimal Slew = true
 is_decimal Load = true
 is_decimal _ = false
 
--- A value has the form that its key wants: the name of a file or of a cell is a text that is not empty, a member of a triple has its word, and a
+-- A value has the form that its key wants: the name of a file or of a cell is a text that is not empty, a member of a triple has its word,
+-- and a
 -- decimal reads as grains.
 abbrev pub IsValue : Key → List ℕ → Type 0
 IsValue Spef value = IsTrue (is_filled value)
@@ -131,29 +132,38 @@ new_key command given place (Some key) =
     if takes_key command key then (if is_given given key then Err (fault_at Repeated place) else Ok key)
     else Err (fault_at UnknownWord place)
 
--- The pairs of the words from a place on, behind those that are given, or their first fault: at a key first an unknown word, then a repeated
+-- The pairs of the words from a place on, behind those that are given, or their first fault: at a key first an unknown word, then a
+-- repeated
 -- key, then a missing value; and then a bad value at the value.
 pub data PairsFrom (command : Command) : List Given → ℕ → List (List ℕ) → Result (List Given) UsageFault → Type 0 where
   no_more : {given : List Given} {place : ℕ} → PairsFrom command given place [] (Ok given)
-  bad_key : {given : List Given} {place : ℕ} {word : List ℕ} {rest : List (List ℕ)} {fault : UsageFault} → new_key command given place (key_of word) ≡ Err fault → PairsFrom command given place (word ∷ rest) (Err fault)
-  no_value : {given : List Given} {place : ℕ} {word : List ℕ} {key : Key} → new_key command given place (key_of word) ≡ Ok key → PairsFrom command given place (word ∷ []) (Err (fault_at MissingValue place))
+  bad_key : {given : List Given} {place : ℕ} {word : List ℕ} {rest : List (List ℕ)} {fault : UsageFault}
+      → new_key command given place (key_of word) ≡ Err fault → PairsFrom command given place (word ∷ rest) (Err fault)
+  no_value : {given : List Given} {place : ℕ} {word : List ℕ} {key : Key} → new_key command given place (key_of word) ≡ Ok key
+      → PairsFrom command given place (word ∷ []) (Err (fault_at MissingValue place))
   bad_value : {given : List Given} {place : ℕ} {word value : List ℕ} {rest : List (List ℕ)} {key : Key}
-      → new_key command given place (key_of word) ≡ Ok key → ¬ IsValue key value → PairsFrom command given place (word ∷ value ∷ rest) (Err (fault_at BadValue (place + 1)))
-  and_pair : {given : List Given} {place : ℕ} {word value : List ℕ} {rest : List (List ℕ)} {key : Key} {answer : Result (List Given) UsageFault}
-      → new_key command given place (key_of word) ≡ Ok key → IsValue key value → PairsFrom command (given ++ record { key = key; value = value } ∷ []) (place + 2) rest answer
+      → new_key command given place (key_of word) ≡ Ok key → ¬ IsValue key value
+      → PairsFrom command given place (word ∷ value ∷ rest) (Err (fault_at BadValue (place + 1)))
+  and_pair : {given : List Given} {place : ℕ} {word value : List ℕ} {rest : List (List ℕ)} {key : Key}
+      {answer : Result (List Given) UsageFault}
+      → new_key command given place (key_of word) ≡ Ok key → IsValue key value
+      → PairsFrom command (given ++ record { key = key; value = value } ∷ []) (place + 2) rest answer
       → PairsFrom command given place (word ∷ value ∷ rest) answer
 
 -- What the words after the command ask for, or their first fault: that of a pair, and then the first needed key that does not stand.
 pub data AsksFor (command : Command) (words : List (List ℕ)) : Result Request UsageFault → Type 0 where
   bad_pair : {fault : UsageFault} → PairsFrom command [] 2 words (Err fault) → AsksFor command words (Err fault)
-  no_key : {given : List Given} {key : Key} → PairsFrom command [] 2 words (Ok given) → first_missing command given ≡ Some key → AsksFor command words (Err (missing_key key))
-  with_keys : {given : List Given} → PairsFrom command [] 2 words (Ok given) → first_missing command given ≡ None → AsksFor command words (Ok (record { command = command; given = given }))
+  no_key : {given : List Given} {key : Key} → PairsFrom command [] 2 words (Ok given) → first_missing command given ≡ Some key
+      → AsksFor command words (Err (missing_key key))
+  with_keys : {given : List Given} → PairsFrom command [] 2 words (Ok given) → first_missing command given ≡ None
+      → AsksFor command words (Ok (record { command = command; given = given }))
 
 -- what the words ask for, or their first fault
 pub data Asks : List (List ℕ) → Result Request UsageFault → Type 0 where
   no_command : Asks [] (Err (fault_at NoCommand 1))
   unknown_command : {word : List ℕ} {words : List (List ℕ)} → command_of word ≡ None → Asks (word ∷ words) (Err (fault_at UnknownCommand 1))
-  for_command : {word : List ℕ} {words : List (List ℕ)} {command : Command} {answer : Result Request UsageFault} → command_of word ≡ Some command → AsksFor command words answer → Asks (word ∷ words) answer
+  for_command : {word : List ℕ} {words : List (List ℕ)} {command : Command} {answer : Result Request UsageFault}
+      → command_of word ≡ Some command → AsksFor command words answer → Asks (word ∷ words) answer
 
 -- every key that the command needs stands, and each value has the form that its key wants
 pub record IsWhole (request : Request) : Type 0 where

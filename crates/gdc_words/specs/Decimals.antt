@@ -8,7 +8,8 @@ use Rattle.delay_units.specs.declared.numbers.Decimal.{Decimal}
 abbrev pub most_grains : ℕ
 most_grains = 10 ^ 12
 
--- A value reads as so many grains: picoseconds as attoseconds, or femtofarads as 10^-21 F, which are a million each, rounded half up to whole
+-- A value reads as so many grains: picoseconds as attoseconds, or femtofarads as 10^-21 F, which are a million each, rounded half up to
+-- whole
 -- grains. It has at most thirty significant digits and an exponent of at most 99 in size.
 pub record IsGrains (value : List ℕ) (grains : ℕ) : Type 0 where
   pub number : Decimal

@@ -52,7 +52,8 @@ further_text key = codes " [" ++ (key_word key ++ (codes " " ++ (value_word key 
 -- the two lines of a command: its word with its keys, and what it does
 abbrev pub command_lines : Command → List ℕ
 command_lines command =
-    line (codes "  " ++ (command_word command ++ (flat_map needed_text (needed_keys command) ++ flat_map further_text (further_keys command))))
+    line (codes "  " ++ (command_word command
+    ++ (flat_map needed_text (needed_keys command) ++ flat_map further_text (further_keys command))))
     ++ line (codes "      " ++ purpose command)
 
 -- the statuses with which the program ends

@@ -15,7 +15,11 @@ abbrev pub AreSound : FlatTree → Type 0
 AreSound f = AreTables f.names.items f.texts.items f.attributes.items f.children.items f.groups.items
 
 abbrev pub built_of : Builder → Built
-built_of b = record { name = b.name.items; parts = b.parts.items; frames = frames_of b.flat.names.items b.flat.texts.items (trees_of (tables_in b.flat).rows) b.open_groups.items }
+built_of b = record {
+  name = b.name.items;
+  parts = b.parts.items;
+  frames = frames_of b.flat.names.items b.flat.texts.items (trees_of (tables_in b.flat).rows) b.open_groups.items;
+}
 
 pub record IsBuilt (b : Builder) : Type 0 where
   pub tables : AreSound b.flat

@@ -23,18 +23,23 @@ IsOneDeeper tokens number = Begins IsToken (IsLibertyTo 17) (take number tokens)
 pub data IsCause (tokens : List Lexeme) : ℕ → Cause → Type 0 where
   bad_byte : {number : ℕ} {token : Lexeme} → token_at tokens number ≡ Some token → token.kind ≡ Bad → IsCause tokens number BadByte
   open_text : {number : ℕ} {token : Lexeme} → token_at tokens number ≡ Some token → token.kind ≡ OpenQuoted → IsCause tokens number OpenText
-  open_comment : {number : ℕ} {token : Lexeme} → token_at tokens number ≡ Some token → token.kind ≡ OpenNote → IsCause tokens number OpenComment
+  open_comment : {number : ℕ} {token : Lexeme} → token_at tokens number ≡ Some token → token.kind ≡ OpenNote
+      → IsCause tokens number OpenComment
   end_inside : {number : ℕ} → token_at tokens number ≡ None → IsCause tokens number EndInside
-  not_library : {number : ℕ} {token : Lexeme} → number ≡ 1 → token_at tokens number ≡ Some token → is_broken token.kind ≡ false → IsCause tokens number NotLibrary
-  too_deep : {number : ℕ} {token : Lexeme} → token_at tokens number ≡ Some token → token.kind ≡ LeftBrace → IsOneDeeper tokens number → IsCause tokens number TooDeep
-  unexpected : {number : ℕ} {token : Lexeme} → 1 < number → token_at tokens number ≡ Some token → is_broken token.kind ≡ false → (IsOneDeeper tokens number → ⊥) → IsCause tokens number Unexpected
+  not_library : {number : ℕ} {token : Lexeme} → number ≡ 1 → token_at tokens number ≡ Some token → is_broken token.kind ≡ false
+      → IsCause tokens number NotLibrary
+  too_deep : {number : ℕ} {token : Lexeme} → token_at tokens number ≡ Some token → token.kind ≡ LeftBrace → IsOneDeeper tokens number
+      → IsCause tokens number TooDeep
+  unexpected : {number : ℕ} {token : Lexeme} → 1 < number → token_at tokens number ≡ Some token → is_broken token.kind ≡ false
+      → (IsOneDeeper tokens number → ⊥) → IsCause tokens number Unexpected
 
 -- the place of a token's first byte, or of the end of the file
 abbrev pub place_of : List ℕ → Option Lexeme → ℕ
 place_of bytes (Some token) = token.start
 place_of bytes None = length bytes
 
--- the bytes are no Liberty file, and this is its fault: the dead token, the line of its first byte, or of the end of the file, and the cause
+-- the bytes are no Liberty file, and this is its fault: the dead token, the line of its first byte, or of the end of the file, and the
+-- cause
 pub record IsFault (bytes : List ℕ) (fault : SyntaxFault) : Type 0 where
   pub tokens : List Lexeme
   pub parted : AreTokens bytes tokens

@@ -1,4 +1,6 @@
--- The grammar of Liberty (Liberty User Guide), a relation by cases over numbered tokens: one definition for each line of it, with a constructor for each case. In each, `from` begins with what is said, and `rest` follows it. Groups may stand in one another up to a limit, the library being the first.
+-- The grammar of Liberty (Liberty User Guide), a relation by cases over numbered tokens: one definition for each line of it, with a
+-- constructor for each case. In each, `from` begins with what is said, and `rest` follows it. Groups may stand in one another up to a
+-- limit, the library being the first.
 use Rattle.std.specs.Prelude.{◌≡◌, ℕ, ◌+◌, ◌<◌, Bool, true, false, not, ◌&&◌, List, [], ◌∷◌, ◌++◌, ⊤}
 use Rattle.std.specs.Str.{bytes_eq}
 use Rattle.std.specs.Prelude.{codes}
@@ -80,15 +82,18 @@ mutual
     and_semicolon : {depth : ℕ} {from rest : List Tok} {attributes : List Attribute} {groups : Groups} {token : Tok}
         → Statements limit depth from attributes groups (token ∷ rest) → Is Semicolon token
         → Statements limit depth from attributes groups rest
-    and_simple : {depth : ℕ} {from middle rest : List Tok} {attributes : List Attribute} {groups : Groups} {name colon : Tok} {value : List ℕ}
+    and_simple : {depth : ℕ} {from middle rest : List Tok} {attributes : List Attribute} {groups : Groups}
+        {name colon : Tok} {value : List ℕ}
         → Statements limit depth from attributes groups (name ∷ colon ∷ middle)
         → IsName name → Is Colon colon → Joined middle value rest → EndsValue rest
         → Statements limit depth from (attributes ++ record { name = name.text.bytes; values = value ∷ [] } ∷ []) groups rest
-    and_complex : {depth : ℕ} {from middle rest : List Tok} {attributes : List Attribute} {groups : Groups} {name : Tok} {values : List (List ℕ)}
+    and_complex : {depth : ℕ} {from middle rest : List Tok} {attributes : List Attribute} {groups : Groups} {name : Tok}
+        {values : List (List ℕ)}
         → Statements limit depth from attributes groups (name ∷ middle)
         → IsName name → IsArgs middle values rest
         → Statements limit depth from (attributes ++ record { name = name.text.bytes; values = values } ∷ []) groups rest
-    and_inner : {depth : ℕ} {from middle body rest : List Tok} {attributes inner : List Attribute} {groups deeper : Groups} {name : Tok} {args : List (List ℕ)}
+    and_inner : {depth : ℕ} {from middle body rest : List Tok} {attributes inner : List Attribute} {groups deeper : Groups} {name : Tok}
+        {args : List (List ℕ)}
         → Statements limit depth from attributes groups (name ∷ middle)
         → IsName name → IsArgs middle args body
         → depth < limit → IsBody limit (depth + 1) body inner deeper rest

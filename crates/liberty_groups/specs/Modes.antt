@@ -1,4 +1,5 @@
--- A Liberty file taken one token at a time: what is waited for, and what each token then does. It is the grammar unrolled for the reader's loop; the proofs show that both say the same.
+-- A Liberty file taken one token at a time: what is waited for, and what each token then does. It is the grammar unrolled for the reader's
+-- loop; the proofs show that both say the same.
 use Rattle.std.specs.Prelude.{ℕ, Bool, true, false, nat_lt, List, [], ◌∷◌, ◌++◌, length, Result, Ok, Err}
 use Rattle.token_fronts.specs.Tokens.{Token}
 use Rattle.liberty_groups.specs.Tokens.{Lexeme}
@@ -21,7 +22,8 @@ pub record Frame : Type 0 where
 abbrev pub group_of : Frame → Group
 group_of frame = group frame.name frame.args frame.attributes frame.groups
 
--- what is waited for, the name and the arguments or the value of the statement that has begun, and the groups that have not ended, the innermost first
+-- what is waited for, the name and the arguments or the value of the statement that has begun, and the groups that have not ended, the
+-- innermost first
 pub record State : Type 0 where
   pub mode : Mode
   pub name : List ℕ
@@ -53,10 +55,21 @@ frame_of s = record { name = s.name; args = s.parts; attributes = []; groups = n
 
 abbrev pub add_attribute : List ℕ → List (List ℕ) → List Frame → List Frame
 add_attribute name values [] = []
-add_attribute name values (frame ∷ outer) = record { name = frame.name; args = frame.args; attributes = frame.attributes ++ record { name = name; values = values } ∷ []; groups = frame.groups } ∷ outer
+add_attribute name values (frame ∷ outer) =
+    record {
+      name = frame.name;
+      args = frame.args;
+      attributes = frame.attributes ++ record { name = name; values = values } ∷ [];
+      groups = frame.groups;
+    } ∷ outer
 
 abbrev pub add_group : Group → Frame → Frame
-add_group inner frame = record { name = frame.name; args = frame.args; attributes = frame.attributes; groups = and_group frame.groups inner }
+add_group inner frame = record {
+  name = frame.name;
+  args = frame.args;
+  attributes = frame.attributes;
+  groups = and_group frame.groups inner;
+}
 
 -- where a statement may begin
 abbrev pub in_body : List Frame → State

@@ -9,11 +9,21 @@ use Rattle.liberty_groups.specs.declared.rows.OpenGroup.{OpenGroup}
 
 -- its row, when it ends
 abbrev pub row_of_open : List ℕ → List (List ℕ) → OpenGroup → Row
-row_of_open names texts o = record { name = o.name; args = part_of texts o.args; attributes = attributes_in names texts o.attributes.items; children = map number_of o.children.items }
+row_of_open names texts o = record {
+  name = o.name;
+  args = part_of texts o.args;
+  attributes = attributes_in names texts o.attributes.items;
+  children = map number_of o.children.items;
+}
 
 -- what has been read of it, where the groups in it have these trees
 abbrev pub frame_of_open : List ℕ → List (List ℕ) → List Group → OpenGroup → Frame
-frame_of_open names texts trees o = record { name = o.name; args = part_of texts o.args; attributes = attributes_in names texts o.attributes.items; groups = gathered trees no_group (map number_of o.children.items) }
+frame_of_open names texts trees o = record {
+  name = o.name;
+  args = part_of texts o.args;
+  attributes = attributes_in names texts o.attributes.items;
+  groups = gathered trees no_group (map number_of o.children.items);
+}
 
 -- the innermost first
 abbrev pub frames_of : List ℕ → List (List ℕ) → List Group → List OpenGroup → List Frame

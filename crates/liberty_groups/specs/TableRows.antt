@@ -19,13 +19,22 @@ abbrev pub attribute_of : List ℕ → List (List ℕ) → AttributeRow → Attr
 attribute_of names texts row = record { name = part_of names row.name; values = part_of texts row.values }
 
 abbrev pub row_of : List (List ℕ) → List Attribute → List GroupId → GroupRow → Row
-row_of texts attributes children row = record { name = row.name; args = part_of texts row.args; attributes = part_of attributes row.attributes; children = map number_of (part_of children row.children) }
+row_of texts attributes children row = record {
+  name = row.name;
+  args = part_of texts row.args;
+  attributes = part_of attributes row.attributes;
+  children = map number_of (part_of children row.children);
+}
 
 abbrev pub attributes_in : List ℕ → List (List ℕ) → List AttributeRow → List Attribute
 attributes_in names texts rows = map (attribute_of names texts) rows
 
 abbrev pub tables_of : List ℕ → List (List ℕ) → List AttributeRow → List GroupId → List GroupRow → Tables
-tables_of names texts attributes children groups = record { rows = map (row_of texts (attributes_in names texts attributes) children) groups; attributes = attributes_in names texts attributes }
+tables_of names texts attributes children groups =
+    record {
+      rows = map (row_of texts (attributes_in names texts attributes) children) groups;
+      attributes = attributes_in names texts attributes;
+    }
 
 -- a span within a table of so many entries
 abbrev pub IsSpanIn : ℕ → Span → Type 0
@@ -41,7 +50,8 @@ pub record IsRowIn (texts attributes children : ℕ) (row : GroupRow) : Type 0 w
   pub inner : IsSpanIn children row.children
 
 -- every span lies in its table, the numbers fit, and the groups in a group come before it
-pub record AreTables (names : List ℕ) (texts : List (List ℕ)) (attributes : List AttributeRow) (children : List GroupId) (groups : List GroupRow) : Type 0 where
+pub record AreTables (names : List ℕ) (texts : List (List ℕ)) (attributes : List AttributeRow) (children : List GroupId)
+    (groups : List GroupRow) : Type 0 where
   pub values : All (LiesIn (length names) (length texts)) attributes
   pub spans : All (IsRowIn (length texts) (length attributes) (length children)) groups
   pub order : AreBehind (tables_of names texts attributes children groups).rows

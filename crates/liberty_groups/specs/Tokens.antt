@@ -16,7 +16,8 @@ use Rattle.token_texts.specs.declared.cuts.Cut.TheVariants.{Skip, Take}
 abbrev pub ends_gap : ℕ → Bool
 ends_gap byte = not (byte == tab || byte == carriage_return || byte == space)
 
--- A backslash with `rest` behind it, in which the first byte that is no gap is at this place: how many bytes of `rest` belong to the continuation, or 0, where there is none.
+-- A backslash with `rest` behind it, in which the first byte that is no gap is at this place: how many bytes of `rest` belong to the
+-- continuation, or 0, where there is none.
 abbrev pub continued_to : List ℕ → Option ℕ → ℕ
 continued_to rest None = 0
 continued_to rest (Some place) = if is_line_end (slice_index rest place) then place + 1 else 0
@@ -32,11 +33,13 @@ text_end escaped bytes = quote_end NextQuote escaped bytes
 abbrev pub is_dropped : ℕ → List ℕ → Bool
 is_dropped byte rest = byte == backslash && (begins_with quote rest || nat_lt 0 (continuation rest))
 
--- What the bytes between the quotes of a text say: continuations are dropped, and so is a backslash in front of a quote. Every other byte stands for itself. The first number is how many bytes of a continuation are still to be dropped.
+-- What the bytes between the quotes of a text say: continuations are dropped, and so is a backslash in front of a quote. Every other byte
+-- stands for itself. The first number is how many bytes of a continuation are still to be dropped.
 unfoldable pub meaning_behind : ℕ → List ℕ → List ℕ
 meaning_behind more [] = []
 meaning_behind (suc more) (byte ∷ rest) = meaning_behind more rest
-meaning_behind zero (byte ∷ rest) = if is_dropped byte rest then meaning_behind (continuation rest) rest else byte ∷ meaning_behind zero rest
+meaning_behind zero (byte ∷ rest) = if is_dropped byte rest then meaning_behind (continuation rest) rest else byte
+    ∷ meaning_behind zero rest
 
 abbrev pub meaning : List ℕ → List ℕ
 meaning bytes = meaning_behind 0 bytes
@@ -55,7 +58,8 @@ mark_of byte =
 
 abbrev pub is_mark : ℕ → Bool
 is_mark byte =
-    byte == left_paren || byte == right_paren || byte == left_brace || byte == right_brace || byte == colon || byte == semicolon || byte == comma
+    byte == left_paren || byte == right_paren || byte == left_brace || byte == right_brace || byte == colon
+    || byte == semicolon || byte == comma
 
 -- the bytes 33 to 126 but a quote and a backslash
 abbrev pub is_plain : ℕ → Bool
@@ -65,7 +69,8 @@ is_plain byte = nat_le 33 byte && nat_le byte 126 && not (byte == quote) && not 
 abbrev pub begins_comment : ℕ → List ℕ → Bool
 begins_comment byte rest = byte == slash && (begins_with star rest || begins_with slash rest)
 
--- a byte with `rest` behind it that a word goes on with, where so many `[` of the word are not closed: inside them a colon belongs to the word
+-- a byte with `rest` behind it that a word goes on with, where so many `[` of the word are not closed: inside them a colon belongs to the
+-- word
 abbrev pub goes_on : ℕ → ℕ → List ℕ → Bool
 goes_on opened byte rest = is_plain byte && not (begins_comment byte rest) && (not (is_mark byte) || (byte == colon && nat_lt 0 opened))
 
@@ -95,7 +100,8 @@ abbrev pub mark_or_word : ℕ → List ℕ → Option Kind → Cut Kind
 mark_or_word first rest (Some kind) = Take 1 kind
 mark_or_word first rest None = if is_plain first then Take (word_length 0 (first ∷ rest)) Word else Take (length rest + 1) Bad
 
--- What stands at the front of `first ∷ rest`: bytes that are passed over, or a token. What no text of the grammar has is a token that takes all.
+-- What stands at the front of `first ∷ rest`: bytes that are passed over, or a token. What no text of the grammar has is a token that takes
+-- all.
 unfoldable pub cut_at : ℕ → List ℕ → Cut Kind
 cut_at first rest =
     if is_blank first then Skip 1
@@ -118,7 +124,8 @@ said_by Word bytes = bytes
 said_by Quoted bytes = meaning (take (length bytes - 2) (drop 1 bytes))
 said_by _ bytes = []
 
--- A token: what it is, what it says, whether a line end that is no continuation's stands between it and the token before, and the place of its first byte in the file.
+-- A token: what it is, what it says, whether a line end that is no continuation's stands between it and the token before, and the place of
+-- its first byte in the file.
 pub record Lexeme : Type 0 where
   pub kind : Kind
   pub bytes : List ℕ
@@ -134,7 +141,8 @@ abbrev pub tokens_from : ℕ → Bool → List (Part Kind) → List Lexeme
 tokens_from start fresh [] = []
 tokens_from start fresh (gap bytes ∷ parts) = tokens_from (start + length bytes) (fresh || breaks bytes) parts
 tokens_from start fresh (token t ∷ parts) =
-    record { kind = t.kind; bytes = said_by t.kind t.bytes; fresh = fresh; start = start } ∷ tokens_from (start + length t.bytes) false parts
+    record { kind = t.kind; bytes = said_by t.kind t.bytes; fresh = fresh; start = start }
+    ∷ tokens_from (start + length t.bytes) false parts
 
 abbrev pub tokens_of : List (Part Kind) → List Lexeme
 tokens_of parts = tokens_from 0 false parts

@@ -16,16 +16,22 @@ use Rattle.liberty_groups.specs.declared.scan.Kind.TheVariants.{Word, Bad, LeftP
 use Rattle.token_texts.specs.declared.cuts.Cut.TheVariants.{Skip, Take}
 
 -- a word's first byte goes on with it
-word_from : (first : ℕ) (rest : List ℕ) → is_plain first ≡ true → begins_comment first rest ≡ false → is_mark first ≡ false → word_length 0 (first ∷ rest) ≡ word_length (opened_behind 0 first) rest + 1
+word_from : (first : ℕ) (rest : List ℕ) → is_plain first ≡ true → begins_comment first rest ≡ false → is_mark first ≡ false
+    → word_length 0 (first ∷ rest) ≡ word_length (opened_behind 0 first) rest + 1
 unfolding word_length
 word_from first rest p q r = simp (p, q, r)
 
-pub word_or_bad : (plain : Bool) (first : ℕ) (rest : List ℕ) → is_plain first ≡ plain → begins_comment first rest ≡ false → is_mark first ≡ false
-    → cond plain (Take (word_length 0 (first ∷ rest)) Word) (Take (length rest + 1) Bad) ≡ cond plain (Take (word_length (opened_behind 0 first) rest + 1) Word) (Take (length rest + 1) Bad)
+pub word_or_bad : (plain : Bool) (first : ℕ) (rest : List ℕ) → is_plain first ≡ plain → begins_comment first rest ≡ false
+    → is_mark first ≡ false
+    → cond plain (Take (word_length 0 (first ∷ rest)) Word) (Take (length rest + 1) Bad)
+    ≡ cond plain (Take (word_length (opened_behind 0 first) rest + 1) Word) (Take (length rest + 1) Bad)
 word_or_bad true first rest p q r = ap (λ n. Take n Word) (word_from first rest p q r)
 word_or_bad false first rest p q r = refl
 
-none_of : (a b c d e f g : Bool) → cond a (Some LeftParen) (cond b (Some RightParen) (cond c (Some LeftBrace) (cond d (Some RightBrace) (cond e (Some Colon) (cond f (Some Semicolon) (cond g (Some Comma) None)))))) ≡ None → (a || b || c || d || e || f || g) ≡ false
+none_of : (a b c d e f g : Bool) → cond a (Some LeftParen)
+    (cond b (Some RightParen)
+    (cond c (Some LeftBrace) (cond d (Some RightBrace) (cond e (Some Colon) (cond f (Some Semicolon) (cond g (Some Comma) None)))))) ≡ None
+    → (a || b || c || d || e || f || g) ≡ false
 none_of true b c d e f g h = absurd (cc)
 none_of false true c d e f g h = absurd (cc)
 none_of false false true d e f g h = absurd (cc)
@@ -36,7 +42,8 @@ none_of false false false false false false true h = absurd (cc)
 none_of false false false false false false false h = refl
 
 pub no_mark : (first : ℕ) → mark_of first ≡ None → is_mark first ≡ false
-no_mark first e = none_of (first == left_paren) (first == right_paren) (first == left_brace) (first == right_brace) (first == colon) (first == semicolon) (first == comma) e
+no_mark first e = none_of (first == left_paren) (first == right_paren) (first == left_brace) (first == right_brace) (first == colon)
+    (first == semicolon) (first == comma) e
 
 text_within : (rest : List ℕ) (end : Option ℕ) → ((i : ℕ) → end ≡ Some i → i < length rest) → IsWithin (length rest + 1) (text_cut rest end)
 text_within rest None below = (omega arith, omega arith)
@@ -49,9 +56,12 @@ continued_within rest (Some place) below =
     elim (is_line_end (slice_index rest place)) as (λ t. cond t (place + 1) 0 ≤ length rest) [ true ↦ omega arith | false ↦ omega arith ]
 
 backslash_within : (rest : List ℕ) (n : ℕ) → n ≤ length rest → IsWithin (length rest + 1) (backslash_cut rest n)
-backslash_within rest n le = elim (nat_lt 0 n) as (λ t. IsWithin (length rest + 1) (cond t (Skip (n + 1)) (Take (length rest + 1) Bad))) [ true ↦ (omega arith, omega arith) | false ↦ (omega arith, omega arith) ]
+backslash_within rest n le = elim (nat_lt 0 n) as
+    (λ t. IsWithin (length rest + 1) (cond t (Skip (n + 1)) (Take (length rest + 1) Bad)))
+    [ true ↦ (omega arith, omega arith) | false ↦ (omega arith, omega arith) ]
 
-comment_cut_within : (inner : List ℕ) (end : Option ℕ) → ((i : ℕ) → end ≡ Some i → i + 2 ≤ length inner) → IsWithin (length inner + 2) (comment_cut inner end)
+comment_cut_within : (inner : List ℕ) (end : Option ℕ) → ((i : ℕ) → end ≡ Some i → i + 2 ≤ length inner)
+    → IsWithin (length inner + 2) (comment_cut inner end)
 comment_cut_within inner None below = (omega arith, omega arith)
 comment_cut_within inner (Some place) below = let le = below place refl in (omega arith, omega arith)
 
@@ -59,7 +69,8 @@ second : (s t : Bool) → s && t ≡ true → t ≡ true
 second true t h = h
 second false t h = absurd (cc)
 
-comment_within : (rest : List ℕ) → begins_with star rest ≡ true → IsWithin (length rest + 1) (comment_cut (drop 1 rest) (comment_end (drop 1 rest)))
+comment_within : (rest : List ℕ) → begins_with star rest ≡ true
+    → IsWithin (length rest + 1) (comment_cut (drop 1 rest) (comment_end (drop 1 rest)))
 comment_within [] h = absurd (cc)
 comment_within (b ∷ rest) h =
     let within = comment_cut_within rest (comment_end rest) (pair_within star slash rest) in
@@ -71,12 +82,15 @@ unfolding word_length
 word_within opened [] = omega arith
 word_within opened (b ∷ rest) =
     let more = word_within (opened_behind opened b) rest in
-    elim (goes_on opened b rest) as (λ t. cond t (word_length (opened_behind opened b) rest + 1) 0 ≤ suc (length rest)) [ true ↦ omega arith | false ↦ omega arith ]
+    elim (goes_on opened b rest) as (λ t. cond t (word_length (opened_behind opened b) rest + 1) 0 ≤ suc (length rest))
+    [ true ↦ omega arith | false ↦ omega arith ]
 
 word_cut_within : (first : ℕ) (rest : List ℕ) → IsWithin (length rest + 1) (word_cut first rest)
 word_cut_within first rest =
     let more = word_within (opened_behind 0 first) rest in
-    elim (is_plain first) as (λ t. IsWithin (length rest + 1) (cond t (Take (word_length (opened_behind 0 first) rest + 1) Word) (Take (length rest + 1) Bad))) [ true ↦ (omega arith, omega arith) | false ↦ (omega arith, omega arith) ]
+    elim (is_plain first) as (λ t. IsWithin (length rest + 1)
+    (cond t (Take (word_length (opened_behind 0 first) rest + 1) Word) (Take (length rest + 1) Bad)))
+    [ true ↦ (omega arith, omega arith) | false ↦ (omega arith, omega arith) ]
 
 no_comment : (x a b : Bool) → (x && a) ≡ false → (x && b) ≡ false → (x && (b || a)) ≡ false
 no_comment true true b p q = absurd (cc)
@@ -84,17 +98,21 @@ no_comment true false true p q = absurd (cc)
 no_comment true false false p q = refl
 no_comment false a b p q = refl
 
-other_within : (first : ℕ) (rest : List ℕ) (mark : Option Kind) → mark_of first ≡ mark → begins_comment first rest ≡ false → IsWithin (length rest + 1) (mark_or_word first rest mark)
+other_within : (first : ℕ) (rest : List ℕ) (mark : Option Kind) → mark_of first ≡ mark → begins_comment first rest ≡ false
+    → IsWithin (length rest + 1) (mark_or_word first rest mark)
 other_within first rest (Some kind) is no_begin = (omega arith, omega arith)
 other_within first rest None is no_begin =
-    subst (IsWithin (length rest + 1)) (sym (word_or_bad (is_plain first) first rest refl no_begin (no_mark first is))) (word_cut_within first rest)
+    subst (IsWithin (length rest + 1)) (sym (word_or_bad (is_plain first) first rest refl no_begin (no_mark first is)))
+    (word_cut_within first rest)
 
 pub cut_within : (first : ℕ) (rest : List ℕ) → IsWithin (length rest + 1) (cut_at first rest)
 unfolding cut_at
 cut_within first rest =
-    by (is_blank first) (first == quote) (first == backslash) (first == slash && begins_with slash rest) (first == slash && begins_with star rest)
+    by (is_blank first) (first == quote) (first == backslash) (first == slash && begins_with slash rest)
+    (first == slash && begins_with star rest)
     (text_within rest (text_end false rest) (quote_within NextQuote false rest))
-    (backslash_within rest (continuation rest) (continued_within rest (position ends_gap rest) (λ i e. (position-Some ends_gap rest i 0 e).0)))
+    (backslash_within rest (continuation rest)
+    (continued_within rest (position ends_gap rest) (λ i e. (position-Some ends_gap rest i 0 e).0)))
     (line_within rest)
     (λ h. comment_within rest (second (first == slash) (begins_with star rest) h))
     (λ p q. other_within first rest (mark_of first) refl (no_comment (first == slash) (begins_with slash rest) (begins_with star rest) p q))
@@ -105,9 +123,14 @@ cut_within first rest =
         → IsWithin (length rest + 1) (backslash_cut rest (continuation rest))
         → IsWithin {K = Kind} (length rest + 1) (Skip (line_length rest))
         → (comment ≡ true → IsWithin (length rest + 1) (comment_cut (drop 1 rest) (comment_end (drop 1 rest))))
-        → ((first == slash && begins_with slash rest) ≡ false → (first == slash && begins_with star rest) ≡ false → IsWithin (length rest + 1) (mark_or_word first rest (mark_of first)))
+        → ((first == slash && begins_with slash rest) ≡ false → (first == slash && begins_with star rest) ≡ false
+        → IsWithin (length rest + 1) (mark_or_word first rest (mark_of first)))
         → (first == slash && begins_with slash rest) ≡ line → (first == slash && begins_with star rest) ≡ comment
-        → IsWithin {K = Kind} (length rest + 1) (cond blank (Skip 1) (cond text (text_cut rest (text_end false rest)) (cond gap (backslash_cut rest (continuation rest)) (cond line (Skip (line_length rest)) (cond comment (comment_cut (drop 1 rest) (comment_end (drop 1 rest))) (mark_or_word first rest (mark_of first)))))))
+        → IsWithin {K = Kind} (length rest + 1)
+        (cond blank (Skip 1) (cond text (text_cut rest (text_end false rest))
+        (cond gap (backslash_cut rest (continuation rest))
+        (cond line (Skip (line_length rest))
+        (cond comment (comment_cut (drop 1 rest) (comment_end (drop 1 rest))) (mark_or_word first rest (mark_of first)))))))
     by true text gap line comment quoted goes whole inside other p q = (omega arith, omega arith)
     by false true gap line comment quoted goes whole inside other p q = quoted
     by false false true line comment quoted goes whole inside other p q = goes

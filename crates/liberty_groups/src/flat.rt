@@ -40,7 +40,8 @@ impl FlatTree {
         requires sound { AreSound self.old }
         requires group { IsOpenIn (length self.old.names.items) (length self.old.texts.items) (length self.old.groups.items) group }
         ensures sound { OnOk result (AreSound self.new) }
-        ensures rows { OnOk result ((tables_in self.new).rows ≡ (tables_in self.old).rows ++ row_of_open self.old.names.items self.old.texts.items group ∷ []) }
+        ensures rows { OnOk result ((tables_in self.new).rows ≡ (tables_in self.old).rows
+            ++ row_of_open self.old.names.items self.old.texts.items group ∷ []) }
         ensures names { OnOk result (self.new.names.items ≡ self.old.names.items) }
         ensures texts { OnOk result (self.new.texts.items ≡ self.old.texts.items) }
         ensures number { IfOk result (λ id. id.0 ≡ length self.old.groups.items) }

@@ -158,7 +158,8 @@ impl Reader {
         requires sound { IsSound self.old }
         requires built { IsBuilt self.old.builder }
         requires depth { self.old.depth < 2 ^ 32 }
-        ensures state { (start : ℕ) → IfOk result (Steps (step_in 16 self.old.mode (state_of self.old) (lexeme kind bytes.now fresh start)) (state_of self.new)) }
+        ensures state { (start : ℕ) → IfOk result
+            (Steps (step_in 16 self.old.mode (state_of self.old) (lexeme kind bytes.now fresh start)) (state_of self.new)) }
         ensures sound { OnOk result (IsSound self.new) }
         ensures built { OnOk result (IsBuilt self.new.builder) }
     {

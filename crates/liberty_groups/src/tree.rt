@@ -134,7 +134,9 @@ impl GroupTree {
 /// The place of the last attribute of a name.
 fn last_of(names: &[u8], rows: &[AttributeRow], key: &[u8]) -> Option<usize>
     requires names { All (λ (row : AttributeRow). IsSpanIn (length names.now) row.name) rows.now }
-    ensures last { (texts : List (List ℕ)) → IfSome result (λ place. IsLastOf key.now (attributes_in names.now texts rows.now) (get_or (attributes_in names.now texts rows.now) place no_attribute)) }
+    ensures last { (texts : List (List ℕ)) → IfSome result
+        (λ place. IsLastOf key.now (attributes_in names.now texts rows.now)
+        (get_or (attributes_in names.now texts rows.now) place no_attribute)) }
     ensures within { IfSome result (λ place. place < length rows.now) }
     ensures absent { (texts : List (List ℕ)) → IfNone result (HasNone key.now (attributes_in names.now texts rows.now)) }
 {

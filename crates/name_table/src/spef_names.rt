@@ -225,7 +225,8 @@ fn stays_as(mark: Option<u8>, byte: u8) -> bool
 pub(crate) fn last_delimiter(word: &[u8], cut: bool, delimiter: u8) -> Option<usize>
     ensures none { IfNone result (halves_at delimiter cut (characters word.now) ≡ None) }
     ensures within { IfSome result (λ place. place < length word.now) }
-    ensures some { IfSome result (λ place. halves_at delimiter cut (characters word.now) ≡ Some (record { front = characters (take place word.now); back = characters (drop (place + 1) word.now) })) }
+    ensures some { IfSome result (λ place. halves_at delimiter cut (characters word.now)
+        ≡ Some (record { front = characters (take place word.now); back = characters (drop (place + 1) word.now) })) }
 {
     if cut {
         last_unescaped(word, delimiter)
@@ -239,7 +240,8 @@ pub(crate) fn last_delimiter(word: &[u8], cut: bool, delimiter: u8) -> Option<us
 fn last_unescaped(word: &[u8], delimiter: u8) -> Option<usize>
     ensures none { IfNone result (cut_last delimiter (characters word.now) ≡ None) }
     ensures within { IfSome result (λ place. place < length word.now) }
-    ensures some { IfSome result (λ place. cut_last delimiter (characters word.now) ≡ Some (record { front = characters (take place word.now); back = characters (drop (place + 1) word.now) })) }
+    ensures some { IfSome result (λ place. cut_last delimiter (characters word.now)
+        ≡ Some (record { front = characters (take place word.now); back = characters (drop (place + 1) word.now) })) }
 {
     match memrchr(delimiter, word) {
         None => None,
@@ -261,7 +263,8 @@ fn stands_alone(word: &[u8], place: usize, delimiter: u8) -> bool
 fn last_by_reading(word: &[u8], delimiter: u8) -> Option<usize>
     ensures none { IfNone result (cut_last delimiter (characters word.now) ≡ None) }
     ensures within { IfSome result (λ place. place < length word.now) }
-    ensures some { IfSome result (λ place. cut_last delimiter (characters word.now) ≡ Some (record { front = characters (take place word.now); back = characters (drop (place + 1) word.now) })) }
+    ensures some { IfSome result (λ place. cut_last delimiter (characters word.now)
+        ≡ Some (record { front = characters (take place word.now); back = characters (drop (place + 1) word.now) })) }
 {
     let mut last = None;
     let mut is_taken = false;

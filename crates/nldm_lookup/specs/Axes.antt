@@ -25,7 +25,8 @@ pub record FallsAt (points : List ℤ) (place : ℕ) : Type 0 where
 pub data IsAxisFault (points : List ℤ) : AxisFault → Type 0 where
   empty : length points ≡ 0 → IsAxisFault points Empty
   too_long : most_points < length points → IsAxisFault points TooLong
-  not_rising : (place : ℕ) → length points ≤ most_points → FallsAt points place → ((earlier : ℕ) → earlier < place → ¬ FallsAt points earlier) → IsAxisFault points (NotRising place)
+  not_rising : (place : ℕ) → length points ≤ most_points → FallsAt points place
+      → ((earlier : ℕ) → earlier < place → ¬ FallsAt points earlier) → IsAxisFault points (NotRising place)
   no_memory : IsAxisFault points OutOfMemory
 
 -- The points of an axis.

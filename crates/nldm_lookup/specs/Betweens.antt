@@ -15,7 +15,8 @@ width between = between.low + between.high
 -- A quantity lies between two neighbouring points. An axis of one point is constant: that point has the whole weight.
 pub data IsBetween (points : List ℕ) (quantity : ℕ) : Between → Type 0 where
   sole : length points ≡ 1 → IsBetween points quantity (record { place = 0; low = 1; high = 0 })
-  pair : (place lower upper : ℕ) → slice_get points place ≡ Some lower → slice_get points (place + 1) ≡ Some upper → lower ≤ quantity → quantity ≤ upper
+  pair : (place lower upper : ℕ) → slice_get points place ≡ Some lower → slice_get points (place + 1) ≡ Some upper
+      → lower ≤ quantity → quantity ≤ upper
       → IsBetween points quantity (record { place = place; low = upper - quantity; high = quantity - lower })
 
 -- the quantity is below the first of two or more points, or above the last

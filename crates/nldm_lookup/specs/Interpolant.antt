@@ -34,4 +34,5 @@ pub data IsOutside (table : TimingTable) (slew load : ℕ) : Outside → Type 0 
 
 -- a table has at most one value at a slew and a load, whichever neighbours are taken
 abbrev pub OneInterpolant : Type 0
-OneInterpolant = (table : TimingTable) (slew load : ℕ) (grain : Grain) (value other : ℤ) → IsTable table → IsInterpolant table slew load grain value → IsInterpolant table slew load grain other → value ≡ other
+OneInterpolant = (table : TimingTable) (slew load : ℕ) (grain : Grain) (value other : ℤ) → IsTable table
+    → IsInterpolant table slew load grain value → IsInterpolant table slew load grain other → value ≡ other

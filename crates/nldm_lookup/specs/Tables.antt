@@ -34,5 +34,6 @@ pub record IsTable (table : TimingTable) : Type 0 where
 
 -- Why some values are no table over two axes. Want of memory alone may come at any time.
 pub data IsTableFault (slew load : List ℕ) (values : List ℤ) : TableFault → Type 0 where
-  value_count : length values ≢ length slew * length load → IsTableFault slew load values (ValueCount (length slew * length load) (length values))
+  value_count : length values ≢ length slew * length load
+      → IsTableFault slew load values (ValueCount (length slew * length load) (length values))
   no_memory : IsTableFault slew load values OutOfMemory

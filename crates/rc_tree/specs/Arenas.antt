@@ -35,8 +35,10 @@ abbrev pub arena_elements : ℕ → Arena → ℕ → NetElements ℕ
 arena_elements count arena number = record {
   driver = 0;
   others = range_with_len 1 (node_count arena - 1);
-  resistors = map (λ node. record { from = parent_of arena node; to = node; ohms = ohms_at count arena.ohms node number }) (range_with_len 1 (node_count arena - 1));
-  capacitances = map (λ node. record { node = node; farads = farads_at count arena.farads node number }) (range_with_len 0 (node_count arena));
+  resistors = map (λ node. record { from = parent_of arena node; to = node; ohms = ohms_at count arena.ohms node number })
+      (range_with_len 1 (node_count arena - 1));
+  capacitances = map (λ node. record { node = node; farads = farads_at count arena.farads node number })
+      (range_with_len 0 (node_count arena));
 }
 
 -- how many resistors a net may have, and how many written capacitances and pins together

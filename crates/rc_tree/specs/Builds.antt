@@ -31,16 +31,21 @@ names section pins = (pins.driver ∷ pins.sinks) ++ section.nodes
 abbrev pub IsTreeEnd : ℕ → SectionElements → Pins → TreeEnd → Type 0
 IsTreeEnd count section pins (StrangePin name) = IsFirstStrange section (pin_nodes pins) name
 IsTreeEnd count section pins TooLarge = AreListed section (pin_nodes pins) × IsTooLarge section pins
-IsTreeEnd count section pins (Unreached name) = IsFit section pins × Contains (names section pins) name × ((number : ℕ) → number < count → IsUnreached (net_elements count section pins number) (node_of name))
-IsTreeEnd count section pins (Mesh place) = IsFit section pins × (place < length section.joints) × ((number : ℕ) → number < count → IsMesh (net_elements count section pins number) × CutsNothing (net_elements count section pins number) place)
+IsTreeEnd count section pins (Unreached name) = IsFit section pins × Contains (names section pins) name
+    × ((number : ℕ) → number < count → IsUnreached (net_elements count section pins number) (node_of name))
+IsTreeEnd count section pins (Mesh place) = IsFit section pins × (place < length section.joints)
+    × ((number : ℕ) → number < count → IsMesh (net_elements count section pins number)
+    × CutsNothing (net_elements count section pins number) place)
 IsTreeEnd count section pins OutOfMemory = Unit {0}
 
 -- The resistor at a place of the section links a node of the tree to its parent: it has its ends at the two nodes of the net, and
 -- its resistance is that of the link. Here order is the list of the net's nodes in the order of the tree.
-pub record IsLink (count : ℕ) (section : SectionElements) (pins : Pins) (arena : Arena) (order : List Node) (place node number : ℕ) : Type 0 where
+pub record IsLink (count : ℕ) (section : SectionElements) (pins : Pins) (arena : Arena) (order : List Node)
+    (place node number : ℕ) : Type 0 where
   pub resistor : NetResistor Node
   pub stands : slice_get (net_elements count section pins number).resistors place ≡ Some resistor
-  pub ends : HasEnds resistor (slice_index_or order (parent_of arena node) (node_of pins.driver)) (slice_index_or order node (node_of pins.driver))
+  pub ends : HasEnds resistor (slice_index_or order (parent_of arena node) (node_of pins.driver))
+      (slice_index_or order node (node_of pins.driver))
   pub ohms : ohms_at count arena.ohms node number ≡ resistor.ohms
 
 -- The nodes of the net in the order of the tree: one for each node of the tree, the driver's first, none of them twice, and that of
@@ -57,8 +62,10 @@ pub record AreLinked (count : ℕ) (section : SectionElements) (pins : Pins) (ar
   pub order : List Node
   pub ordered : IsOrder section pins arena order
   pub vias : List ℕ
-  pub links : (node number : ℕ) → 0 < node → node < node_count arena → number < count → IsLink count section pins arena order (slice_index vias node) node number
-  pub each : (place : ℕ) → place < length section.joints → (node : ℕ) × (0 < node) × (node < node_count arena) × (slice_index vias node ≡ place)
+  pub links : (node number : ℕ) → 0 < node → node < node_count arena → number < count
+      → IsLink count section pins arena order (slice_index vias node) node number
+  pub each : (place : ℕ) → place < length section.joints → (node : ℕ) × (0 < node) × (node < node_count arena)
+      × (slice_index vias node ≡ place)
       × ((other : ℕ) → 0 < other → other < node_count arena → slice_index vias other ≡ place → other ≡ node)
 
 -- a node of the tree has the Elmore delays of a node of the net
@@ -73,7 +80,10 @@ pub record IsTreeOf (count : ℕ) (section : SectionElements) (pins : Pins) (are
   pub tree : (number : ℕ) → number < count → IsTree (net_elements count section pins number)
   pub links : AreLinked count section pins arena
   pub sinks : length arena.sinks ≡ length pins.sinks
-  pub load : (number : ℕ) → number < count → net_load (arena_elements count arena number) ≡ net_load (net_elements count section pins number)
-  pub driver : (number : ℕ) → number < count → SameDelays (arena_elements count arena number) 0 (net_elements count section pins number) (node_of pins.driver)
+  pub load : (number : ℕ) → number < count
+      → net_load (arena_elements count arena number) ≡ net_load (net_elements count section pins number)
+  pub driver : (number : ℕ) → number < count
+      → SameDelays (arena_elements count arena number) 0 (net_elements count section pins number) (node_of pins.driver)
   pub delays : (number sink : ℕ) → number < count → sink < length pins.sinks
-      → SameDelays (arena_elements count arena number) (slice_index_or arena.sinks sink (record { 0 = 0 })).0 (net_elements count section pins number) (on_net section pins (sink_node pins sink))
+      → SameDelays (arena_elements count arena number) (slice_index_or arena.sinks sink (record { 0 = 0 })).0
+      (net_elements count section pins number) (on_net section pins (sink_node pins sink))

@@ -41,10 +41,14 @@ pub record IsLayout (section : SectionElements) (pins : Pins) (layout : Layout) 
   pub caps : length section.caps + length layout.sinks ≤ 2 * most_elements
 
 -- the values of the links, and all the capacitance at each node
-pub record IsFilled (count : ℕ) (section : SectionElements) (pins : Pins) (layout : Layout) (ohms : List Ohms) (farads : List Farads) (number : ℕ) : Type 0 where
+pub record IsFilled (count : ℕ) (section : SectionElements) (pins : Pins) (layout : Layout) (ohms : List Ohms) (farads : List Farads)
+    (number : ℕ) : Type 0 where
   pub root : ohms_at count ohms 0 number ≡ 0
-  pub links : (node : ℕ) → 0 < node → node < length layout.parents → ohms_at count ohms node number ≡ ohms_at count section.ohms (slice_index layout.vias node) number
-  pub nodes : (node : ℕ) → node < length layout.parents → farads_at count farads node number ≡ section_farads count section layout.spots number node + sink_farads count pins layout.sinks number node
+  pub links : (node : ℕ) → 0 < node → node < length layout.parents
+      → ohms_at count ohms node number ≡ ohms_at count section.ohms (slice_index layout.vias node) number
+  pub nodes : (node : ℕ) → node < length layout.parents
+      → farads_at count farads node number ≡ section_farads count section layout.spots number node + sink_farads count pins
+      layout.sinks number node
   pub within : (place : ℕ) → place < length section.caps → slice_index section.caps place < length section.nodes
   pub small : (node : ℕ) → node < length layout.parents → ohms_at count ohms node number ≤ most_ohms
   pub load : sum_below (length layout.parents) (λ node. farads_at count farads node number) ≤ most_load

@@ -15,5 +15,7 @@ pub record Marked (none : ℕ) (names : List NodeName) (nodes : List Node) (spot
   pub size : length spots ≡ length names
   pub counted : count ≡ length nodes
   pub apart : AllPairs (λ one other. one ≢ other) nodes
-  pub held : (i : ℕ) (d : NodeName) → i < length names → slice_index spots i ≢ none → slice_get nodes (slice_index spots i) ≡ Some (node_of (slice_index_or names i d))
-  pub free : (i : ℕ) (d : NodeName) → i < length names → slice_index spots i ≡ none → among (node_of (slice_index_or names i d)) nodes ≡ false
+  pub held : (i : ℕ) (d : NodeName) → i < length names → slice_index spots i ≢ none
+      → slice_get nodes (slice_index spots i) ≡ Some (node_of (slice_index_or names i d))
+  pub free : (i : ℕ) (d : NodeName) → i < length names → slice_index spots i ≡ none
+      → among (node_of (slice_index_or names i d)) nodes ≡ false

@@ -9,7 +9,8 @@ CutsOff net place node = ReachedWithout net place node → ⊥
 
 -- the node is the first of the net's nodes that is not reached
 abbrev pub IsUnreached : {N : Type 0} → NetElements N → N → Type 0
-IsUnreached {N} net node = (before after : List N) × (nodes_of net ≡ before ++ node ∷ after) × All (Reached net) before × (Reached net node → ⊥)
+IsUnreached {N} net node = (before after : List N) × (nodes_of net ≡ before ++ node ∷ after) × All (Reached net) before
+    × (Reached net node → ⊥)
 
 -- every node is reached, and for some resistor every node is reached without it
 abbrev pub IsMesh : {N : Type 0} → NetElements N → Type 0
@@ -21,4 +22,5 @@ IsTree net = All (Reached net) (nodes_of net) × EachIndex net.resistors (λ pla
 
 -- a tree is no mesh, and neither has an unreached node
 abbrev pub OneShape : {N : Type 0} → NetElements N → Type 0
-OneShape {N} net = (IsTree net → IsMesh net → ⊥) × ((node : N) → IsUnreached net node → IsTree net → ⊥) × ((node : N) → IsUnreached net node → IsMesh net → ⊥)
+OneShape {N} net = (IsTree net → IsMesh net → ⊥) × ((node : N) → IsUnreached net node → IsTree net → ⊥)
+    × ((node : N) → IsUnreached net node → IsMesh net → ⊥)

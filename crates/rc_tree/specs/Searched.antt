@@ -45,7 +45,8 @@ IsNameAt section pins number name = Contains (names section pins) name × (slice
 -- each sink stands where the search has its node, whose number gives one more than its place
 abbrev pub AreSinks : SectionElements → Pins → List ℕ → List NodeId → Type 0
 AreSinks section pins numbers sinks = (k : ℕ) → k < length pins.sinks
-    → (number : ℕ) × (slice_get (all_nodes section pins) number ≡ Some (sink_node pins k)) × ((slice_index_or sinks k (record { 0 = 0 })).0 ≡ slice_index numbers number - 1)
+    → (number : ℕ) × (slice_get (all_nodes section pins) number ≡ Some (sink_node pins k))
+    × ((slice_index_or sinks k (record { 0 = 0 })).0 ≡ slice_index numbers number - 1)
 
 -- every node is found, and each resistor is the link of one
 pub record IsComplete (s : Search) : Type 0 where

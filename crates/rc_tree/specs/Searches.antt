@@ -29,7 +29,8 @@ pub record IsSearch (nodes : ℕ) (froms tos : List ℕ) (s : Search) : Type 0 w
   pub numbers_len : length s.numbers ≡ nodes
   pub links_len : length s.links ≡ length froms
   pub counted : length s.order ≡ count_by (λ number. nat_lt 0 number) s.numbers
-  pub finds : Finds (length s.order) nodes (length froms) (slice_index froms) (slice_index tos) (slice_index s.order) (slice_index s.parents) (slice_index s.vias) (slice_index s.numbers) (slice_index s.links)
+  pub finds : Finds (length s.order) nodes (length froms) (slice_index froms) (slice_index tos) (slice_index s.order)
+      (slice_index s.parents) (slice_index s.vias) (slice_index s.numbers) (slice_index s.links)
 
 -- a node that is found over a resistor from the node at a place of the order; one that is found already changes nothing
 abbrev pub found_more : Search → ℕ → ℕ → ℕ → Search
@@ -56,4 +57,6 @@ IsVisited near far s node = (e : ℕ) → e < length near → slice_index near e
 
 -- no resistor leads from a node that is found to one that is not
 abbrev pub IsClosed : List ℕ → List ℕ → Search → Type 0
-IsClosed froms tos s = (e : ℕ) → e < length froms → (0 < slice_index s.numbers (slice_index froms e) → 0 < slice_index s.numbers (slice_index tos e)) × (0 < slice_index s.numbers (slice_index tos e) → 0 < slice_index s.numbers (slice_index froms e))
+IsClosed froms tos s = (e : ℕ) → e < length froms
+    → (0 < slice_index s.numbers (slice_index froms e) → 0 < slice_index s.numbers (slice_index tos e))
+    × (0 < slice_index s.numbers (slice_index tos e) → 0 < slice_index s.numbers (slice_index froms e))

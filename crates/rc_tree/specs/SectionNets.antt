@@ -40,10 +40,19 @@ abbrev pub net_elements : ℕ → SectionElements → Pins → ℕ → NetElemen
 net_elements count section pins number = record {
   driver = node_of pins.driver;
   others = other_nodes section pins;
-  resistors = map (λ place. record { from = section_node section pins (joint_at section place).a; to = section_node section pins (joint_at section place).b; ohms = ohms_at count section.ohms place number }) (range_with_len 0 (length section.joints));
+  resistors = map (λ place. record {
+    from = section_node section pins (joint_at section place).a;
+    to = section_node section pins (joint_at section place).b;
+    ohms = ohms_at count section.ohms place number;
+  })
+      (range_with_len 0 (length section.joints));
   capacitances =
-      map (λ place. record { node = on_net section pins (section_node section pins (slice_index section.caps place)); farads = farads_at count section.farads place number }) (range_with_len 0 (length section.caps))
-      ++ map (λ sink. record { node = on_net section pins (sink_node pins sink); farads = farads_at count pins.loads sink number }) (range_with_len 0 (length pins.sinks));
+      map (λ place. record {
+        node = on_net section pins (section_node section pins (slice_index section.caps place));
+        farads = farads_at count section.farads place number;
+      }) (range_with_len 0 (length section.caps))
+      ++ map (λ sink. record { node = on_net section pins (sink_node pins sink); farads = farads_at count pins.loads sink number })
+      (range_with_len 0 (length pins.sinks));
 }
 
 -- the node of a connection is among these

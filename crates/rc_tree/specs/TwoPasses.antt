@@ -10,7 +10,8 @@ farads_cut_off cuts net place = sum_by (λ at. if cuts place at.node then at.far
 
 -- the sum, over the resistors that cut the node off, of the resistance times the capacitance that the resistor cuts off
 abbrev pub resistor_sum : {N : Type 0} → (ℕ → N → Bool) → NetElements N → N → ℕ
-resistor_sum cuts net node = sum_by (λ at. if cuts at.0 node then at.1.ohms * farads_cut_off cuts net at.0 else 0) (enumerate_from 0 net.resistors)
+resistor_sum cuts net node = sum_by (λ at. if cuts at.0 node then at.1.ohms * farads_cut_off cuts net at.0 else 0)
+    (enumerate_from 0 net.resistors)
 
 -- the sum over pairs of a resistor and a capacitance is the sum over resistors
 abbrev pub TwoPassLaw : {N : Type 0} → NetElements N → Type 0

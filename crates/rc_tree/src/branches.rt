@@ -153,8 +153,10 @@ fn lay<'a, C: CornerSet, P: PinSource<C>>(
     requires numbered { IsNumbered section.now (P.pins pins.now section.now) numbered.now.spots.items numbered.now.count }
     requires explored { IsExplored section.now numbered.now.spots.items numbered.now.count (search_of found.now) }
     requires size { length spots.now ≡ length numbered.now.spots.items }
-    requires places { (k : ℕ) → k < length numbered.now.spots.items → slice_index spots.now k ≡ slice_index found.now.numbers.items (slice_index numbered.now.spots.items k) - 1 }
-    ensures { IfOk result (λ layout. IsLaid section.now (P.pins pins.now section.now) numbered.now.spots.items (search_of found.now) (layout_of layout)) }
+    requires places { (k : ℕ) → k < length numbered.now.spots.items
+        → slice_index spots.now k ≡ slice_index found.now.numbers.items (slice_index numbered.now.spots.items k) - 1 }
+    ensures { IfOk result (λ layout. IsLaid section.now (P.pins pins.now section.now) numbered.now.spots.items (search_of found.now)
+        (layout_of layout)) }
 {
     let sinks = pins.sinks_in(alloc, section, numbered, &found.numbers)?;
     Ok(NodeLayout {

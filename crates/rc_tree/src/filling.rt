@@ -27,7 +27,9 @@ pub fn fill_ohms<C: CornerSet, L: Ledger>(
     requires some { 0 < length vias.now }
     requires vias { (node : ℕ) → 0 < node → node < length vias.now → slice_index vias.now node < length section.now.joints }
     ensures root { ohms_at C.COUNT ohms.new.values 0 (C.number_of corner) ≡ ohms_at C.COUNT ohms.old.values 0 (C.number_of corner) }
-    ensures links { (node : ℕ) → 0 < node → node < length vias.now → ohms_at C.COUNT ohms.new.values node (C.number_of corner) ≡ ohms_at C.COUNT section.now.ohms (slice_index vias.now node) (C.number_of corner) }
+    ensures links { (node : ℕ) → 0 < node → node < length vias.now
+        → ohms_at C.COUNT ohms.new.values node (C.number_of corner)
+        ≡ ohms_at C.COUNT section.now.ohms (slice_index vias.now node) (C.number_of corner) }
     ensures small { (node : ℕ) → 0 < node → node < length vias.now → ohms_at C.COUNT ohms.new.values node (C.number_of corner) ≤ most_ohms }
     ensures others { KeepsOhms C.COUNT ohms.old.values ohms.new.values (C.number_of corner) }
     ensures steps { steps.new + 1 ≤ steps.old + length vias.now }
@@ -50,11 +52,15 @@ pub fn fill_farads<C: CornerSet, L: Ledger>(
     requires spots { (node : ℕ) → node < length spots.now → HasRow C.COUNT farads.old.values (slice_index spots.now node) }
     requires none { (row : ℕ) → HasRow C.COUNT farads.old.values row → farads_at C.COUNT farads.old.values row (C.number_of corner) ≡ 0 }
     requires few { length section.now.caps ≤ 2 * most_elements }
-    ensures nodes { (row : ℕ) → HasRow C.COUNT farads.old.values row → farads_at C.COUNT farads.new.values row (C.number_of corner) ≡ section_farads C.COUNT section.now spots.now (C.number_of corner) row }
-    ensures small { (row : ℕ) → HasRow C.COUNT farads.old.values row → farads_at C.COUNT farads.new.values row (C.number_of corner) ≤ length section.now.caps * most_farads }
+    ensures nodes { (row : ℕ) → HasRow C.COUNT farads.old.values row
+        → farads_at C.COUNT farads.new.values row (C.number_of corner)
+        ≡ section_farads C.COUNT section.now spots.now (C.number_of corner) row }
+    ensures small { (row : ℕ) → HasRow C.COUNT farads.old.values row
+        → farads_at C.COUNT farads.new.values row (C.number_of corner) ≤ length section.now.caps * most_farads }
     ensures others { KeepsFarads C.COUNT farads.old.values farads.new.values (C.number_of corner) }
     ensures within { (place : ℕ) → place < length section.now.caps → slice_index section.now.caps place < length section.now.nodes }
-    ensures each { (place : ℕ) → place < length section.now.caps → farads_at C.COUNT section.now.farads place (C.number_of corner) ≤ most_farads }
+    ensures each { (place : ℕ) → place < length section.now.caps
+        → farads_at C.COUNT section.now.farads place (C.number_of corner) ≤ most_farads }
     ensures steps { steps.new ≡ steps.old + length section.now.caps }
 {
     for place in 0..section.cap_count() {
@@ -72,10 +78,16 @@ pub fn fill_loads<C: CornerSet, P: PinSource<C>>(
     farads: &mut Grid<C, Farads>,
 )
     requires sinks_len { length sinks.now ≡ length (P.pins pins.now section.now).sinks }
-    requires sinks { (sink : ℕ) → sink < length sinks.now → HasRow C.COUNT farads.old.values (slice_index_or sinks.now sink (record { 0 = 0 })).0 }
-    requires small { (row : ℕ) → HasRow C.COUNT farads.old.values row → farads_at C.COUNT farads.old.values row (C.number_of corner) + length sinks.now * most_farads ≤ 2 * most_elements * most_farads }
-    ensures nodes { (row : ℕ) → HasRow C.COUNT farads.old.values row → farads_at C.COUNT farads.new.values row (C.number_of corner) ≡ farads_at C.COUNT farads.old.values row (C.number_of corner) + sink_farads C.COUNT (P.pins pins.now section.now) sinks.now (C.number_of corner) row }
-    ensures each { (sink : ℕ) → sink < length sinks.now → farads_at C.COUNT (P.pins pins.now section.now).loads sink (C.number_of corner) ≤ most_farads }
+    requires sinks { (sink : ℕ) → sink < length sinks.now
+        → HasRow C.COUNT farads.old.values (slice_index_or sinks.now sink (record { 0 = 0 })).0 }
+    requires small { (row : ℕ) → HasRow C.COUNT farads.old.values row
+        → farads_at C.COUNT farads.old.values row (C.number_of corner) + length sinks.now * most_farads ≤ 2 * most_elements * most_farads }
+    ensures nodes { (row : ℕ) → HasRow C.COUNT farads.old.values row
+        → farads_at C.COUNT farads.new.values row (C.number_of corner)
+        ≡ farads_at C.COUNT farads.old.values row (C.number_of corner) + sink_farads C.COUNT (P.pins pins.now section.now) sinks.now
+        (C.number_of corner) row }
+    ensures each { (sink : ℕ) → sink < length sinks.now
+        → farads_at C.COUNT (P.pins pins.now section.now).loads sink (C.number_of corner) ≤ most_farads }
     ensures others { KeepsFarads C.COUNT farads.old.values farads.new.values (C.number_of corner) }
 {
     for sink in 0..sinks.len() {
@@ -94,7 +106,8 @@ fn add_farads<C: CornerSet>(
     requires row { HasRow C.COUNT farads.old.values row }
     requires small { farads_at C.COUNT farads.old.values row (C.number_of corner) ≤ 2 * most_elements * most_farads }
     requires value { value.0 ≤ most_farads }
-    ensures { farads.new.values ≡ slice_set farads.old.values (place C.COUNT row (C.number_of corner)) (record { 0 = farads_at C.COUNT farads.old.values row (C.number_of corner) + value.0 }) }
+    ensures { farads.new.values ≡ slice_set farads.old.values (place C.COUNT row (C.number_of corner))
+        (record { 0 = farads_at C.COUNT farads.old.values row (C.number_of corner) + value.0 }) }
 {
     let held = farads.get(row, corner);
     farads.set(row, corner, Farads(held.0 + value.0));

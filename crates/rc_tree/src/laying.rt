@@ -23,7 +23,8 @@ pub fn first_zero(values: &[u32]) -> Option<usize>
 pub fn put_places(nodes: &[u32], numbers: &[u32], places: &mut Vec<u32>) -> Result<(), OutOfMemory>
     requires { (k : ℕ) → k < length nodes.now → slice_index nodes.now k < length numbers.now }
     ensures size { OnOk result (length places.new.items ≡ length nodes.now) }
-    ensures places { OnOk result ((k : ℕ) → k < length nodes.now → slice_index places.new.items k ≡ slice_index numbers.now (slice_index nodes.now k) - 1) }
+    ensures places { OnOk result ((k : ℕ) → k < length nodes.now
+        → slice_index places.new.items k ≡ slice_index numbers.now (slice_index nodes.now k) - 1) }
 {
     empty(places, nodes.len())?;
     for k in 0..nodes.len() {
@@ -36,7 +37,8 @@ pub fn put_places(nodes: &[u32], numbers: &[u32], places: &mut Vec<u32>) -> Resu
 pub fn sinks_of(alloc: Global, many: usize, numbers: &[u32]) -> Result<Vec<NodeId>, OutOfMemory>
     requires { many < length numbers.now }
     ensures size { IfOk result (λ sinks. length sinks.items ≡ many) }
-    ensures sinks { IfOk result (λ sinks. (k : ℕ) → k < many → (slice_index_or sinks.items k (record { 0 = 0 })).0 ≡ slice_index numbers.now (k + 1) - 1) }
+    ensures sinks { IfOk result (λ sinks. (k : ℕ) → k < many
+        → (slice_index_or sinks.items k (record { 0 = 0 })).0 ≡ slice_index numbers.now (k + 1) - 1) }
 {
     let mut sinks = Vec::with_capacity(alloc, many)?;
     for k in 0..many {

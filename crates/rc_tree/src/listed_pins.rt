@@ -106,10 +106,12 @@ impl ListedPins {
         numbered: &Numbered,
         numbers: &[u32],
     ) -> Result<Vec<NodeId>, OutOfMemory>
-        requires numbered { IsNumbered section.now (listed_pins C.COUNT section.now self.now.driver) numbered.now.spots.items numbered.now.count }
+        requires numbered { IsNumbered section.now
+            (listed_pins C.COUNT section.now self.now.driver) numbered.now.spots.items numbered.now.count }
         requires every { length numbers.now ≡ numbered.now.count }
         ensures size { IfOk result (λ sinks. length sinks.items ≡ length (listed_pins C.COUNT section.now self.now.driver).sinks) }
-        ensures sinks { IfOk result (λ sinks. AreSinks section.now (listed_pins C.COUNT section.now self.now.driver) numbers.now sinks.items) }
+        ensures sinks { IfOk result
+            (λ sinks. AreSinks section.now (listed_pins C.COUNT section.now self.now.driver) numbers.now sinks.items) }
     {
         let many = self.len(section);
         let mut sinks = Vec::with_capacity(alloc, many)?;

@@ -21,7 +21,8 @@ const NONE: u32 = u32::MAX;
 #[tactic(auto, using(crate::specs::Marking::fresh, crate::specs::Marking::held))]
 fn mark(numbered: &mut Numbered, node: usize) -> Result<(), OutOfMemory>
     requires { node < length numbered.old.spots.items }
-    ensures { OnOk result (Marks (2 ^ 32 - 1) node numbered.old.spots.items numbered.old.count numbered.new.spots.items numbered.new.count) }
+    ensures { OnOk result (Marks (2 ^ 32 - 1) node numbered.old.spots.items numbered.old.count numbered.new.spots.items
+        numbered.new.count) }
 {
     if numbered.spots[node] != NONE {
         return Ok(());
@@ -43,8 +44,10 @@ fn mark_sinks<C: CornerSet>(
     requires size { length numbered.old.spots.items ≡ length section.now.nodes }
     requires distinct { AreDistinctNodes section.now.nodes }
     ensures size { OnOk result (length numbered.new.spots.items ≡ length section.now.nodes) }
-    ensures marked { OnOk result ((nodes : List Node) → Marked (2 ^ 32 - 1) section.now.nodes nodes numbered.old.spots.items numbered.old.count
-        → Marked (2 ^ 32 - 1) section.now.nodes (with_nodes nodes (map node_of (listed_pins C.COUNT section.now pins.now.driver).sinks)) numbered.new.spots.items numbered.new.count) }
+    ensures marked { OnOk result ((nodes : List Node)
+        → Marked (2 ^ 32 - 1) section.now.nodes nodes numbered.old.spots.items numbered.old.count
+        → Marked (2 ^ 32 - 1) section.now.nodes (with_nodes nodes (map node_of (listed_pins C.COUNT section.now pins.now.driver).sinks))
+        numbered.new.spots.items numbered.new.count) }
 {
     for sink in 0..pins.len(section) {
         let node = section.conn(pins.place(sink)).node;
@@ -58,8 +61,10 @@ fn mark_rest<C: CornerSet>(section: &Net<C>, numbered: &mut Numbered) -> Result<
     requires size { length numbered.old.spots.items ≡ length section.now.nodes }
     requires distinct { AreDistinctNodes section.now.nodes }
     ensures size { OnOk result (length numbered.new.spots.items ≡ length section.now.nodes) }
-    ensures marked { OnOk result ((nodes : List Node) → Marked (2 ^ 32 - 1) section.now.nodes nodes numbered.old.spots.items numbered.old.count
-        → Marked (2 ^ 32 - 1) section.now.nodes (with_nodes nodes (map node_of section.now.nodes)) numbered.new.spots.items numbered.new.count) }
+    ensures marked { OnOk result ((nodes : List Node)
+        → Marked (2 ^ 32 - 1) section.now.nodes nodes numbered.old.spots.items numbered.old.count
+        → Marked (2 ^ 32 - 1) section.now.nodes (with_nodes nodes (map node_of section.now.nodes)) numbered.new.spots.items
+        numbered.new.count) }
 {
     for node in 0..section.node_count() {
         mark(numbered, node)?;
@@ -74,7 +79,8 @@ pub fn number_listed<C: CornerSet>(
     numbered: &mut Numbered,
 ) -> Result<(), OutOfMemory>
     requires { pins.now.driver < length section.now.conns }
-    ensures { OnOk result (IsNumbered section.now (listed_pins C.COUNT section.now pins.now.driver) numbered.new.spots.items numbered.new.count) }
+    ensures { OnOk result (IsNumbered section.now
+        (listed_pins C.COUNT section.now pins.now.driver) numbered.new.spots.items numbered.new.count) }
 {
     refill(&mut numbered.spots, section.node_count(), NONE)?;
     numbered.count = 0;

@@ -16,7 +16,8 @@ pub fn section_name<C: CornerSet>(
     number: usize,
 ) -> Result<NodeName, OutOfMemory>
     requires { length numbered.now.spots.items ≡ length section.now.nodes }
-    ensures { IfOk result (λ name. (place : ℕ) × (slice_index numbered.now.spots.items place ≡ number) × (slice_get section.now.nodes place ≡ Some name)) }
+    ensures { IfOk result (λ name. (place : ℕ) × (slice_index numbered.now.spots.items place ≡ number)
+        × (slice_get section.now.nodes place ≡ Some name)) }
 {
     for place in 0..section.node_count() {
         if numbered.spots[place] as usize == number {

@@ -51,7 +51,8 @@ pub fn first_strange<C: CornerSet>(
     table: &NodeTable,
     section: &Net<C>,
 ) -> Result<Option<NodeName>, OutOfMemory>
-    ensures { IfOk result (λ found. MatchOption found (AreListed section.now table.now) (λ name. IsFirstStrange section.now table.now name)) }
+    ensures { IfOk result (λ found. MatchOption found (AreListed section.now table.now)
+        (λ name. IsFirstStrange section.now table.now name)) }
 {
     for place in 0..section.conn_count() {
         let node = section.conn(place).node;

@@ -63,7 +63,11 @@ impl<C: CornerSet> PinLoads<C> {
         requires row { HasRow C.COUNT loads.now.values row }
         requires other { ¬ Contains (pin_nodes self.old) (node_of sink) }
         requires small { All (λ load. load.0 ≤ most_farads) (row_of C.COUNT loads.now.values row) }
-        ensures ok { OnOk result (self.new ≡ record { driver = self.old.driver; sinks = self.old.sinks ++ sink ∷ []; loads = self.old.loads ++ row_of C.COUNT loads.now.values row }) }
+        ensures ok { OnOk result (self.new ≡ record {
+          driver = self.old.driver;
+          sinks = self.old.sinks ++ sink ∷ [];
+          loads = self.old.loads ++ row_of C.COUNT loads.now.values row;
+        }) }
         ensures err { OnErr result (self.new ≡ self.old) }
     {
         let values = loads.as_slice();

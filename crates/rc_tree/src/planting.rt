@@ -29,7 +29,8 @@ pub fn plant<C: CornerSet, P: PinSource<C>, L: Ledger>(
     ensures parents { IfOk result (λ tree. tree.parents ≡ layout.entry.parents.now) }
     ensures sinks { IfOk result (λ tree. tree.sinks ≡ layout.entry.sinks.items) }
     ensures whole { IfOk result (λ tree. IsArena C.COUNT tree) }
-    ensures filled { IfOk result (λ tree. (number : ℕ) → number < C.COUNT → IsFilled C.COUNT section.now (P.pins pins.now section.now) (layout_of layout.entry) tree.ohms tree.farads number) }
+    ensures filled { IfOk result (λ tree. (number : ℕ) → number < C.COUNT
+        → IsFilled C.COUNT section.now (P.pins pins.now section.now) (layout_of layout.entry) tree.ohms tree.farads number) }
     ensures steps { steps.new + C.COUNT ≤ steps.old + C.COUNT * (length layout.entry.parents.now + length section.now.caps) }
 {
     let nodes = layout.parents.len();
@@ -59,7 +60,8 @@ fn fill_all<C: CornerSet, P: PinSource<C>, L: Ledger>(
     requires farads_rows { length farads.old.values ≡ length layout.now.parents.now * C.COUNT }
     requires no_ohms { (row number : ℕ) → ohms_at C.COUNT ohms.old.values row number ≡ 0 }
     requires no_farads { (row number : ℕ) → farads_at C.COUNT farads.old.values row number ≡ 0 }
-    ensures filled { (number : ℕ) → number < C.COUNT → IsFilled C.COUNT section.now (P.pins pins.now section.now) (layout_of layout.now) ohms.new.values farads.new.values number }
+    ensures filled { (number : ℕ) → number < C.COUNT
+        → IsFilled C.COUNT section.now (P.pins pins.now section.now) (layout_of layout.now) ohms.new.values farads.new.values number }
     ensures ohms_size { length ohms.new.values ≡ length ohms.old.values }
     ensures farads_size { length farads.new.values ≡ length farads.old.values }
     ensures steps { steps.new + C.COUNT ≤ steps.old + C.COUNT * (length layout.now.parents.now + length section.now.caps) }
@@ -86,7 +88,8 @@ fn fill_corner<C: CornerSet, P: PinSource<C>, L: Ledger>(
     requires farads_rows { length farads.old.values ≡ length layout.now.parents.now * C.COUNT }
     requires no_ohms { (row : ℕ) → ohms_at C.COUNT ohms.old.values row (C.number_of corner) ≡ 0 }
     requires no_farads { (row : ℕ) → farads_at C.COUNT farads.old.values row (C.number_of corner) ≡ 0 }
-    ensures filled { IsFilled C.COUNT section.now (P.pins pins.now section.now) (layout_of layout.now) ohms.new.values farads.new.values (C.number_of corner) }
+    ensures filled { IsFilled C.COUNT section.now (P.pins pins.now section.now) (layout_of layout.now) ohms.new.values farads.new.values
+        (C.number_of corner) }
     ensures ohms { KeepsOhms C.COUNT ohms.old.values ohms.new.values (C.number_of corner) }
     ensures farads { KeepsFarads C.COUNT farads.old.values farads.new.values (C.number_of corner) }
     ensures steps { steps.new + 1 ≤ steps.old + (length layout.now.parents.now + length section.now.caps) }

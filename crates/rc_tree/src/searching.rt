@@ -52,9 +52,11 @@ fn visit_both(
     requires tos { All (λ node. node < length found.old.numbers.items) tos.now }
     ensures search { OnOk result (IsSearch (length found.old.numbers.items) froms.now tos.now (search_of found.new)) }
     ensures grown { OnOk result (Grown (search_of found.old) (search_of found.new)) }
-    ensures at_froms { OnOk result (place < length found.old.order.items → IsVisited froms.now tos.now (search_of found.new) (slice_index found.old.order.items place)) }
+    ensures at_froms { OnOk result (place < length found.old.order.items
+        → IsVisited froms.now tos.now (search_of found.new) (slice_index found.old.order.items place)) }
     ensures past { OnOk result (length found.old.order.items ≤ place → length found.new.order.items ≡ length found.old.order.items) }
-    ensures at_tos { OnOk result (place < length found.old.order.items → IsVisited tos.now froms.now (search_of found.new) (slice_index found.old.order.items place)) }
+    ensures at_tos { OnOk result (place < length found.old.order.items
+        → IsVisited tos.now froms.now (search_of found.new) (slice_index found.old.order.items place)) }
 {
     if found.order.len() <= place {
         return Ok(());

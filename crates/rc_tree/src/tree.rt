@@ -32,7 +32,8 @@ impl<C: CornerSet> Model for RcTree<C> {
 
     ghost view = { λ t. record { parents = t.parents.items; ohms = t.ohms.values; farads = t.farads.values; sinks = t.sinks.items } };
 
-    ghost invariant = { λ t. IsArena C.COUNT (record { parents = t.parents.items; ohms = t.ohms.values; farads = t.farads.values; sinks = t.sinks.items }) };
+    ghost invariant = { λ t. IsArena C.COUNT
+        (record { parents = t.parents.items; ohms = t.ohms.values; farads = t.farads.values; sinks = t.sinks.items }) };
 }
 
 impl<C: CornerSet> RcTree<C> {

@@ -30,9 +30,11 @@ pub record AreFit (IsName : List ℕ → Type 0) (count : ℕ) (rows : SdfRows) 
 
 -- the text of rows for one corner or for three, with such names, says the rows that are read back
 abbrev pub ReadBack : (List ℕ → Type 0) → Type 0
-ReadBack IsName = (count : ℕ) → (count ≡ 1) ⊎ (count ≡ 3) → (rows : SdfRows) → AreFit IsName count rows → SaysRows (sdf_text rows) (read_back_rows rows)
+ReadBack IsName = (count : ℕ) → (count ≡ 1) ⊎ (count ≡ 3) → (rows : SdfRows) → AreFit IsName count rows
+    → SaysRows (sdf_text rows) (read_back_rows rows)
 
 -- and no others
 abbrev pub OnlyReadBack : (List ℕ → Type 0) → Type 0
 OnlyReadBack IsName =
-    (count : ℕ) → (count ≡ 1) ⊎ (count ≡ 3) → (rows : SdfRows) → AreFit IsName count rows → (others : List SdfRow) → SaysRows (sdf_text rows) others → others ≡ read_back_rows rows
+    (count : ℕ) → (count ≡ 1) ⊎ (count ≡ 3) → (rows : SdfRows) → AreFit IsName count rows → (others : List SdfRow)
+    → SaysRows (sdf_text rows) others → others ≡ read_back_rows rows

@@ -1,4 +1,5 @@
--- Which nodes of SPEF (IEEE 1481-1999) are well spelled in SDF: those whose names are one part or more, none of them empty, with bits that stand behind a letter.
+-- Which nodes of SPEF (IEEE 1481-1999) are well spelled in SDF: those whose names are one part or more, none of them empty, with bits that
+-- stand behind a letter.
 use Rattle.std.specs.Prelude.{◌≡◌, ℕ, true, List, [], ◌∷◌, ◌++◌, map, Option, Some, None}
 use Rattle.std.specs.Char.{is_ascii_digit}
 use Rattle.std.specs.List.{list_all}
@@ -44,7 +45,8 @@ pub data IsPath : List Symbol → Type 0 where
 -- a name that is a head alone is well spelled exactly where it is such a path
 abbrev pub WholeWellSpelled : Type 0
 WholeWellSpelled =
-    (marks : SpefMarks) (name : List Character) → (IsPath (symbols_of marks name) → IsWellSpelled (whole_node marks name).sdf) × (IsWellSpelled (whole_node marks name).sdf → IsPath (symbols_of marks name))
+    (marks : SpefMarks) (name : List Character) → (IsPath (symbols_of marks name) → IsWellSpelled (whole_node marks name).sdf)
+    × (IsWellSpelled (whole_node marks name).sdf → IsPath (symbols_of marks name))
 
 -- and one that is cut into head and tail where these with the divider between them are one
 abbrev pub HalvesWellSpelled : Type 0

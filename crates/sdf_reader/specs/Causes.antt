@@ -29,10 +29,13 @@ IsNumberPlace tokens number = Begins IsToken (IsSdfBy IsAnyWord) (take number to
 pub data IsCause (tokens : List Lexeme) : ℕ → SdfCause → Type 0 where
   bad_byte : {number : ℕ} {token : Lexeme} → token_at tokens number ≡ Some token → token.kind ≡ Bad → IsCause tokens number BadByte
   open_text : {number : ℕ} {token : Lexeme} → token_at tokens number ≡ Some token → token.kind ≡ OpenQuoted → IsCause tokens number OpenText
-  open_comment : {number : ℕ} {token : Lexeme} → token_at tokens number ≡ Some token → token.kind ≡ OpenNote → IsCause tokens number OpenComment
+  open_comment : {number : ℕ} {token : Lexeme} → token_at tokens number ≡ Some token → token.kind ≡ OpenNote
+      → IsCause tokens number OpenComment
   end_inside : {number : ℕ} → token_at tokens number ≡ None → IsCause tokens number EndInside
-  bad_number : {number : ℕ} {token : Lexeme} → token_at tokens number ≡ Some token → IsNumberPlace tokens number → IsCause tokens number BadNumber
-  unexpected : {number : ℕ} {token : Lexeme} → token_at tokens number ≡ Some token → is_broken token.kind ≡ false → (IsNumberPlace tokens number → ⊥) → IsCause tokens number Unexpected
+  bad_number : {number : ℕ} {token : Lexeme} → token_at tokens number ≡ Some token → IsNumberPlace tokens number
+      → IsCause tokens number BadNumber
+  unexpected : {number : ℕ} {token : Lexeme} → token_at tokens number ≡ Some token → is_broken token.kind ≡ false
+      → (IsNumberPlace tokens number → ⊥) → IsCause tokens number Unexpected
 
 -- the bytes are no SDF file, and this is their dead token, with its cause
 pub record IsFault (bytes : List ℕ) (number : ℕ) (cause : SdfCause) : Type 0 where

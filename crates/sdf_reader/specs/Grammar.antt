@@ -1,4 +1,6 @@
--- The grammar of SDF (IEEE 1497-2001) as far as it is read, a relation by cases over numbered tokens: one definition for each line of it, with a constructor for each case. In each, `from` begins with what is said, and `rest` follows it. What may stand as a number in a value is a parameter, and what it says there.
+-- The grammar of SDF (IEEE 1497-2001) as far as it is read, a relation by cases over numbered tokens: one definition for each line of it,
+-- with a constructor for each case. In each, `from` begins with what is said, and `rest` follows it. What may stand as a number in a value
+-- is a parameter, and what it says there.
 use Rattle.std.specs.Prelude.{◌≡◌, ℕ, Bool, true, false, ◌||◌, ◌==◌, List, [], ◌∷◌, ◌++◌, Option, Some, None}
 use Rattle.std.specs.Prelude.{codes}
 use Rattle.std.specs.Str.{bytes_eq}
@@ -179,7 +181,8 @@ module _ (IsNumber : Timescale → List ℕ → Value → Type 0) where
         → Begun scale shape all from to values middle → IsValueForm shape scale middle value rest
         → Begun scale shape all from to (values ++ value ∷ []) rest
 
-  -- What shows that an IOPATH or an INTERCONNECT is passed over: a `(` in the place of one of an IOPATH's names, RETAIN in a value of an IOPATH, or a `(` in a value. The tokens before it are as in a form that is not; any follow.
+  -- What shows that an IOPATH or an INTERCONNECT is passed over: a `(` in the place of one of an IOPATH's names, RETAIN in a value of an
+  -- IOPATH, or a `(` in a value. The tokens before it are as in a form that is not; any follow.
   pub data Strays (scale : Timescale) : List Tok → List Tok → Type 0 where
     first_name : {begin keyword inner : Tok} {rest : List Tok}
         → Is LeftParen begin → IsKeyword key.IoPath keyword → Is LeftParen inner
@@ -226,11 +229,13 @@ module _ (IsNumber : Timescale → List ℕ → Value → Type 0) where
 
   -- cell = "(" "CELL" "(" "CELLTYPE" text ")" "(" "INSTANCE" [ word ] ")" { spec } ")"
   pub data IsCell (head : Head) : List Tok → List SdfRow → List Tok → Type 0 where
-    is_cell : {begin keyword begin_type type_keyword text end_type close : Tok} {from middle rest : List Tok} {instance : Option (List ℕ)} {rows : List SdfRow}
+    is_cell : {begin keyword begin_type type_keyword text end_type close : Tok} {from middle rest : List Tok} {instance : Option (List ℕ)}
+        {rows : List SdfRow}
         → Is LeftParen begin → IsKeyword key.Cell keyword
         → Is LeftParen begin_type → IsKeyword key.CellType type_keyword → Is Quoted text → Is RightParen end_type
         → IsInstance head.divider from instance middle
-        → Many (IsSpec head (record { cell = meaning text.text.bytes; instance = instance })) middle rows (close ∷ rest) → Is RightParen close
+        → Many (IsSpec head (record { cell = meaning text.text.bytes; instance = instance })) middle rows (close ∷ rest)
+        → Is RightParen close
         → IsCell head (begin ∷ keyword ∷ begin_type ∷ type_keyword ∷ text ∷ end_type ∷ from) rows rest
 
   -- file = "(" "DELAYFILE" { head } { cell } ")"

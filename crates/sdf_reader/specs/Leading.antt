@@ -16,17 +16,20 @@ use Rattle.sdf_reader.specs.declared.ends.SdfCause.{SdfCause}
 -- the tokens among the parts lead to the reader's state
 abbrev pub Leads : List (Part Kind) → Reader → Type 0
 Leads before reader =
-    (number : Timescale → List ℕ → Option Value) → Decides IsValue number → leading.Leads (next number) finish first_state (lexemes before) (state_of reader)
+    (number : Timescale → List ℕ → Option Value) → Decides IsValue number
+    → leading.Leads (next number) finish first_state (lexemes before) (state_of reader)
 
 -- they are refused at the token of this number
 abbrev pub Stops : List (Part Kind) → ℕ → SdfCause → Type 0
 Stops parts at cause =
-    (number : Timescale → List ℕ → Option Value) → Decides IsValue number → leading.Stops (next number) finish first_state (lexemes parts) at cause
+    (number : Timescale → List ℕ → Option Value) → Decides IsValue number
+    → leading.Stops (next number) finish first_state (lexemes parts) at cause
 
 -- they say the rows
 abbrev pub Makes : List (Part Kind) → List SdfRow → Type 0
 Makes parts rows =
-    (number : Timescale → List ℕ → Option Value) → Decides IsValue number → leading.Makes (next number) finish first_state (lexemes parts) rows
+    (number : Timescale → List ℕ → Option Value) → Decides IsValue number
+    → leading.Makes (next number) finish first_state (lexemes parts) rows
 
 -- each token adds at most one row, and opens at most 256 forms
 pub record IsSound (number : ℕ) (reader : Reader) : Type 0 where

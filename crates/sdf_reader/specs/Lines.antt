@@ -131,7 +131,8 @@ counts_text wires paths = codes "wires " ++ (decimal wires ++ (codes " paths " +
 
 -- the line of a summary, with its end; the sum has all its digits
 abbrev pub summary_text : ℕ → ℕ → ℤ → Option ℤ → List ℕ
-summary_text wires paths sum most = counts_text wires paths ++ codes " sum " ++ signed_fixed_text 3 sum ++ codes " largest " ++ time_text most ++ 10 ∷ []
+summary_text wires paths sum most = counts_text wires paths ++ codes " sum " ++ signed_fixed_text 3 sum ++ codes " largest "
+    ++ time_text most ++ 10 ∷ []
 
 -- the line of the summary of rows
 abbrev pub summary_line : List SdfRow → List ℕ

@@ -1,4 +1,5 @@
--- An SDF file taken one token at a time: what is waited for and what has been read, and what becomes of that with each token. What may stand as a number is a parameter, and what it says.
+-- An SDF file taken one token at a time: what is waited for and what has been read, and what becomes of that with each token. What may
+-- stand as a number is a parameter, and what it says.
 use Rattle.std.specs.Prelude.{◌≡◌, ℕ, zero, suc, List, [], ◌++◌, Option, Some, None, Result, Ok, Err}
 use Rattle.name_table.specs.SdfNames.{canonical}
 use Rattle.token_fronts.specs.Tokens.{Token}
@@ -43,28 +44,100 @@ abbrev pub no_entry : Entry
 no_entry = record { from = []; to = []; taken = taken.None; rise = no_value; fall = no_value }
 
 abbrev pub first_state : State
-first_state = record { mode = mode.Start; depth = 0; divider = plain_head.divider; scale = plain_head.scale; cell = []; instance = None; entry = no_entry; rows = [] }
+first_state = record {
+  mode = mode.Start;
+  depth = 0;
+  divider = plain_head.divider;
+  scale = plain_head.scale;
+  cell = [];
+  instance = None;
+  entry = no_entry;
+  rows = [];
+}
 
 abbrev pub to_mode : Mode → State → State
-to_mode mode s = record { mode = mode; depth = s.depth; divider = s.divider; scale = s.scale; cell = s.cell; instance = s.instance; entry = s.entry; rows = s.rows }
+to_mode mode s = record {
+  mode = mode;
+  depth = s.depth;
+  divider = s.divider;
+  scale = s.scale;
+  cell = s.cell;
+  instance = s.instance;
+  entry = s.entry;
+  rows = s.rows;
+}
 
 abbrev pub divided : ℕ → State → State
-divided byte s = record { mode = mode.HeadEnd; depth = s.depth; divider = byte; scale = s.scale; cell = s.cell; instance = s.instance; entry = s.entry; rows = s.rows }
+divided byte s = record {
+  mode = mode.HeadEnd;
+  depth = s.depth;
+  divider = byte;
+  scale = s.scale;
+  cell = s.cell;
+  instance = s.instance;
+  entry = s.entry;
+  rows = s.rows;
+}
 
 abbrev pub rescaled : Timescale → Mode → State → State
-rescaled scale mode s = record { mode = mode; depth = s.depth; divider = s.divider; scale = scale; cell = s.cell; instance = s.instance; entry = s.entry; rows = s.rows }
+rescaled scale mode s = record {
+  mode = mode;
+  depth = s.depth;
+  divider = s.divider;
+  scale = scale;
+  cell = s.cell;
+  instance = s.instance;
+  entry = s.entry;
+  rows = s.rows;
+}
 
 abbrev pub typed : List ℕ → State → State
-typed cell s = record { mode = mode.TypeEnd; depth = s.depth; divider = s.divider; scale = s.scale; cell = cell; instance = s.instance; entry = s.entry; rows = s.rows }
+typed cell s = record {
+  mode = mode.TypeEnd;
+  depth = s.depth;
+  divider = s.divider;
+  scale = s.scale;
+  cell = cell;
+  instance = s.instance;
+  entry = s.entry;
+  rows = s.rows;
+}
 
 abbrev pub in_instance : Mode → Option (List ℕ) → State → State
-in_instance mode instance s = record { mode = mode; depth = s.depth; divider = s.divider; scale = s.scale; cell = s.cell; instance = instance; entry = s.entry; rows = s.rows }
+in_instance mode instance s = record {
+  mode = mode;
+  depth = s.depth;
+  divider = s.divider;
+  scale = s.scale;
+  cell = s.cell;
+  instance = instance;
+  entry = s.entry;
+  rows = s.rows;
+}
 
 abbrev pub with_entry : Mode → Entry → State → State
-with_entry mode entry s = record { mode = mode; depth = s.depth; divider = s.divider; scale = s.scale; cell = s.cell; instance = s.instance; entry = entry; rows = s.rows }
+with_entry mode entry s = record {
+  mode = mode;
+  depth = s.depth;
+  divider = s.divider;
+  scale = s.scale;
+  cell = s.cell;
+  instance = s.instance;
+  entry = entry;
+  rows = s.rows;
+}
 
 abbrev pub at_depth : Mode → ℕ → State → State
-at_depth mode depth s = record { mode = mode; depth = depth; divider = s.divider; scale = s.scale; cell = s.cell; instance = s.instance; entry = s.entry; rows = s.rows }
+at_depth mode depth s = record {
+  mode = mode;
+  depth = depth;
+  divider = s.divider;
+  scale = s.scale;
+  cell = s.cell;
+  instance = s.instance;
+  entry = s.entry;
+  rows = s.rows;
+}
 
 abbrev pub begun : Entry → Entry
 begun entry = record { from = entry.from; to = entry.to; taken = taken.None; rise = no_value; fall = no_value }
@@ -92,7 +165,16 @@ abbrev pub rows_behind : Shape → State → List SdfRow
 rows_behind shape s = s.rows ++ rows_in shape s.cell s.instance s.entry.from s.entry.to s.entry.rise s.entry.fall
 
 abbrev pub with_rows : Shape → State → State
-with_rows shape s = record { mode = mode.Entries; depth = s.depth; divider = s.divider; scale = s.scale; cell = s.cell; instance = s.instance; entry = cleared s.entry; rows = rows_behind shape s }
+with_rows shape s = record {
+  mode = mode.Entries;
+  depth = s.depth;
+  divider = s.divider;
+  scale = s.scale;
+  cell = s.cell;
+  instance = s.instance;
+  entry = cleared s.entry;
+  rows = rows_behind shape s;
+}
 
 -- behind a `)` in a form that is passed over
 abbrev pub shallower : ℕ → Site → State → State

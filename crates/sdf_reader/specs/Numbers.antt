@@ -8,7 +8,8 @@ use Rattle.sdf_reader.specs.Timescales.{power_of}
 use Rattle.sdf_reader.specs.declared.rows.Value.{Value}
 use Rattle.sdf_reader.specs.declared.timescales.Timescale.{Timescale}
 
--- The time of a literal, in units of ten to this power femtoseconds, rounded to a femtosecond. It is at most 10^27 femtoseconds in size, and the literal has at most thirty significant digits and an exponent of at most 99 in size.
+-- The time of a literal, in units of ten to this power femtoseconds, rounded to a femtosecond. It is at most 10^27 femtoseconds in size,
+-- and the literal has at most thirty significant digits and an exponent of at most 99 in size.
 pub record IsTime (power : ℕ) (text : List ℕ) (time : Femto) : Type 0 where
   pub number : Decimal
   pub reads : IsNumber text number

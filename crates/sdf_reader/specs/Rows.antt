@@ -56,4 +56,5 @@ rows_in shape cell (Some instance) from to rise fall = row_in shape cell instanc
 
 -- the same of its names as they stand in a file with this divider, and all of its values
 abbrev pub rows_of : ℕ → Place → Shape → List ℕ → List ℕ → List Value → List SdfRow
-rows_of divider place shape from to values = rows_in shape place.cell place.instance (canonical divider from) (canonical divider to) (rise_of values) (fall_of values)
+rows_of divider place shape from to values =
+    rows_in shape place.cell place.instance (canonical divider from) (canonical divider to) (rise_of values) (fall_of values)

@@ -20,7 +20,8 @@ units =
 
 -- each number with each unit
 abbrev pub timescales : List (List ℕ × Timescale)
-timescales = flat_map (λ (number : List ℕ × Count). map (λ (unit : List ℕ × TimeUnit). (number.0 ++ unit.0, record { count = number.1; unit = unit.1 })) units) counts
+timescales = flat_map (λ (number : List ℕ × Count).
+    map (λ (unit : List ℕ × TimeUnit). (number.0 ++ unit.0, record { count = number.1; unit = unit.1 })) units) counts
 
 -- what stands in the table beside the bytes
 abbrev pub scale_in : List (List ℕ × Timescale) → List ℕ → Option Timescale

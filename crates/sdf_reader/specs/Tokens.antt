@@ -20,7 +20,8 @@ is_plain byte = nat_le 33 byte && not (byte == left_paren || byte == right_paren
 abbrev pub word_length : List ℕ → ℕ
 word_length bytes = escaped_run_length is_plain bytes
 
--- Bytes behind a quote: the place of the quote that ends the text. A backslash takes the next byte with it; `taken` says that one stands before these bytes.
+-- Bytes behind a quote: the place of the quote that ends the text. A backslash takes the next byte with it; `taken` says that one stands
+-- before these bytes.
 abbrev pub text_end : Bool → List ℕ → Option ℕ
 text_end taken bytes = quote_end NextByte taken bytes
 
@@ -34,12 +35,14 @@ abbrev pub text_cut : List ℕ → Option ℕ → Cut Kind
 text_cut rest None = Take (length rest + 1) OpenQuoted
 text_cut rest (Some place) = Take (place + 2) Quoted
 
--- Bytes of which a word takes so many: that word, or a byte that begins no token. A control byte does not, and neither does a backslash at the end.
+-- Bytes of which a word takes so many: that word, or a byte that begins no token. A control byte does not, and neither does a backslash at
+-- the end.
 abbrev pub word_cut : List ℕ → ℕ → Cut Kind
 word_cut bytes zero = Take (length bytes) Bad
 word_cut bytes (suc more) = Take (suc more) Word
 
--- What stands at the front of `first ∷ rest`: bytes that are passed over, or a token. What no text of the grammar has is a token that takes all.
+-- What stands at the front of `first ∷ rest`: bytes that are passed over, or a token. What no text of the grammar has is a token that takes
+-- all.
 unfoldable pub cut_at : ℕ → List ℕ → Cut Kind
 cut_at first rest =
     if is_blank first then Skip 1

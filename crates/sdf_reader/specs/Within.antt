@@ -17,7 +17,8 @@ text_within : (rest : List ℕ) (end : Option ℕ) → ((i : ℕ) → end ≡ So
 text_within rest None below = (omega arith, omega arith)
 text_within rest (Some place) below = let lt = below place refl in (omega arith, omega arith)
 
-comment_cut_within : (inner : List ℕ) (end : Option ℕ) → ((i : ℕ) → end ≡ Some i → i + 2 ≤ length inner) → IsWithin (length inner + 2) (comment_cut inner end)
+comment_cut_within : (inner : List ℕ) (end : Option ℕ) → ((i : ℕ) → end ≡ Some i → i + 2 ≤ length inner)
+    → IsWithin (length inner + 2) (comment_cut inner end)
 comment_cut_within inner None below = (omega arith, omega arith)
 comment_cut_within inner (Some place) below = let le = below place refl in (omega arith, omega arith)
 
@@ -25,7 +26,8 @@ second : (s t : Bool) → s && t ≡ true → t ≡ true
 second true t h = h
 second false t h = absurd (cc)
 
-comment_within : (rest : List ℕ) → begins_with star rest ≡ true → IsWithin (length rest + 1) (comment_cut (drop 1 rest) (comment_end (drop 1 rest)))
+comment_within : (rest : List ℕ) → begins_with star rest ≡ true
+    → IsWithin (length rest + 1) (comment_cut (drop 1 rest) (comment_end (drop 1 rest)))
 comment_within [] h = absurd (cc)
 comment_within (b ∷ rest) h =
     let within = comment_cut_within rest (comment_end rest) (pair_within star slash rest) in
@@ -39,7 +41,8 @@ word_cut_within first rest (suc more) le = (omega arith, omega arith)
 pub cut_within : (first : ℕ) (rest : List ℕ) → IsWithin (length rest + 1) (cut_at first rest)
 unfolding cut_at
 cut_within first rest =
-    by (is_blank first) (first == left_paren) (first == right_paren) (first == quote) (first == slash && begins_with slash rest) (first == slash && begins_with star rest)
+    by (is_blank first) (first == left_paren) (first == right_paren) (first == quote) (first == slash && begins_with slash rest)
+    (first == slash && begins_with star rest)
     (text_within rest (text_end false rest) (quote_within NextByte false rest))
     (line_within rest)
     (λ h. comment_within rest (second (first == slash) (begins_with star rest) h))
@@ -52,7 +55,13 @@ cut_within first rest =
         → (comment ≡ true → IsWithin (length rest + 1) (comment_cut (drop 1 rest) (comment_end (drop 1 rest))))
         → IsWithin (length rest + 1) (word_cut (first ∷ rest) (word_length (first ∷ rest)))
         → (first == slash && begins_with star rest) ≡ comment
-        → IsWithin (length rest + 1) (cond blank (Skip 1) (cond left (Take 1 LeftParen) (cond right (Take 1 RightParen) (cond text (text_cut rest (text_end false rest)) (cond line (Skip (line_length rest)) (cond comment (comment_cut (drop 1 rest) (comment_end (drop 1 rest))) (word_cut (first ∷ rest) (word_length (first ∷ rest)))))))))
+        → IsWithin (length rest + 1)
+        (cond blank (Skip 1) (cond left (Take 1 LeftParen)
+        (cond right (Take 1 RightParen)
+        (cond text (text_cut rest (text_end false rest))
+        (cond line (Skip (line_length rest))
+        (cond comment (comment_cut (drop 1 rest) (comment_end (drop 1 rest)))
+        (word_cut (first ∷ rest) (word_length (first ∷ rest)))))))))
     by true left right text line comment quoted whole inside word q = (omega arith, omega arith)
     by false true right text line comment quoted whole inside word q = (omega arith, omega arith)
     by false false true text line comment quoted whole inside word q = (omega arith, omega arith)

@@ -17,7 +17,8 @@ pub fn one_reading()
 /// The law of refusals, which its contract states: given bytes have one dead token at most, and one cause of it. It does nothing
 /// when it is called.
 pub fn one_fault()
-    ensures law { (bytes : List ℕ) (some other : ℕ) (cause because : SdfCause) → IsFault bytes some cause → IsFault bytes other because → (some ≡ other) × (cause ≡ because) }
+    ensures law { (bytes : List ℕ) (some other : ℕ) (cause because : SdfCause) → IsFault bytes some cause → IsFault bytes other because
+        → (some ≡ other) × (cause ≡ because) }
 {}
 
 /// The law of tokens, which its contract states: given bytes have only one list of them. It does nothing when it is called.
@@ -29,5 +30,6 @@ pub fn one_parting()
 /// called.
 #[tactic(auto, using(crate::proofs::OneValue::one_word_value))]
 pub fn one_value()
-    ensures law { (scale : Timescale) (word : List ℕ) (some other : Value) → IsValue scale word some → IsValue scale word other → some ≡ other }
+    ensures law { (scale : Timescale) (word : List ℕ) (some other : Value) → IsValue scale word some
+        → IsValue scale word other → some ≡ other }
 {}

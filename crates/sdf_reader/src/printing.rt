@@ -28,7 +28,8 @@ fn is_single(value: &Value) -> bool
 
 /// A colon and a member.
 fn print_next<O: Sink>(member: Option<Femto>, sink: &mut O) -> Result<(), Failed>
-    ensures writes { Writes (58 ∷ member_text member) (O.written sink.old) (O.written sink.new) (O.faults sink.old) (O.faults sink.new) result }
+    ensures writes { Writes (58 ∷ member_text member) (O.written sink.old) (O.written sink.new) (O.faults sink.old)
+        (O.faults sink.new) result }
 {
     write_all(sink, b":")?;
     print_member(member, sink)?;
@@ -37,7 +38,8 @@ fn print_next<O: Sink>(member: Option<Femto>, sink: &mut O) -> Result<(), Failed
 
 /// The members of a value with colons between them.
 fn print_members<O: Sink>(value: &Value, sink: &mut O) -> Result<(), Failed>
-    ensures writes { Writes (members_text value.now) (O.written sink.old) (O.written sink.new) (O.faults sink.old) (O.faults sink.new) result }
+    ensures writes { Writes (members_text value.now) (O.written sink.old) (O.written sink.new) (O.faults sink.old)
+        (O.faults sink.new) result }
 {
     print_member(value.min, sink)?;
     print_next(value.typ, sink)?;
@@ -47,7 +49,8 @@ fn print_members<O: Sink>(value: &Value, sink: &mut O) -> Result<(), Failed>
 
 /// A value: one member where all are equal, or else the three with colons between them.
 fn print_value<O: Sink>(value: &Value, sink: &mut O) -> Result<(), Failed>
-    ensures writes { Writes (value_text value.now) (O.written sink.old) (O.written sink.new) (O.faults sink.old) (O.faults sink.new) result }
+    ensures writes { Writes (value_text value.now) (O.written sink.old) (O.written sink.new) (O.faults sink.old)
+        (O.faults sink.new) result }
 {
     if is_single(value) {
         print_member(value.min, sink)
@@ -58,14 +61,16 @@ fn print_value<O: Sink>(value: &Value, sink: &mut O) -> Result<(), Failed>
 
 /// A name with a blank behind it.
 fn print_name<O: Sink>(name: &[u8], sink: &mut O) -> Result<(), Failed>
-    ensures writes { Writes (name.now ++ codes " ") (O.written sink.old) (O.written sink.new) (O.faults sink.old) (O.faults sink.new) result }
+    ensures writes { Writes (name.now ++ codes " ") (O.written sink.old) (O.written sink.new) (O.faults sink.old)
+        (O.faults sink.new) result }
 {
     write_2(sink, name, b" ")
 }
 
 /// An instance with a blank behind it, or `-` where it is empty.
 fn print_instance<O: Sink>(instance: &[u8], sink: &mut O) -> Result<(), Failed>
-    ensures writes { Writes (instance_text instance.now ++ codes " ") (O.written sink.old) (O.written sink.new) (O.faults sink.old) (O.faults sink.new) result }
+    ensures writes { Writes (instance_text instance.now ++ codes " ") (O.written sink.old) (O.written sink.new) (O.faults sink.old)
+        (O.faults sink.new) result }
 {
     if instance.is_empty() {
         write_all(sink, b"- ")
@@ -76,7 +81,8 @@ fn print_instance<O: Sink>(instance: &[u8], sink: &mut O) -> Result<(), Failed>
 
 /// Both values of a path, or of a wire whose rise and fall differ.
 fn print_both<O: Sink>(rise: &Value, fall: &Value, sink: &mut O) -> Result<(), Failed>
-    ensures writes { Writes (both_text rise.now fall.now) (O.written sink.old) (O.written sink.new) (O.faults sink.old) (O.faults sink.new) result }
+    ensures writes { Writes (both_text rise.now fall.now) (O.written sink.old) (O.written sink.new) (O.faults sink.old)
+        (O.faults sink.new) result }
 {
     print_value(rise, sink)?;
     write_all(sink, b" ")?;
@@ -102,7 +108,8 @@ fn same_value(one: &Value, other: &Value) -> bool
 
 /// The values of a wire: one where its rise and its fall are equal.
 fn print_values<O: Sink>(rise: &Value, fall: &Value, sink: &mut O) -> Result<(), Failed>
-    ensures writes { Writes (wire_values_text rise.now fall.now) (O.written sink.old) (O.written sink.new) (O.faults sink.old) (O.faults sink.new) result }
+    ensures writes { Writes (wire_values_text rise.now fall.now) (O.written sink.old) (O.written sink.new) (O.faults sink.old)
+        (O.faults sink.new) result }
 {
     if same_value(rise, fall) {
         print_value(rise, sink)
@@ -113,7 +120,8 @@ fn print_values<O: Sink>(rise: &Value, fall: &Value, sink: &mut O) -> Result<(),
 
 /// Two names, each with a blank behind it.
 fn print_names<O: Sink>(from: &[u8], to: &[u8], sink: &mut O) -> Result<(), Failed>
-    ensures writes { Writes (names_text from.now to.now) (O.written sink.old) (O.written sink.new) (O.faults sink.old) (O.faults sink.new) result }
+    ensures writes { Writes (names_text from.now to.now) (O.written sink.old) (O.written sink.new) (O.faults sink.old)
+        (O.faults sink.new) result }
 {
     write_4(sink, from, b" ", to, b" ")
 }
@@ -126,7 +134,8 @@ fn print_wire<O: Sink>(
     fall: &Value,
     sink: &mut O,
 ) -> Result<(), Failed>
-    ensures writes { Writes (wire_line from.now to.now rise.now fall.now) (O.written sink.old) (O.written sink.new) (O.faults sink.old) (O.faults sink.new) result }
+    ensures writes { Writes (wire_line from.now to.now rise.now fall.now) (O.written sink.old) (O.written sink.new) (O.faults sink.old)
+        (O.faults sink.new) result }
 {
     write_all(sink, b"wire ")?;
     print_names(from, to, sink)?;

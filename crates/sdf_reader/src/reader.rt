@@ -100,7 +100,8 @@ impl Reader {
 
     /// Keeps the instance of the cell.
     fn name_instance(&mut self, word: &[u8]) -> Result<(), OutOfMemory>
-        ensures state { OnOk result (state_of self.new ≡ in_instance Mode.InstanceEnd (instance_of self.old.divider word.now) (state_of self.old)) }
+        ensures state { OnOk result (state_of self.new
+            ≡ in_instance Mode.InstanceEnd (instance_of self.old.divider word.now) (state_of self.old)) }
     {
         self.instance = if word == b"*".as_slice() {
             None
@@ -143,7 +144,8 @@ impl Reader {
     /// Keeps the name that the entry leads to.
     fn name_to(&mut self, shape: Shape, word: &[u8]) -> Result<(), OutOfMemory>
         ensures state { OnOk result (state_of self.new
-            ≡ with_entry (Mode.FirstValue shape) (to_name (canonical self.old.divider word.now) (state_of self.old).entry) (state_of self.old)) }
+            ≡ with_entry (Mode.FirstValue shape) (to_name (canonical self.old.divider word.now) (state_of self.old).entry)
+            (state_of self.old)) }
     {
         self.to = canonical_sdf(self.alloc, word, self.divider)?;
         self.mode = Mode::FirstValue(shape);
@@ -238,7 +240,8 @@ impl Reader {
 
     /// Keeps the number of a value, if it is one.
     fn number(&mut self, shape: Shape, word: &[u8]) -> Option<SdfCause>
-        ensures state { (number : Timescale → List ℕ → Option Value) → Decides IsValue number → Steps (numbered_by shape (number self.old.scale word.now) (state_of self.old)) (state_of self.new) result }
+        ensures state { (number : Timescale → List ℕ → Option Value) → Decides IsValue number
+            → Steps (numbered_by shape (number self.old.scale word.now) (state_of self.old)) (state_of self.new) result }
         ensures depth { self.new.depth ≡ self.old.depth }
     {
         match value_of(self.scale, word) {
@@ -257,7 +260,8 @@ impl Reader {
         requires room { length self.old.rows + 1 < 2 ^ 32 }
         requires rise { IsValueWithin self.old.rise }
         requires fall { IsValueWithin self.old.fall }
-        ensures state { (number : Timescale → List ℕ → Option Value) → Decides IsValue number → IfOk result (Steps (applied number step (state_of self.old) bytes.now) (state_of self.new)) }
+        ensures state { (number : Timescale → List ℕ → Option Value) → Decides IsValue number
+            → IfOk result (Steps (applied number step (state_of self.old) bytes.now) (state_of self.new)) }
         ensures depth { OnOk result (self.new.depth ≤ self.old.depth + 256) }
     {
         match step {
@@ -299,7 +303,8 @@ impl Reader {
         requires room { length self.old.rows + 1 < 2 ^ 32 }
         requires rise { IsValueWithin self.old.rise }
         requires fall { IsValueWithin self.old.fall }
-        ensures state { (number : Timescale → List ℕ → Option Value) → Decides IsValue number → IfOk result (Steps (applied number (does self.old.mode kind bytes.now) (state_of self.old) bytes.now) (state_of self.new)) }
+        ensures state { (number : Timescale → List ℕ → Option Value) → Decides IsValue number
+            → IfOk result (Steps (applied number (does self.old.mode kind bytes.now) (state_of self.old) bytes.now) (state_of self.new)) }
         ensures depth { OnOk result (self.new.depth ≤ self.old.depth + 256) }
         ensures rise { OnTaken result (IsValueWithin self.new.rise) }
         ensures fall { OnTaken result (IsValueWithin self.new.fall) }

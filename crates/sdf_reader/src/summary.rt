@@ -107,7 +107,8 @@ fn summary_of(rows: &SdfRows) -> Summary
 
 /// The counts, with a word before each.
 fn print_counts<O: Sink>(wires: u64, paths: u64, sink: &mut O) -> Result<(), Failed>
-    ensures writes { Writes (counts_text wires paths) (O.written sink.old) (O.written sink.new) (O.faults sink.old) (O.faults sink.new) result }
+    ensures writes { Writes (counts_text wires paths) (O.written sink.old) (O.written sink.new) (O.faults sink.old)
+        (O.faults sink.new) result }
 {
     write_4(
         sink,
@@ -130,14 +131,16 @@ fn print_largest<O: Sink>(largest: Option<i128>, sink: &mut O) -> Result<(), Fai
 
 /// The sum, with all its digits.
 fn print_sum<O: Sink>(summary: &Summary, sink: &mut O) -> Result<(), Failed>
-    ensures writes { Writes (signed_fixed_text 3 summary.now.sum) (O.written sink.old) (O.written sink.new) (O.faults sink.old) (O.faults sink.new) result }
+    ensures writes { Writes (signed_fixed_text 3 summary.now.sum) (O.written sink.old) (O.written sink.new) (O.faults sink.old)
+        (O.faults sink.new) result }
 {
     print_time(summary.sum, sink)
 }
 
 /// The line of a summary.
 fn print_line<O: Sink>(summary: &Summary, sink: &mut O) -> Result<(), Failed>
-    ensures writes { Writes (summary_text summary.now.wires summary.now.paths summary.now.sum summary.now.largest) (O.written sink.old) (O.written sink.new) (O.faults sink.old) (O.faults sink.new) result }
+    ensures writes { Writes (summary_text summary.now.wires summary.now.paths summary.now.sum summary.now.largest) (O.written sink.old)
+        (O.written sink.new) (O.faults sink.old) (O.faults sink.new) result }
 {
     print_counts(summary.wires, summary.paths, sink)?;
     write_all(sink, b" sum ")?;
@@ -152,7 +155,8 @@ fn print_line<O: Sink>(summary: &Summary, sink: &mut O) -> Result<(), Failed>
 /// decimals and all its digits, of the typical time of every wire's rise and every path's rise and fall; and the largest member
 /// of any value, or `-` where there is none. It takes no memory.
 pub fn print_summary<O: Sink>(rows: &SdfRows, sink: &mut O) -> Result<(), Failed>
-    ensures writes { Writes (summary_line rows.now) (O.written sink.old) (O.written sink.new) (O.faults sink.old) (O.faults sink.new) result }
+    ensures writes { Writes (summary_line rows.now) (O.written sink.old) (O.written sink.new) (O.faults sink.old)
+        (O.faults sink.new) result }
 {
     print_line(&summary_of(rows), sink)
 }

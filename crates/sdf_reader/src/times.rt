@@ -28,7 +28,8 @@ fn sign_of(negative: bool) -> &'static [u8]
 
 /// Writes a time in picoseconds with exactly three decimals, and `-` before a negative one.
 pub(crate) fn print_time<O: Sink>(femtoseconds: i128, sink: &mut O) -> Result<(), Failed>
-    ensures writes { Writes (signed_fixed_text 3 femtoseconds) (O.written sink.old) (O.written sink.new) (O.faults sink.old) (O.faults sink.new) result }
+    ensures writes { Writes (signed_fixed_text 3 femtoseconds) (O.written sink.old) (O.written sink.new) (O.faults sink.old)
+        (O.faults sink.new) result }
 {
     let size = femtoseconds.unsigned_abs();
     write_4(

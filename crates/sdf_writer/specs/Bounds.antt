@@ -13,7 +13,8 @@ within_replicate zero time small = tt
 within_replicate (suc n) time small = (small, within_replicate n time small)
 
 -- one of them replaced
-pub within_set : (times : List Femto) (i : ℕ) (time : Femto) → AreWithin times → unsigned_abs time.0 ≤ 10 ^ 27 → AreWithin (slice_set times i time)
+pub within_set : (times : List Femto) (i : ℕ) (time : Femto) → AreWithin times → unsigned_abs time.0 ≤ 10 ^ 27
+    → AreWithin (slice_set times i time)
 within_set [] i time all small = tt
 within_set (first ∷ times) zero time all small = (small, all.1)
 within_set (first ∷ times) (suc i) time all small = (all.0, within_set times i time all.1 small)

@@ -11,7 +11,8 @@ pub record WireRow : Type 0 where
   pub to : List ℕ
   pub delay : List Femto
 
--- The delays of a path through a cell from one of its pins to another, both as they are spelled in SDF: of the rise at the other pin and of its fall, each with one value a corner, or none. The cell has a type, and its instance is spelled as in SDF.
+-- The delays of a path through a cell from one of its pins to another, both as they are spelled in SDF: of the rise at the other pin and of
+-- its fall, each with one value a corner, or none. The cell has a type, and its instance is spelled as in SDF.
 pub record PathRow : Type 0 where
   pub cell : List ℕ
   pub instance : List ℕ
@@ -56,7 +57,8 @@ edge_text (Some delay) = value_text delay
 -- the line of a path: its rise, and then its fall
 abbrev pub path_line : PathRow → List ℕ
 path_line row =
-    codes "(IOPATH " ++ (row.from ++ (codes " " ++ (row.to ++ (codes " " ++ (edge_text row.rise ++ (codes " " ++ (edge_text row.fall ++ codes ")")))))))
+    codes "(IOPATH " ++ (row.from ++ (codes " "
+    ++ (row.to ++ (codes " " ++ (edge_text row.rise ++ (codes " " ++ (edge_text row.fall ++ codes ")")))))))
 
 -- paths of one cell: its type and its instance are the same
 abbrev pub same_cell : PathRow → PathRow → Bool
@@ -107,7 +109,8 @@ opening_lines design =
 
 -- the lines of the file: the wires stand in the cell of the design, and the paths in cells behind it
 abbrev pub sdf_lines : SdfRows → List (List ℕ)
-sdf_lines rows = opening_lines rows.design ++ (delay_lines rows.wires ++ codes ")" ∷ (flat_map cell_lines (cells_of rows.paths) ++ codes ")" ∷ []))
+sdf_lines rows = opening_lines rows.design
+    ++ (delay_lines rows.wires ++ codes ")" ∷ (flat_map cell_lines (cells_of rows.paths) ++ codes ")" ∷ []))
 
 -- lines one after another, each ended by the byte 10
 abbrev pub lines_text : List (List ℕ) → List ℕ

@@ -142,7 +142,8 @@ fn write_path<C: CornerSet, O: Sink>(
     requires rise { IsEdgeKept C.COUNT (length times.now) path.now.rise }
     requires fall { IsEdgeKept C.COUNT (length times.now) path.now.fall }
     requires within { AreWithin times.now }
-    ensures pushes { Pushes (buffer.old ++ line_text path.now.from path.now.to (edge_at C.COUNT times.now path.now.rise) (edge_at C.COUNT times.now path.now.fall)) buffer.new
+    ensures pushes { Pushes (buffer.old ++ line_text path.now.from path.now.to (edge_at C.COUNT times.now path.now.rise)
+        (edge_at C.COUNT times.now path.now.fall)) buffer.new
         (O.written sink.old) (O.written sink.new) (O.faults sink.old) (O.faults sink.new) result }
 {
     write_names(buffer, sink, path.from.bytes(), path.to.bytes())?;

@@ -47,7 +47,8 @@ impl<C: CornerSet> Model for Paths<C> {
 
     ghost view = { λ paths. path_rows C.COUNT paths.cells.items paths.times.items paths.paths.items };
 
-    ghost invariant = { λ paths. All (IsKept C.COUNT (length paths.cells.items) (length paths.times.items)) paths.paths.items × AreWithin paths.times.items };
+    ghost invariant = { λ paths. All (IsKept C.COUNT (length paths.cells.items) (length paths.times.items)) paths.paths.items
+        × AreWithin paths.times.items };
 }
 
 impl<C: CornerSet> Paths<C> {
@@ -74,7 +75,15 @@ impl<C: CornerSet> Paths<C> {
     ) -> Result<(), OutOfMemory>
         requires rise { IsEdge C.COUNT (edge_times rise) }
         requires fall { IsEdge C.COUNT (edge_times fall) }
-        ensures ok { OnOk result (self.new ≡ self.old ++ record { cell = cell.kind; instance = cell.instance; from = from; to = to; rise = edge_times rise.entry; fall = edge_times fall.entry } ∷ []) }
+        ensures ok { OnOk result (self.new ≡ self.old
+            ++ record {
+              cell = cell.kind;
+              instance = cell.instance;
+              from = from;
+              to = to;
+              rise = edge_times rise.entry;
+              fall = edge_times fall.entry;
+            } ∷ []) }
         ensures err { OnErr result (self.new ≡ self.old) }
     {
         self.paths.reserve(1)?;
@@ -97,7 +106,16 @@ fn keep_path<C: CornerSet>(
 ) -> Result<Path, OutOfMemory>
     requires rise { IsEdge C.COUNT (edge_times rise) }
     requires fall { IsEdge C.COUNT (edge_times fall) }
-    ensures kept { IfOk result (KeepsRow C.COUNT cells.new.items times.new.items (record { cell = cell.kind; instance = cell.instance; from = from; to = to; rise = edge_times rise.entry; fall = edge_times fall.entry })) }
+    ensures kept { IfOk result
+        (KeepsRow C.COUNT cells.new.items times.new.items
+        (record {
+          cell = cell.kind;
+          instance = cell.instance;
+          from = from;
+          to = to;
+          rise = edge_times rise.entry;
+          fall = edge_times fall.entry;
+        })) }
     ensures cells { Extends cells.old.items cells.new.items }
     ensures times { ExtendsTimes times.old.items times.new.items }
 {

@@ -37,7 +37,11 @@ impl<C: CornerSet> Model for Rows<C> {
 
     ghost use Rattle.sdf_writer.specs.WireRows.{wire_rows};
 
-    ghost view = { λ rows. record { design = rows.design; wires = wire_rows C.COUNT rows.wires.items rows.delays.items; paths = rows.paths } };
+    ghost view = { λ rows. record {
+      design = rows.design;
+      wires = wire_rows C.COUNT rows.wires.items rows.delays.items;
+      paths = rows.paths;
+    } };
 
     ghost invariant = { λ rows. (length rows.delays.items ≡ length rows.wires.items * C.COUNT) × AreWithin rows.delays.items };
 }
@@ -66,7 +70,8 @@ impl<C: CornerSet> Rows<C> {
     ) -> Result<(), OutOfMemory>
         requires one_row { length delay.now.values ≡ C.COUNT }
         requires within { AreWithin delay.now.values }
-        ensures ok { OnOk result (self.new ≡ record self.old { wires = self.old.wires ++ record { from = from; to = to; delay = delay.now.values } ∷ [] }) }
+        ensures ok { OnOk result (self.new ≡ record self.old
+            { wires = self.old.wires ++ record { from = from; to = to; delay = delay.now.values } ∷ [] }) }
         ensures err { OnErr result (self.new ≡ self.old) }
     {
         self.wires.reserve(1)?;
@@ -92,7 +97,16 @@ impl<C: CornerSet> Rows<C> {
     ) -> Result<(), OutOfMemory>
         requires rise { IsEdge C.COUNT (edge_times rise) }
         requires fall { IsEdge C.COUNT (edge_times fall) }
-        ensures ok { OnOk result (self.new ≡ record self.old { paths = self.old.paths ++ record { cell = cell; instance = instance; from = from; to = to; rise = edge_times rise.entry; fall = edge_times fall.entry } ∷ [] }) }
+        ensures ok { OnOk result (self.new ≡ record self.old {
+          paths = self.old.paths ++ record {
+            cell = cell;
+            instance = instance;
+            from = from;
+            to = to;
+            rise = edge_times rise.entry;
+            fall = edge_times fall.entry;
+          } ∷ [];
+        }) }
         ensures err { OnErr result (self.new ≡ self.old) }
     {
         let cell = Cell {

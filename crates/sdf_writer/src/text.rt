@@ -43,7 +43,8 @@ fn write_rows<C: CornerSet, O: Sink>(
 ) -> Result<(), Failed>
     requires sizes { length delays.now ≡ length wires.now * C.COUNT }
     requires within { AreWithin delays.now }
-    ensures pushes { Pushes (buffer.old ++ sdf_text (record { design = design.now; wires = wire_rows C.COUNT wires.now delays.now; paths = paths.now })) buffer.new
+    ensures pushes { Pushes (buffer.old ++ sdf_text
+        (record { design = design.now; wires = wire_rows C.COUNT wires.now delays.now; paths = paths.now })) buffer.new
         (O.written sink.old) (O.written sink.new) (O.faults sink.old) (O.faults sink.new) result }
 {
     write_opening(buffer, sink, design)?;

@@ -104,13 +104,16 @@ pub record PutsRes {I : Type 0} (corners : Corners I) (old new : Drafted) (first
 -- the rows of a grid are those of the elements
 pub record AreRows {I T E : Type 0} (corners : Corners I) (grid : List T) (elements : List E) (P : E → Pick → T → Type 0) : Type 0 where
   pub rows : length grid ≡ length elements * corners.count
-  pub each : (row : ℕ) (element : E) (corner : I) → slice_get elements row ≡ Some element → HasValue corners.count grid row (corners.number corner) (P element (corners.member corner))
+  pub each : (row : ℕ) (element : E) (corner : I) → slice_get elements row ≡ Some element
+      → HasValue corners.count grid row (corners.number corner) (P element (corners.member corner))
 
 abbrev pub element_nodes : List Connection → List Grounded → List Joint → List NodeName
-element_nodes conns caps joints = map (λ conn. conn.node) conns ++ map (λ cap. cap.node) caps ++ flat_map (λ joint. joint.first ∷ joint.second ∷ []) joints
+element_nodes conns caps joints = map (λ conn. conn.node) conns ++ map (λ cap. cap.node) caps
+    ++ flat_map (λ joint. joint.first ∷ joint.second ∷ []) joints
 
 -- these elements are kept
-pub record AreKept {I : Type 0} (corners : Corners I) (file : SpefText) (head : HeadText) (conns : List Connection) (caps : List Grounded) (joints : List Joint) (net : NetElements) : Type 0 where
+pub record AreKept {I : Type 0} (corners : Corners I) (file : SpefText) (head : HeadText) (conns : List Connection) (caps : List Grounded)
+    (joints : List Joint) (net : NetElements) : Type 0 where
   pub nodes : net.nodes ≡ first_places (element_nodes conns caps joints)
   pub listed : map (listing_of net.nodes) net.conns ≡ map listing conns
   pub loads : AreRows corners net.loads conns (λ conn pick value. HasLoad file head.cap_unit pick conn.load value.0)
@@ -126,25 +129,31 @@ pub record AreKept {I : Type 0} (corners : Corners I) (file : SpefText) (head : 
 abbrev pub points_upto : SpefText → HeadText → Section → ℕ → ℕ → ℕ → List Point
 points_upto file head section conns caps ress =
     reference section.net ∷ naming section.net
-    ∷ (conn_points file head [] (take conns section.conns) ++ flat_map (cap_points head) (take caps section.caps) ++ flat_map (res_points head) (take ress section.ress))
+    ∷ (conn_points file head [] (take conns section.conns) ++ flat_map (cap_points head) (take caps section.caps)
+    ++ flat_map (res_points head) (take ress section.ress))
 
 -- A section is read up to here: the nodes of so many resistors are known, and so many connections, capacitances and resistors are kept.
-pub record IsUpto {I : Type 0} (corners : Corners I) (file : SpefText) (head : HeadText) (place joined conns caps ress : ℕ) (draft : Drafted) : Type 0 where
+pub record IsUpto {I : Type 0} (corners : Corners I) (file : SpefText) (head : HeadText) (place joined conns caps ress : ℕ)
+    (draft : Drafted) : Type 0 where
   pub net : net_at file (section_at file.reading.sections place).net ≡ Some draft.net.net
   pub nodes : draft.net.nodes ≡ draft.refs.nodes
   pub unwritten : draft.net.written ≡ 0
-  pub refs : AreRefs file draft.net.net (conn_keys file (take conns (section_at file.reading.sections place).conns)) (res_keys file (take joined (section_at file.reading.sections place).ress)) draft.refs
+  pub refs : AreRefs file draft.net.net (conn_keys file (take conns (section_at file.reading.sections place).conns))
+      (res_keys file (take joined (section_at file.reading.sections place).ress)) draft.refs
   pub kept : AreKept corners file head
-      (first_of_each (flat_map (λ conn. option_to_list (connection_at file conn)) (take conns (section_at file.reading.sections place).conns)))
+      (first_of_each (flat_map (λ conn. option_to_list (connection_at file conn))
+      (take conns (section_at file.reading.sections place).conns)))
       (flat_map (grounded file (section_at file.reading.sections place)) (take caps (section_at file.reading.sections place).caps))
       (flat_map (joint_at file) (take ress (section_at file.reading.sections place).ress))
       draft.net
-  pub good : All (IsGood file place (section_at file.reading.sections place)) (points_upto file head (section_at file.reading.sections place) conns caps ress)
+  pub good : All (IsGood file place (section_at file.reading.sections place))
+      (points_upto file head (section_at file.reading.sections place) conns caps ress)
 
 -- why the section at a place is refused
 abbrev pub IsStop : SpefText → HeadText → ℕ → SectionEnd → Type 0
 IsStop file head place OutOfMemory = ⊤
-IsStop file head place end = IsFirstFault file place (section_at file.reading.sections place) (points_of file head (section_at file.reading.sections place)) end
+IsStop file head place end = IsFirstFault file place (section_at file.reading.sections place)
+    (points_of file head (section_at file.reading.sections place)) end
 
 -- the references of a resistor's nodes
 abbrev pub AreJoined : SpefText → List (List ℕ) → Res → Joined → Type 0
@@ -158,13 +167,15 @@ pub record AddsUpto {I T : Type 0} (corners : Corners I) (old new : List T) (P :
   pub row : List T
   pub is : new ≡ old ++ row
   pub count : length row ≡ many
-  pub each : (corner : I) → corners.number corner < many → (value : T) × (slice_get row (corners.number corner) ≡ Some value) × P (corners.member corner) value
+  pub each : (corner : I) → corners.number corner < many → (value : T) × (slice_get row (corners.number corner) ≡ Some value)
+      × P (corners.member corner) value
   pub only : All (λ value. (pick : Pick) × P pick value) row
 
 -- a token's reference was looked up: its word stood before, or was put at the end, or its index is not in the map
 pub data Refers (file : SpefText) (net : List ℕ) (token : ℕ) (old new : Refs) : Option ℕ → Type 0 where
   stood : {number : ℕ} → slice_get old.words number ≡ Some (text_of file token) → new ≡ old → Refers file net token old new (Some number)
-  put : {number : ℕ} (node : NodeName) → named file true (text_of file token) ≡ Some node → number ≡ length old.words → IsPut net old new (text_of file token) node → Refers file net token old new (Some number)
+  put : {number : ℕ} (node : NodeName) → named file true (text_of file token) ≡ Some node → number ≡ length old.words
+      → IsPut net old new (text_of file token) node → Refers file net token old new (Some number)
   unknown : named file true (text_of file token) ≡ None → new ≡ old → Refers file net token old new None
 
 abbrev pub JoinsBy : Refs → Refs → Option ℕ → Type 0
@@ -182,7 +193,8 @@ AreSomeRefs file net refs = (listed : List Key) × (joined : List Key) × AreRef
 
 -- the references of the resistors, one after another
 abbrev pub AllJoined : SpefText → List (List ℕ) → List Res → List Joined → Type 0
-AllJoined file words ress joints = (i : ℕ) (res : Res) → slice_get ress i ≡ Some res → (joined : Joined) × (slice_get joints i ≡ Some joined) × AreJoined file words res joined
+AllJoined file words ress joints = (i : ℕ) (res : Res) → slice_get ress i ≡ Some res → (joined : Joined)
+    × (slice_get joints i ≡ Some joined) × AreJoined file words res joined
 
 abbrev pub written_net : NetElements → ℕ → NetElements
 written_net net written = record {
@@ -222,4 +234,7 @@ CountsBy corners old new word grains true = PutsCap corners old new word grains
 CountsBy corners old new word grains false = new ≡ old
 
 abbrev pub no_draft : SpefText → List ℕ → Drafted
-no_draft file net = record { refs = no_refs file; net = record { net = net; nodes = []; conns = []; loads = []; caps = []; farads = []; joints = []; ohms = []; written = 0 } }
+no_draft file net = record {
+  refs = no_refs file;
+  net = record { net = net; nodes = []; conns = []; loads = []; caps = []; farads = []; joints = []; ohms = []; written = 0 };
+}

@@ -1,4 +1,5 @@
--- The elements of a net as its section of a SPEF file (IEEE 1481) gives them: connections, capacitances to ground, resistors. A value stands for itself by its token.
+-- The elements of a net as its section of a SPEF file (IEEE 1481) gives them: connections, capacitances to ground, resistors. A value
+-- stands for itself by its token.
 use Rattle.std.specs.Prelude.{ℕ, Bool, List, [], ◌∷◌, ◌++◌, map, filter, Option, Some, None, option_map, option_to_list}
 use Rattle.std.specs.List.{flat_map}
 use Rattle.name_table.specs.declared.spef_names.NodeName.{NodeName}

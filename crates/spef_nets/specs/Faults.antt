@@ -34,14 +34,17 @@ is_later file before conn = is_known_among (nodes_at file (map (λ earlier. earl
 
 -- of several connections with one node the first alone has a load
 abbrev pub load_points : SpefText → HeadText → List Conn → Conn → List Point
-load_points file head before conn = if is_later file before conn then [] else map (amount head.cap_unit most_farads) (option_to_list conn.load)
+load_points file head before conn = if is_later file before conn then [] else map (amount head.cap_unit most_farads)
+    (option_to_list conn.load)
 
 abbrev pub conn_points : SpefText → HeadText → List Conn → List Conn → List Point
 conn_points file head before [] = []
-conn_points file head before (conn ∷ later) = reference conn.node ∷ (load_points file head before conn ++ conn_points file head (before ++ conn ∷ []) later)
+conn_points file head before (conn ∷ later) = reference conn.node
+    ∷ (load_points file head before conn ++ conn_points file head (before ++ conn ∷ []) later)
 
 abbrev pub cap_points : HeadText → Cap → List Point
-cap_points head cap = reference cap.first ∷ coupling cap ∷ (map reference (option_to_list cap.second) ++ amount head.cap_unit most_farads cap.value ∷ [])
+cap_points head cap = reference cap.first ∷ coupling cap
+    ∷ (map reference (option_to_list cap.second) ++ amount head.cap_unit most_farads cap.value ∷ [])
 
 abbrev pub res_points : HeadText → Res → List Point
 res_points head res = reference res.first ∷ reference res.second ∷ amount head.res_unit most_ohms res.value ∷ []
@@ -63,7 +66,8 @@ nets_before file place = map (λ section. net_at file section.net) (take place f
 
 -- a net that has a section already
 abbrev pub IsRepeatedAt : SpefText → ℕ → ℕ → SectionEnd → Type 0
-IsRepeatedAt file place token (RepeatedNet net at) = (at ≡ token) × (net_at file token ≡ Some net) × Contains (nets_before file place) (Some net)
+IsRepeatedAt file place token (RepeatedNet net at) = (at ≡ token) × (net_at file token ≡ Some net)
+    × Contains (nets_before file place) (Some net)
 IsRepeatedAt file place token _ = ⊥
 
 -- a coupling has two nodes, and is foreign where neither belongs to the section
@@ -103,7 +107,8 @@ abbrev pub IsFaultless : SpefText → HeadText → ℕ → Section → Type 0
 IsFaultless file head place section = All (IsGood file place section) (points_of file head section)
 
 abbrev pub AreFaultless : SpefText → HeadText → Type 0
-AreFaultless file head = (place : ℕ) (section : Section) → slice_get file.reading.sections place ≡ Some section → IsFaultless file head place section
+AreFaultless file head = (place : ℕ) (section : Section) → slice_get file.reading.sections place ≡ Some section
+    → IsFaultless file head place section
 
 -- the first fault of the file
 pub record IsFirstOfAll (file : SpefText) (head : HeadText) (end : SectionEnd) : Type 0 where
@@ -111,7 +116,8 @@ pub record IsFirstOfAll (file : SpefText) (head : HeadText) (end : SectionEnd) :
   pub section : Section
   pub stands : slice_get file.reading.sections place ≡ Some section
   pub first : IsFirstFault file place section (points_of file head section) end
-  pub earlier : (other : ℕ) (section : Section) → other < place → slice_get file.reading.sections other ≡ Some section → IsFaultless file head other section
+  pub earlier : (other : ℕ) (section : Section) → other < place → slice_get file.reading.sections other ≡ Some section
+      → IsFaultless file head other section
 
 -- why a file has no nets
 abbrev pub IsSectionEnd : SpefText → HeadText → SectionEnd → Type 0
@@ -148,4 +154,5 @@ pub record HasFault (file : SpefText) (head : HeadText) (end : SectionEnd) : Typ
 abbrev pub IsLeastFault : SpefText → HeadText → SectionEnd → Type 0
 IsLeastFault file head end =
     HasFault file head end
-    × ((other : SectionEnd) → HasFault file head other → (token_of end < token_of other) ⊎ ((token_of end ≡ token_of other) × (rank_of end ≤ rank_of other)))
+    × ((other : SectionEnd) → HasFault file head other
+    → (token_of end < token_of other) ⊎ ((token_of end ≡ token_of other) × (rank_of end ≤ rank_of other)))

@@ -24,7 +24,8 @@ pub record NetElements : Type 0 where
   -- how many capacitances are written
   pub written : ℕ
 
--- each row has its values, each number is that of a node, no value is past its bound, no two nodes are one, and a written capacitance counts at two places at the most
+-- each row has its values, each number is that of a node, no value is past its bound, no two nodes are one, and a written capacitance
+-- counts at two places at the most
 pub record AreWhole (count : ℕ) (net : NetElements) : Type 0 where
   pub load_rows : length net.loads ≡ length net.conns * count
   pub cap_rows : length net.farads ≡ length net.caps * count

@@ -14,7 +14,8 @@ use Rattle.spef_text.specs.declared.entries.MapEntry.{MapEntry}
 -- the name that the map has for an index with these digits
 abbrev pub name_in : SpefText → List MapEntry → List ℕ → Option (List ℕ)
 name_in file [] digits = None
-name_in file (entry ∷ later) digits = if bytes_eq (digits_of file entry) digits then Some (text_of file entry.name) else name_in file later digits
+name_in file (entry ∷ later) digits = if bytes_eq (digits_of file entry) digits then Some
+    (text_of file entry.name) else name_in file later digits
 
 -- the node of an index, if the map has it
 abbrev pub indexed_node : SpefText → Bool → List ℕ → Option NodeName
@@ -44,7 +45,8 @@ first_places nodes = each_once same_node nodes
 
 -- no two nodes are one: different numbers have different heads, or different tails
 abbrev pub AreDistinctNodes : List NodeName → Type 0
-AreDistinctNodes nodes = (one other : ℕ) (a b : NodeName) → slice_get nodes one ≡ Some a → slice_get nodes other ≡ Some b → key_of a ≡ key_of b → one ≡ other
+AreDistinctNodes nodes = (one other : ℕ) (a b : NodeName) → slice_get nodes one ≡ Some a → slice_get nodes other ≡ Some b
+    → key_of a ≡ key_of b → one ≡ other
 
 -- what tokens name; one whose index is not in the map names nothing
 abbrev pub nodes_at : SpefText → List ℕ → List NodeName

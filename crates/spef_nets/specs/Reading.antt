@@ -15,7 +15,8 @@ pub record Reading : Type 0 where
 
 -- no section in front of this place has a fault
 abbrev pub AreFaultlessBefore : SpefText → HeadText → ℕ → Type 0
-AreFaultlessBefore file head place = (other : ℕ) (section : Section) → other < place → slice_get file.reading.sections other ≡ Some section → IsFaultless file head other section
+AreFaultlessBefore file head place = (other : ℕ) (section : Section) → other < place → slice_get file.reading.sections other ≡ Some section
+    → IsFaultless file head other section
 
 -- the sections have been read up to here: they name these nets, and have no fault
 pub record IsReading (reading : Reading) : Type 0 where

@@ -50,7 +50,8 @@ with_word refs word place node keys marks = record {
 
 -- a word was put at the end, which names the node
 pub data IsPut (net : List ℕ) (old new : Refs) (word : List ℕ) (node : NodeName) : Type 0 where
-  held : (place : ℕ) → slice_get old.keys place ≡ Some (key_of node) → new ≡ with_word old word place node old.keys old.marks → IsPut net old new word node
+  held : (place : ℕ) → slice_get old.keys place ≡ Some (key_of node) → new ≡ with_word old word place node old.keys old.marks
+      → IsPut net old new word node
   added : among (key_of node) old.keys ≡ false
       → new ≡ with_word old word (length old.keys) node (old.keys ++ key_of node ∷ []) (old.marks ++ new_mark net node ∷ [])
       → IsPut net old new word node
@@ -118,7 +119,8 @@ with_number refs word place mark name = record {
 -- the node of a word has a number, or got one
 pub data Numbers (old new : Refs) (word number : ℕ) : Type 0 where
   held : (place : ℕ) (mark : Mark) → IsMarked old word place mark → mark.number ≡ Some number → new ≡ old → Numbers old new word number
-  fresh : (place : ℕ) (mark : Mark) (name : Option NodeName) → IsMarked old word place mark → mark.number ≡ None → slice_get old.names word ≡ Some name
+  fresh : (place : ℕ) (mark : Mark) (name : Option NodeName) → IsMarked old word place mark → mark.number ≡ None
+      → slice_get old.names word ≡ Some name
       → number ≡ length old.nodes → new ≡ with_number old word place mark name → Numbers old new word number
 
 -- a word's name is known
@@ -149,9 +151,11 @@ pub record AreRefs (file : SpefText) (net : List ℕ) (listed joined : List Key)
   pub keys_marked : length refs.marks ≡ length refs.keys
   pub placed : ArePlaced refs
   pub spelled : (number : ℕ) (word : List ℕ) → slice_get refs.words number ≡ Some word → IsSpelled file refs number word
-  pub marked : (place : ℕ) (key : Key) (mark : Mark) → slice_get refs.keys place ≡ Some key → slice_get refs.marks place ≡ Some mark → IsMark net listed joined refs.nodes key mark
+  pub marked : (place : ℕ) (key : Key) (mark : Mark) → slice_get refs.keys place ≡ Some key → slice_get refs.marks place ≡ Some mark
+      → IsMark net listed joined refs.nodes key mark
   pub once : (one other : ℕ) (key : Key) → slice_get refs.keys one ≡ Some key → slice_get refs.keys other ≡ Some key → one ≡ other
-  pub covered : (key : Key) → (among key listed || (among key joined || among key (map key_of refs.nodes))) ≡ true → among key refs.keys ≡ true
+  pub covered : (key : Key) → (among key listed || (among key joined || among key (map key_of refs.nodes))) ≡ true
+      → among key refs.keys ≡ true
 
 -- a token's reference as it was looked up: its word's number, or nothing where its index is not in the map
 abbrev pub IsRef : SpefText → List (List ℕ) → ℕ → Option ℕ → Type 0

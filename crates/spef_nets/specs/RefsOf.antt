@@ -5,4 +5,12 @@ use Rattle.spef_nets.specs.Refs.{Refs}
 use Rattle.spef_nets.specs.declared.referred.Referred.{Referred}
 
 abbrev pub refs_of : Referred → Refs
-refs_of r = record { file = r.nodes.file; words = r.words; places = r.places.items; names = map (node_at r.nodes.file) r.tokens.items; keys = r.table; marks = r.marks.items; nodes = r.nodes.nodes }
+refs_of r = record {
+  file = r.nodes.file;
+  words = r.words;
+  places = r.places.items;
+  names = map (node_at r.nodes.file) r.tokens.items;
+  keys = r.table;
+  marks = r.marks.items;
+  nodes = r.nodes.nodes;
+}

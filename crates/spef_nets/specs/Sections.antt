@@ -63,22 +63,28 @@ ends_of nodes joint = record { a = key_at nodes joint.a; b = key_at nodes joint.
 abbrev pub ends_at : Joint → KeyEnds
 ends_at joint = record { a = Some (key_of joint.first); b = Some (key_of joint.second) }
 
--- The net is what the section says of it: its nodes by first place, its connections, its capacitances as they count, its resistors, and at each corner the rounded reading of the member that counts there.
-pub record IsNet {I : Type 0} (corners : Corners I) (file : SpefText) (head : HeadText) (section : Section) (net : NetElements) : Type 0 where
+-- The net is what the section says of it: its nodes by first place, its connections, its capacitances as they count, its resistors, and at
+-- each corner the rounded reading of the member that counts there.
+pub record IsNet {I : Type 0} (corners : Corners I) (file : SpefText) (head : HeadText) (section : Section)
+    (net : NetElements) : Type 0 where
   pub named : net_at file section.net ≡ Some net.net
   pub nodes : net.nodes ≡ section_nodes file section
   pub conns : map (listing_of net.nodes) net.conns ≡ map listing (connections file section)
   pub loads : (row : ℕ) (conn : Connection) (corner : I) → slice_get (connections file section) row ≡ Some conn
-      → HasValue corners.count net.loads row (corners.number corner) (λ value. HasLoad file head.cap_unit (corners.member corner) conn.load value.0)
+      → HasValue corners.count net.loads row (corners.number corner)
+      (λ value. HasLoad file head.cap_unit (corners.member corner) conn.load value.0)
   pub caps : map (key_at net.nodes) net.caps ≡ map (λ cap. Some (key_of cap.node)) (capacitances file section)
   pub farads : (row : ℕ) (cap : Grounded) (corner : I) → slice_get (capacitances file section) row ≡ Some cap
-      → HasValue corners.count net.farads row (corners.number corner) (λ value. HasGrains file head.cap_unit most_farads (corners.member corner) cap.value value.0)
+      → HasValue corners.count net.farads row (corners.number corner)
+      (λ value. HasGrains file head.cap_unit most_farads (corners.member corner) cap.value value.0)
   pub joints : map (ends_of net.nodes) net.joints ≡ map ends_at (resistors file section)
   pub ohms : (row : ℕ) (joint : Joint) (corner : I) → slice_get (resistors file section) row ≡ Some joint
-      → HasValue corners.count net.ohms row (corners.number corner) (λ value. HasGrains file head.res_unit most_ohms (corners.member corner) joint.value value.0)
+      → HasValue corners.count net.ohms row (corners.number corner)
+      (λ value. HasGrains file head.res_unit most_ohms (corners.member corner) joint.value value.0)
   pub written : net.written ≡ length section.caps
 
 -- the nets are what the sections say, each at its section's place
 pub record AreNets {I : Type 0} (corners : Corners I) (file : SpefText) (head : HeadText) (nets : List NetElements) : Type 0 where
   pub count : length nets ≡ length file.reading.sections
-  pub each : (place : ℕ) (net : NetElements) → slice_get nets place ≡ Some net → IsNet corners file head (section_at file.reading.sections place) net
+  pub each : (place : ℕ) (net : NetElements) → slice_get nets place ≡ Some net
+      → IsNet corners file head (section_at file.reading.sections place) net

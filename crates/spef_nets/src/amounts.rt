@@ -84,7 +84,8 @@ impl Grains {
     /// The reading that counts.
     pub fn of(self, pick: Pick) -> u64
         ensures value { result ≡ grains_at pick self }
-        ensures reading { (unit : Unit) (most : ℕ) (triple : Triple) → AreGrains unit most triple self → IsAmount unit most (picked pick triple) result }
+        ensures reading { (unit : Unit) (most : ℕ) (triple : Triple) → AreGrains unit most triple self
+            → IsAmount unit most (picked pick triple) result }
     {
         match pick {
             Pick::Min => self.min,

@@ -162,7 +162,8 @@ impl<'r, 'f> Draft<'r, 'f> {
         requires within { spelling < length (refs_of self.old.refs).places }
         requires named { IsNamed (refs_of self.old.refs) spelling }
         requires placed { ArePlaced (refs_of self.old.refs) }
-        ensures { OnOk result (PutsConn (corners_of C.COUNT C.number_of C.member_of pick) (drafted self.old) (drafted self.new) spelling conn.now load) }
+        ensures { OnOk result (PutsConn (corners_of C.COUNT C.number_of C.member_of pick) (drafted self.old)
+            (drafted self.new) spelling conn.now load) }
     {
         let node = self.refs.number(spelling)?;
         let listed = Listed {
@@ -185,7 +186,8 @@ impl<'r, 'f> Draft<'r, 'f> {
         requires within { spelling < length (refs_of self.old.refs).places }
         requires named { IsNamed (refs_of self.old.refs) spelling }
         requires placed { ArePlaced (refs_of self.old.refs) }
-        ensures { OnOk result (PutsCap (corners_of C.COUNT C.number_of C.member_of pick) (drafted self.old) (drafted self.new) spelling value) }
+        ensures { OnOk result (PutsCap (corners_of C.COUNT C.number_of C.member_of pick) (drafted self.old)
+            (drafted self.new) spelling value) }
     {
         let node = self.refs.number(spelling)?;
         push(&mut self.caps, node)?;
@@ -206,7 +208,8 @@ impl<'r, 'f> Draft<'r, 'f> {
         requires second { second < length (refs_of self.old.refs).places }
         requires second_named { IsNamed (refs_of self.old.refs) second }
         requires placed { ArePlaced (refs_of self.old.refs) }
-        ensures { OnOk result (PutsRes (corners_of C.COUNT C.number_of C.member_of pick) (drafted self.old) (drafted self.new) first second value) }
+        ensures { OnOk result (PutsRes (corners_of C.COUNT C.number_of C.member_of pick) (drafted self.old)
+            (drafted self.new) first second value) }
     {
         let a = self.refs.number(first)?;
         let b = self.refs.number(second)?;

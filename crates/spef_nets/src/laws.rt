@@ -21,7 +21,8 @@ pub fn first_is_least()
 /// The law of sections that are refused, which its contract states: a file without a fault is refused for want of memory
 /// alone, and any other file has one refusal besides. It does nothing when it is called.
 pub fn one_section_end()
-    ensures none { (file : SpefText) (head : HeadText) (end : SectionEnd) → AreFaultless file head → IsSectionEnd file head end → end ≡ OutOfMemory }
+    ensures none { (file : SpefText) (head : HeadText) (end : SectionEnd) → AreFaultless file head → IsSectionEnd file head end
+        → end ≡ OutOfMemory }
     ensures one { (file : SpefText) (head : HeadText) (one other : SectionEnd) → IsSectionEnd file head one → IsSectionEnd file head other →
         (one ≡ OutOfMemory) ⊎ ((other ≡ OutOfMemory) ⊎ (one ≡ other)) }
 {}

@@ -55,7 +55,8 @@ impl<'r, 'f> NodeTokens<'r, 'f> {
     /// Puts the node of a token at the end.
     pub fn push(&mut self, token: u32) -> Result<(), OutOfMemory>
         requires { (node : NodeName) × (node_at self.old.file token ≡ Some node) }
-        ensures { (node : NodeName) → node_at self.old.file token ≡ Some node → OnOk result (self.new ≡ record { file = self.old.file; nodes = self.old.nodes ++ node ∷ [] }) }
+        ensures { (node : NodeName) → node_at self.old.file token ≡ Some node
+            → OnOk result (self.new ≡ record { file = self.old.file; nodes = self.old.nodes ++ node ∷ [] }) }
     {
         push_token(&mut self.tokens, token)
     }

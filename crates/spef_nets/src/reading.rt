@@ -23,7 +23,8 @@ fn push_next<C: CornerSet>(
     sections: &mut Vec<Section<C>>,
 ) -> Result<(), SectionEnd>
     requires { length reader.old.nets < length reader.old.file.reading.sections }
-    ensures next { OnOk result ((net : NetElements) × IsNet (corners_of C.COUNT C.number_of C.member_of reader.old.pick) reader.old.file reader.old.head (next_section reader.old) net
+    ensures next { OnOk result ((net : NetElements)
+        × IsNet (corners_of C.COUNT C.number_of C.member_of reader.old.pick) reader.old.file reader.old.head (next_section reader.old) net
         × (reader.new ≡ with_net reader.old net.net) × (sections.new.items ≡ sections.old.items ++ net ∷ [])) }
     ensures refused { IfErr result (IsSectionEnd reader.old.file reader.old.head) }
     ensures least { IfErr result (λ end. (end ≡ SectionEnd.OutOfMemory) ⊎ IsLeastFault reader.old.file reader.old.head end) }
@@ -43,7 +44,8 @@ pub fn read_sections<C: CornerSet>(
 ) -> Result<Sections<C>, SectionEnd>
     requires { IsHeadOf file.now head.now }
     // What is answered is what the sections say.
-    ensures ok { IfOk result (AreNets (record { count = C.COUNT; number = C.number_of; member = λ corner. C.member_of corner pick }) file.now head.now) }
+    ensures ok { IfOk result (AreNets (record { count = C.COUNT; number = C.number_of; member = λ corner. C.member_of corner pick })
+        file.now head.now) }
     // A refusal is the first fault.
     ensures refused { IfErr result (IsSectionEnd file.now head.now) }
     // It is the one with the least token, and at one token the first in the order of the enum.

@@ -122,7 +122,8 @@ impl<'r, 'f> Referred<'r, 'f> {
     ) -> Result<usize, OutOfMemory>
         requires marked { length (refs_of self.old).marks ≡ length (refs_of self.old).keys }
         requires key { IsKeyAt (refs_of self.old).file token (Some key) }
-        ensures { (node : NodeName) → node_at (refs_of self.old).file token ≡ Some node → IfOk result (IsFound net.now (refs_of self.old) (refs_of self.new) word.now node) }
+        ensures { (node : NodeName) → node_at (refs_of self.old).file token ≡ Some node
+            → IfOk result (IsFound net.now (refs_of self.old) (refs_of self.new) word.now node) }
     {
         let belongs = are_equal(net.bytes(), key.head());
         let place = self.table.intern(key)?;
@@ -239,7 +240,8 @@ impl<'r, 'f> Referred<'r, 'f> {
         }
     }
 
-    /// The nodes with a number, in its order. The lists are handed back, unless they have grown large: memory is not kept for a net as large again.
+    /// The nodes with a number, in its order. The lists are handed back, unless they have grown large: memory is not kept for a net as
+    /// large again.
     pub fn into_nodes(self, lists: &mut RefLists<'r>) -> NodeTokens<'r, 'f>
         ensures { result ≡ record { file = (refs_of self.entry).file; nodes = (refs_of self.entry).nodes } }
     {
@@ -268,7 +270,8 @@ impl<'r, 'f> Referred<'r, 'f> {
 
 // Marks a node that was put at a new last place.
 fn mark_new(marks: &mut Vec<Mark>, place: usize, belongs: bool) -> Result<(), OutOfMemory>
-    ensures added { place ≡ length marks.old.items → OnOk result (marks.new.items ≡ marks.old.items ++ record { listed = false; belongs = belongs; number = None } ∷ []) }
+    ensures added { place ≡ length marks.old.items
+        → OnOk result (marks.new.items ≡ marks.old.items ++ record { listed = false; belongs = belongs; number = None } ∷ []) }
     ensures held { place < length marks.old.items → OnOk result (marks.new.items ≡ marks.old.items) }
 {
     if place == marks.len() {

@@ -41,7 +41,17 @@ impl<C: CornerSet> Model for Section<C> {
 impl<C: CornerSet> Section<C> {
     /// A net with no element. It takes no memory.
     pub fn empty(alloc: Global, net: Text) -> Section<C>
-        ensures { result ≡ record { net = net; nodes = []; conns = []; loads = []; caps = []; farads = []; joints = []; ohms = []; written = 0 } }
+        ensures { result ≡ record {
+          net = net;
+          nodes = [];
+          conns = [];
+          loads = [];
+          caps = [];
+          farads = [];
+          joints = [];
+          ohms = [];
+          written = 0;
+        } }
     {
         Section {
             net,

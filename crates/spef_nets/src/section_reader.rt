@@ -36,7 +36,8 @@ impl<'r, 'f> Model for SectionReader<'r, 'f> {
     ghost view = { λ r. record { file = r.source.file.now; head = r.source.head.now; pick = r.source.pick; nets = r.nets } };
 
     // no section so far had a fault
-    ghost invariant = { λ r. IsReading (record { file = r.source.file.now; head = r.source.head.now; pick = r.source.pick; nets = r.nets }) };
+    ghost invariant = { λ r. IsReading
+        (record { file = r.source.file.now; head = r.source.head.now; pick = r.source.pick; nets = r.nets }) };
 }
 
 // Refuses a net that has a section already.
@@ -70,13 +71,18 @@ fn read_behind<'r, 'f, C: CornerSet>(
     nets: &mut Names,
     lists: &mut SectionLists<'r>,
 ) -> Result<SpelledSection<'r, 'f, C>, SectionEnd>
-    requires reading { IsReading (record { file = source.now.file.now; head = source.now.head.now; pick = source.now.pick; nets = nets.old }) }
+    requires reading { IsReading
+        (record { file = source.now.file.now; head = source.now.head.now; pick = source.now.pick; nets = nets.old }) }
     requires left { length nets.old < length source.now.file.now.reading.sections }
     requires few { length source.now.file.now.reading.sections < 2 ^ 30 }
-    ensures ok { IfOk result (IsNet (corners_of C.COUNT C.number_of C.member_of source.now.pick) source.now.file.now source.now.head.now (section_at source.now.file.now.reading.sections (length nets.old))) }
+    ensures ok { IfOk result (IsNet (corners_of C.COUNT C.number_of C.member_of source.now.pick) source.now.file.now source.now.head.now
+        (section_at source.now.file.now.reading.sections (length nets.old))) }
     ensures put { IfOk result (λ section. nets.new ≡ nets.old ++ section.net ∷ []) }
-    ensures reading { OnOk result (IsReading (record { file = source.now.file.now; head = source.now.head.now; pick = source.now.pick; nets = nets.new })) }
-    ensures faultless { OnOk result (IsFaultless source.now.file.now source.now.head.now (length nets.old) (section_at source.now.file.now.reading.sections (length nets.old))) }
+    ensures reading { OnOk result
+        (IsReading (record { file = source.now.file.now; head = source.now.head.now; pick = source.now.pick; nets = nets.new })) }
+    ensures faultless { OnOk result
+        (IsFaultless source.now.file.now source.now.head.now (length nets.old)
+        (section_at source.now.file.now.reading.sections (length nets.old))) }
     ensures refused { IfErr result (IsSectionEnd source.now.file.now source.now.head.now) }
     ensures stays { OnErr result (nets.new ≡ nets.old) }
 {
@@ -123,7 +129,9 @@ impl<'r, 'f> SectionReader<'r, 'f> {
     pub fn read<C: CornerSet>(&mut self) -> Result<SpelledSection<'r, 'f, C>, SectionEnd>
         requires { length self.old.nets < length self.old.file.reading.sections }
         // What is answered is what the section says.
-        ensures ok { IfOk result (IsNet (record { count = C.COUNT; number = C.number_of; member = λ corner. C.member_of corner self.old.pick }) self.old.file self.old.head (next_section self.old)) }
+        ensures ok { IfOk result (IsNet
+            (record { count = C.COUNT; number = C.number_of; member = λ corner. C.member_of corner self.old.pick }) self.old.file
+            self.old.head (next_section self.old)) }
         // The next section comes next.
         ensures read { IfOk result (λ section. self.new ≡ with_net self.old section.net) }
         // A section with a fault is refused; so one without is not, unless memory ran out.

@@ -74,8 +74,11 @@ impl<'r, 'f> Source<'r, 'f> {
         requires section { s < length self.now.file.now.reading.sections }
         requires head { IsHeadOf self.now.file.now self.now.head.now }
         requires refs { AreRefs self.now.file.now net.now [] [] (refs_of refs.old) }
-        ensures joints { OnOk result (AllJoined self.now.file.now (refs_of refs.new).words (section_at self.now.file.now.reading.sections s).ress joints.new.items) }
-        ensures refs { OnOk result (AreRefs self.now.file.now net.now [] (res_keys self.now.file.now (section_at self.now.file.now.reading.sections s).ress) (refs_of refs.new)) }
+        ensures joints { OnOk result
+            (AllJoined self.now.file.now (refs_of refs.new).words (section_at self.now.file.now.reading.sections s).ress joints.new.items) }
+        ensures refs { OnOk result
+            (AreRefs self.now.file.now net.now [] (res_keys self.now.file.now (section_at self.now.file.now.reading.sections s).ress)
+            (refs_of refs.new)) }
         ensures count { OnOk result (length joints.new.items ≡ length (section_at self.now.file.now.reading.sections s).ress) }
         ensures nodes { OnOk result ((refs_of refs.new).nodes ≡ (refs_of refs.old).nodes) }
     {
@@ -100,10 +103,15 @@ impl<'r, 'f> Source<'r, 'f> {
         requires section { s < length self.now.file.now.reading.sections }
         requires head { IsHeadOf self.now.file.now self.now.head.now }
         requires net { net_at self.now.file.now (section_at self.now.file.now.reading.sections s).net ≡ Some (drafted draft.old).net.net }
-        requires new { IsGood self.now.file.now s (section_at self.now.file.now.reading.sections s) (naming (section_at self.now.file.now.reading.sections s).net) }
+        requires new { IsGood self.now.file.now s (section_at self.now.file.now.reading.sections s)
+            (naming (section_at self.now.file.now.reading.sections s).net) }
         requires fresh { drafted draft.old ≡ no_draft self.now.file.now (drafted draft.old).net.net }
-        ensures upto { OnOk result (IsUpto (corners_of C.COUNT C.number_of C.member_of self.now.pick) self.now.file.now self.now.head.now s (length (section_at self.now.file.now.reading.sections s).ress) 0 0 0 (drafted draft.new)) }
-        ensures joints { OnOk result (AllJoined self.now.file.now (drafted draft.new).refs.words (section_at self.now.file.now.reading.sections s).ress joints.new.items) }
+        ensures upto { OnOk result
+            (IsUpto (corners_of C.COUNT C.number_of C.member_of self.now.pick) self.now.file.now self.now.head.now s
+            (length (section_at self.now.file.now.reading.sections s).ress) 0 0 0 (drafted draft.new)) }
+        ensures joints { OnOk result
+            (AllJoined self.now.file.now (drafted draft.new).refs.words
+            (section_at self.now.file.now.reading.sections s).ress joints.new.items) }
         ensures count { OnOk result (length joints.new.items ≡ length (section_at self.now.file.now.reading.sections s).ress) }
     {
         self.read_joints(s, &mut draft.refs, &draft.net, joints)?;
@@ -135,8 +143,11 @@ impl<'r, 'f> Source<'r, 'f> {
         requires section { s < length self.now.file.now.reading.sections }
         requires place { i < length (section_at self.now.file.now.reading.sections s).conns }
         requires head { IsHeadOf self.now.file.now self.now.head.now }
-        requires upto { IsUpto (corners_of C.COUNT C.number_of C.member_of self.now.pick) self.now.file.now self.now.head.now s (length (section_at self.now.file.now.reading.sections s).ress) i 0 0 (drafted draft.old) }
-        ensures upto { OnOk result (IsUpto (corners_of C.COUNT C.number_of C.member_of self.now.pick) self.now.file.now self.now.head.now s (length (section_at self.now.file.now.reading.sections s).ress) (i + 1) 0 0 (drafted draft.new)) }
+        requires upto { IsUpto (corners_of C.COUNT C.number_of C.member_of self.now.pick) self.now.file.now self.now.head.now s
+            (length (section_at self.now.file.now.reading.sections s).ress) i 0 0 (drafted draft.old) }
+        ensures upto { OnOk result
+            (IsUpto (corners_of C.COUNT C.number_of C.member_of self.now.pick) self.now.file.now self.now.head.now s
+            (length (section_at self.now.file.now.reading.sections s).ress) (i + 1) 0 0 (drafted draft.new)) }
         ensures grows { OnOk result (Grows (drafted draft.old).refs.words (drafted draft.new).refs.words) }
         ensures err { IfErr result (IsStop self.now.file.now self.now.head.now s) }
     {
@@ -158,8 +169,12 @@ impl<'r, 'f> Source<'r, 'f> {
     ) -> Result<(), SectionEnd>
         requires section { s < length self.now.file.now.reading.sections }
         requires head { IsHeadOf self.now.file.now self.now.head.now }
-        requires upto { IsUpto (corners_of C.COUNT C.number_of C.member_of self.now.pick) self.now.file.now self.now.head.now s (length (section_at self.now.file.now.reading.sections s).ress) 0 0 0 (drafted draft.old) }
-        ensures upto { OnOk result (IsUpto (corners_of C.COUNT C.number_of C.member_of self.now.pick) self.now.file.now self.now.head.now s (length (section_at self.now.file.now.reading.sections s).ress) (length (section_at self.now.file.now.reading.sections s).conns) 0 0 (drafted draft.new)) }
+        requires upto { IsUpto (corners_of C.COUNT C.number_of C.member_of self.now.pick) self.now.file.now self.now.head.now s
+            (length (section_at self.now.file.now.reading.sections s).ress) 0 0 0 (drafted draft.old) }
+        ensures upto { OnOk result
+            (IsUpto (corners_of C.COUNT C.number_of C.member_of self.now.pick) self.now.file.now self.now.head.now s
+            (length (section_at self.now.file.now.reading.sections s).ress)
+            (length (section_at self.now.file.now.reading.sections s).conns) 0 0 (drafted draft.new)) }
         ensures grows { OnOk result (Grows (drafted draft.old).refs.words (drafted draft.new).refs.words) }
         ensures err { IfErr result (IsStop self.now.file.now self.now.head.now s) }
     {
@@ -189,7 +204,8 @@ impl<'r, 'f> Source<'r, 'f> {
         requires within { spelling < length (refs_of draft.old.refs).places }
         requires named { IsNamed (refs_of draft.old.refs) spelling }
         requires placed { ArePlaced (refs_of draft.old.refs) }
-        ensures { OnOk result (CountsBy (corners_of C.COUNT C.number_of C.member_of self.now.pick) (drafted draft.old) (drafted draft.new) spelling value counts) }
+        ensures { OnOk result (CountsBy (corners_of C.COUNT C.number_of C.member_of self.now.pick) (drafted draft.old)
+            (drafted draft.new) spelling value counts) }
     {
         if counts {
             draft.put_cap::<C>(spelling, value, self.pick)
@@ -213,8 +229,13 @@ impl<'r, 'f> Source<'r, 'f> {
         requires cap { slice_get (section_at self.now.file.now.reading.sections s).caps i ≡ Some cap.now }
         requires second { cap.now.second ≡ Some second_token }
         requires first { IsRef self.now.file.now (drafted draft.old).refs.words cap.now.first (Some first) }
-        requires upto { IsUpto (corners_of C.COUNT C.number_of C.member_of self.now.pick) self.now.file.now self.now.head.now s (length (section_at self.now.file.now.reading.sections s).ress) (length (section_at self.now.file.now.reading.sections s).conns) i 0 (drafted draft.old) }
-        ensures upto { OnOk result (IsUpto (corners_of C.COUNT C.number_of C.member_of self.now.pick) self.now.file.now self.now.head.now s (length (section_at self.now.file.now.reading.sections s).ress) (length (section_at self.now.file.now.reading.sections s).conns) (i + 1) 0 (drafted draft.new)) }
+        requires upto { IsUpto (corners_of C.COUNT C.number_of C.member_of self.now.pick) self.now.file.now self.now.head.now s
+            (length (section_at self.now.file.now.reading.sections s).ress)
+            (length (section_at self.now.file.now.reading.sections s).conns) i 0 (drafted draft.old) }
+        ensures upto { OnOk result
+            (IsUpto (corners_of C.COUNT C.number_of C.member_of self.now.pick) self.now.file.now self.now.head.now s
+            (length (section_at self.now.file.now.reading.sections s).ress) (length (section_at self.now.file.now.reading.sections s).conns)
+            (i + 1) 0 (drafted draft.new)) }
         ensures grows { OnOk result (Grows (drafted draft.old).refs.words (drafted draft.new).refs.words) }
         ensures err { IfErr result (IsStop self.now.file.now self.now.head.now s) }
     {
@@ -240,8 +261,13 @@ impl<'r, 'f> Source<'r, 'f> {
         requires section { s < length self.now.file.now.reading.sections }
         requires head { IsHeadOf self.now.file.now self.now.head.now }
         requires place { i < length (section_at self.now.file.now.reading.sections s).caps }
-        requires upto { IsUpto (corners_of C.COUNT C.number_of C.member_of self.now.pick) self.now.file.now self.now.head.now s (length (section_at self.now.file.now.reading.sections s).ress) (length (section_at self.now.file.now.reading.sections s).conns) i 0 (drafted draft.old) }
-        ensures upto { OnOk result (IsUpto (corners_of C.COUNT C.number_of C.member_of self.now.pick) self.now.file.now self.now.head.now s (length (section_at self.now.file.now.reading.sections s).ress) (length (section_at self.now.file.now.reading.sections s).conns) (i + 1) 0 (drafted draft.new)) }
+        requires upto { IsUpto (corners_of C.COUNT C.number_of C.member_of self.now.pick) self.now.file.now self.now.head.now s
+            (length (section_at self.now.file.now.reading.sections s).ress)
+            (length (section_at self.now.file.now.reading.sections s).conns) i 0 (drafted draft.old) }
+        ensures upto { OnOk result
+            (IsUpto (corners_of C.COUNT C.number_of C.member_of self.now.pick) self.now.file.now self.now.head.now s
+            (length (section_at self.now.file.now.reading.sections s).ress) (length (section_at self.now.file.now.reading.sections s).conns)
+            (i + 1) 0 (drafted draft.new)) }
         ensures grows { OnOk result (Grows (drafted draft.old).refs.words (drafted draft.new).refs.words) }
         ensures err { IfErr result (IsStop self.now.file.now self.now.head.now s) }
     {
@@ -261,8 +287,13 @@ impl<'r, 'f> Source<'r, 'f> {
     fn read_caps<C: CornerSet>(&self, s: usize, draft: &mut Draft<'r, 'f>) -> Result<(), SectionEnd>
         requires section { s < length self.now.file.now.reading.sections }
         requires head { IsHeadOf self.now.file.now self.now.head.now }
-        requires upto { IsUpto (corners_of C.COUNT C.number_of C.member_of self.now.pick) self.now.file.now self.now.head.now s (length (section_at self.now.file.now.reading.sections s).ress) (length (section_at self.now.file.now.reading.sections s).conns) 0 0 (drafted draft.old) }
-        ensures upto { OnOk result (IsUpto (corners_of C.COUNT C.number_of C.member_of self.now.pick) self.now.file.now self.now.head.now s (length (section_at self.now.file.now.reading.sections s).ress) (length (section_at self.now.file.now.reading.sections s).conns) (length (section_at self.now.file.now.reading.sections s).caps) 0 (drafted draft.new)) }
+        requires upto { IsUpto (corners_of C.COUNT C.number_of C.member_of self.now.pick) self.now.file.now self.now.head.now s
+            (length (section_at self.now.file.now.reading.sections s).ress)
+            (length (section_at self.now.file.now.reading.sections s).conns) 0 0 (drafted draft.old) }
+        ensures upto { OnOk result
+            (IsUpto (corners_of C.COUNT C.number_of C.member_of self.now.pick) self.now.file.now self.now.head.now s
+            (length (section_at self.now.file.now.reading.sections s).ress) (length (section_at self.now.file.now.reading.sections s).conns)
+            (length (section_at self.now.file.now.reading.sections s).caps) 0 (drafted draft.new)) }
         ensures grows { OnOk result (Grows (drafted draft.old).refs.words (drafted draft.new).refs.words) }
         ensures err { IfErr result (IsStop self.now.file.now self.now.head.now s) }
     {
@@ -282,9 +313,15 @@ impl<'r, 'f> Source<'r, 'f> {
         requires section { s < length self.now.file.now.reading.sections }
         requires head { IsHeadOf self.now.file.now self.now.head.now }
         requires place { i < length (section_at self.now.file.now.reading.sections s).ress }
-        requires upto { IsUpto (corners_of C.COUNT C.number_of C.member_of self.now.pick) self.now.file.now self.now.head.now s (length (section_at self.now.file.now.reading.sections s).ress) (length (section_at self.now.file.now.reading.sections s).conns) (length (section_at self.now.file.now.reading.sections s).caps) i (drafted draft.old) }
-        requires joined { (res : Res) → slice_get (section_at self.now.file.now.reading.sections s).ress i ≡ Some res → AreJoined self.now.file.now (drafted draft.old).refs.words res joined }
-        ensures upto { OnOk result (IsUpto (corners_of C.COUNT C.number_of C.member_of self.now.pick) self.now.file.now self.now.head.now s (length (section_at self.now.file.now.reading.sections s).ress) (length (section_at self.now.file.now.reading.sections s).conns) (length (section_at self.now.file.now.reading.sections s).caps) (i + 1) (drafted draft.new)) }
+        requires upto { IsUpto (corners_of C.COUNT C.number_of C.member_of self.now.pick) self.now.file.now self.now.head.now s
+            (length (section_at self.now.file.now.reading.sections s).ress) (length (section_at self.now.file.now.reading.sections s).conns)
+            (length (section_at self.now.file.now.reading.sections s).caps) i (drafted draft.old) }
+        requires joined { (res : Res) → slice_get (section_at self.now.file.now.reading.sections s).ress i ≡ Some res
+            → AreJoined self.now.file.now (drafted draft.old).refs.words res joined }
+        ensures upto { OnOk result
+            (IsUpto (corners_of C.COUNT C.number_of C.member_of self.now.pick) self.now.file.now self.now.head.now s
+            (length (section_at self.now.file.now.reading.sections s).ress) (length (section_at self.now.file.now.reading.sections s).conns)
+            (length (section_at self.now.file.now.reading.sections s).caps) (i + 1) (drafted draft.new)) }
         ensures words { OnOk result ((drafted draft.new).refs.words ≡ (drafted draft.old).refs.words) }
         ensures err { IfErr result (IsStop self.now.file.now self.now.head.now s) }
     {
@@ -304,10 +341,17 @@ impl<'r, 'f> Source<'r, 'f> {
     ) -> Result<(), SectionEnd>
         requires section { s < length self.now.file.now.reading.sections }
         requires head { IsHeadOf self.now.file.now self.now.head.now }
-        requires upto { IsUpto (corners_of C.COUNT C.number_of C.member_of self.now.pick) self.now.file.now self.now.head.now s (length (section_at self.now.file.now.reading.sections s).ress) (length (section_at self.now.file.now.reading.sections s).conns) (length (section_at self.now.file.now.reading.sections s).caps) 0 (drafted draft.old) }
+        requires upto { IsUpto (corners_of C.COUNT C.number_of C.member_of self.now.pick) self.now.file.now self.now.head.now s
+            (length (section_at self.now.file.now.reading.sections s).ress) (length (section_at self.now.file.now.reading.sections s).conns)
+            (length (section_at self.now.file.now.reading.sections s).caps) 0 (drafted draft.old) }
         requires many { length joints.now ≡ length (section_at self.now.file.now.reading.sections s).ress }
-        requires joints { AllJoined self.now.file.now (drafted draft.old).refs.words (section_at self.now.file.now.reading.sections s).ress joints.now }
-        ensures upto { OnOk result (IsUpto (corners_of C.COUNT C.number_of C.member_of self.now.pick) self.now.file.now self.now.head.now s (length (section_at self.now.file.now.reading.sections s).ress) (length (section_at self.now.file.now.reading.sections s).conns) (length (section_at self.now.file.now.reading.sections s).caps) (length (section_at self.now.file.now.reading.sections s).ress) (drafted draft.new)) }
+        requires joints { AllJoined self.now.file.now (drafted draft.old).refs.words
+            (section_at self.now.file.now.reading.sections s).ress joints.now }
+        ensures upto { OnOk result
+            (IsUpto (corners_of C.COUNT C.number_of C.member_of self.now.pick) self.now.file.now self.now.head.now s
+            (length (section_at self.now.file.now.reading.sections s).ress) (length (section_at self.now.file.now.reading.sections s).conns)
+            (length (section_at self.now.file.now.reading.sections s).caps) (length (section_at self.now.file.now.reading.sections s).ress)
+            (drafted draft.new)) }
         ensures err { IfErr result (IsStop self.now.file.now self.now.head.now s) }
     {
         for i in 0..self.file.res_count(s) {
@@ -326,9 +370,14 @@ impl<'r, 'f> Source<'r, 'f> {
         requires section { s < length self.now.file.now.reading.sections }
         requires head { IsHeadOf self.now.file.now self.now.head.now }
         requires net { net_at self.now.file.now (section_at self.now.file.now.reading.sections s).net ≡ Some (drafted draft.old).net.net }
-        requires new { IsGood self.now.file.now s (section_at self.now.file.now.reading.sections s) (naming (section_at self.now.file.now.reading.sections s).net) }
+        requires new { IsGood self.now.file.now s (section_at self.now.file.now.reading.sections s)
+            (naming (section_at self.now.file.now.reading.sections s).net) }
         requires fresh { drafted draft.old ≡ no_draft self.now.file.now (drafted draft.old).net.net }
-        ensures upto { OnOk result (IsUpto (corners_of C.COUNT C.number_of C.member_of self.now.pick) self.now.file.now self.now.head.now s (length (section_at self.now.file.now.reading.sections s).ress) (length (section_at self.now.file.now.reading.sections s).conns) (length (section_at self.now.file.now.reading.sections s).caps) (length (section_at self.now.file.now.reading.sections s).ress) (drafted draft.new)) }
+        ensures upto { OnOk result
+            (IsUpto (corners_of C.COUNT C.number_of C.member_of self.now.pick) self.now.file.now self.now.head.now s
+            (length (section_at self.now.file.now.reading.sections s).ress) (length (section_at self.now.file.now.reading.sections s).conns)
+            (length (section_at self.now.file.now.reading.sections s).caps) (length (section_at self.now.file.now.reading.sections s).ress)
+            (drafted draft.new)) }
         ensures err { IfErr result (IsStop self.now.file.now self.now.head.now s) }
     {
         self.begin::<C>(s, draft, joints)?;
@@ -349,10 +398,13 @@ impl<'r, 'f> Source<'r, 'f> {
         requires section { s < length self.now.file.now.reading.sections }
         requires head { IsHeadOf self.now.file.now self.now.head.now }
         requires net { net_at self.now.file.now (section_at self.now.file.now.reading.sections s).net ≡ Some net }
-        requires new { IsGood self.now.file.now s (section_at self.now.file.now.reading.sections s) (naming (section_at self.now.file.now.reading.sections s).net) }
-        ensures ok { IfOk result (IsNet (corners_of C.COUNT C.number_of C.member_of self.now.pick) self.now.file.now self.now.head.now (section_at self.now.file.now.reading.sections s)) }
+        requires new { IsGood self.now.file.now s (section_at self.now.file.now.reading.sections s)
+            (naming (section_at self.now.file.now.reading.sections s).net) }
+        ensures ok { IfOk result (IsNet (corners_of C.COUNT C.number_of C.member_of self.now.pick) self.now.file.now self.now.head.now
+            (section_at self.now.file.now.reading.sections s)) }
         ensures net { IfOk result (λ section. section.net ≡ net) }
-        ensures faultless { OnOk result (IsFaultless self.now.file.now self.now.head.now s (section_at self.now.file.now.reading.sections s)) }
+        ensures faultless { OnOk result
+            (IsFaultless self.now.file.now self.now.head.now s (section_at self.now.file.now.reading.sections s)) }
         ensures err { IfErr result (IsStop self.now.file.now self.now.head.now s) }
     {
         let conns = self.file.conn_count(s);

@@ -73,7 +73,8 @@ abbrev pub sifted_word : List ℕ → Option Word
 sifted_word [] = None
 sifted_word (first ∷ []) = None
 sifted_word (first ∷ letter ∷ []) = if first == 42 then lone_word letter else None
-sifted_word (first ∷ second ∷ third ∷ rest) = if first == 42 && is_ascii_uppercase second then lookup keywords (first ∷ second ∷ third ∷ rest) else None
+sifted_word (first ∷ second ∷ third ∷ rest) = if first == 42
+    && is_ascii_uppercase second then lookup keywords (first ∷ second ∷ third ∷ rest) else None
 
 -- a keyword of the file's head, or `*D_NET`, or one that is refused there
 abbrev pub is_top : Word → Bool

@@ -54,10 +54,27 @@ with_marks head marks = record { marks = marks; design = head.design; cap_unit =
 
 -- the head after an item: what an item sets counts from there on
 abbrev pub with_item : Head → HeadItem → Head
-with_item head (Divider mark) = with_marks head (record { divider = mark; delimiter = head.marks.delimiter; left = head.marks.left; right = head.marks.right })
-with_item head (Delimiter mark) = with_marks head (record { divider = head.marks.divider; delimiter = mark; left = head.marks.left; right = head.marks.right })
-with_item head (BusDelimiter left right) = with_marks head (record { divider = head.marks.divider; delimiter = head.marks.delimiter; left = left; right = right })
-with_item head (Design name) = record { marks = head.marks; design = name; cap_unit = head.cap_unit; res_unit = head.res_unit; map = head.map }
-with_item head (CapUnit number) = record { marks = head.marks; design = head.design; cap_unit = Some number; res_unit = head.res_unit; map = head.map }
-with_item head (ResUnit number) = record { marks = head.marks; design = head.design; cap_unit = head.cap_unit; res_unit = Some number; map = head.map }
-with_item head (Mapped entry) = record { marks = head.marks; design = head.design; cap_unit = head.cap_unit; res_unit = head.res_unit; map = head.map ++ entry ∷ [] }
+with_item head (Divider mark) = with_marks head
+    (record { divider = mark; delimiter = head.marks.delimiter; left = head.marks.left; right = head.marks.right })
+with_item head (Delimiter mark) = with_marks head
+    (record { divider = head.marks.divider; delimiter = mark; left = head.marks.left; right = head.marks.right })
+with_item head (BusDelimiter left right) =
+    with_marks head (record { divider = head.marks.divider; delimiter = head.marks.delimiter; left = left; right = right })
+with_item head (Design name) = record {
+  marks = head.marks;
+  design = name;
+  cap_unit = head.cap_unit;
+  res_unit = head.res_unit;
+  map = head.map;
+}
+with_item head (CapUnit number) = record
+    { marks = head.marks; design = head.design; cap_unit = Some number; res_unit = head.res_unit; map = head.map }
+with_item head (ResUnit number) = record
+    { marks = head.marks; design = head.design; cap_unit = head.cap_unit; res_unit = Some number; map = head.map }
+with_item head (Mapped entry) = record {
+  marks = head.marks;
+  design = head.design;
+  cap_unit = head.cap_unit;
+  res_unit = head.res_unit;
+  map = head.map ++ entry ∷ [];
+}

@@ -1,4 +1,5 @@
--- The grammar of SPEF (IEEE 1481), a relation by cases over numbered tokens: one definition for each line of it, with a constructor for each case. In each, `from` begins with what is said, and `rest` follows it.
+-- The grammar of SPEF (IEEE 1481), a relation by cases over numbered tokens: one definition for each line of it, with a constructor for
+-- each case. In each, `from` begins with what is said, and `rest` follows it.
 use Rattle.std.specs.Prelude.{◌≡◌, ℕ, true, false, List, [], ◌∷◌, ◌++◌, slice_index, Option, Some, None}
 use Rattle.token_fronts.specs.Tokens.{Token}
 use Rattle.spef_text.specs.Classes.{word_of, is_other, is_loose, is_mark, is_two_marks, is_value, is_id, is_index, is_map_name, is_ref, is_direction}
@@ -139,10 +140,12 @@ pub data IsTail : List Tok → Option ℕ → List Tok → Type 0 where
 pub data IsConn (mark : ℕ) : List Tok → Conn → List Tok → Type 0 where
   port : {keyword node direction : Tok} {from rest : List Tok} {load : Option ℕ}
       → Is word.Port keyword → IsRef mark node → IsDirection direction → IsTail from load rest
-      → IsConn mark (keyword ∷ node ∷ direction ∷ from) (record { port = true; node = node.number; direction = byte_at direction 0; load = load }) rest
+      → IsConn mark (keyword ∷ node ∷ direction ∷ from)
+      (record { port = true; node = node.number; direction = byte_at direction 0; load = load }) rest
   internal : {keyword node direction : Tok} {from rest : List Tok} {load : Option ℕ}
       → Is word.Internal keyword → IsRef mark node → IsDirection direction → IsTail from load rest
-      → IsConn mark (keyword ∷ node ∷ direction ∷ from) (record { port = false; node = node.number; direction = byte_at direction 0; load = load }) rest
+      → IsConn mark (keyword ∷ node ∷ direction ∷ from)
+      (record { port = false; node = node.number; direction = byte_at direction 0; load = load }) rest
 
 -- { loose }
 pub data AreLoose : List Tok → List Tok → Type 0 where
@@ -170,7 +173,8 @@ pub data IsCap (mark : ℕ) : List Tok → Cap → List Tok → Type 0 where
       → IsCap mark (id ∷ first ∷ value ∷ rest) (record { first = first.number; second = None; value = value.number }) rest
   coupling : {id first second value : Tok} {rest : List Tok}
       → IsId id → IsRef mark first → IsRef mark second → IsValue value
-      → IsCap mark (id ∷ first ∷ second ∷ value ∷ rest) (record { first = first.number; second = Some second.number; value = value.number }) rest
+      → IsCap mark (id ∷ first ∷ second ∷ value ∷ rest)
+      (record { first = first.number; second = Some second.number; value = value.number }) rest
 
 -- res = id ref ref value
 pub data IsRes (mark : ℕ) : List Tok → Res → List Tok → Type 0 where
@@ -186,7 +190,8 @@ pub data IsConfidence : List Tok → List Tok → Type 0 where
       → IsConfidence (keyword ∷ literal ∷ rest) rest
 
 -- [ "*CONN" { conn } ], [ "*CAP" { cap } ], [ "*RES" { res } ]: a keyword and a list, or neither
-pub data IsPart {E : Type 0} (keyword : Word) (Entries : List Tok → List E → List Tok → Type 0) : List Tok → List E → List Tok → Type 0 where
+pub data IsPart {E : Type 0} (keyword : Word) (Entries : List Tok → List E → List Tok → Type 0) : List Tok → List E
+    → List Tok → Type 0 where
   no_part : {from : List Tok} → IsPart keyword Entries from [] from
   part : {head : Tok} {from rest : List Tok} {entries : List E}
       → Is keyword head → Entries from entries rest
@@ -194,7 +199,8 @@ pub data IsPart {E : Type 0} (keyword : Word) (Entries : List Tok → List E →
 
 -- section = "*D_NET" ref value [ "*V" literal ] [ "*CONN" { conn } ] [ "*CAP" { cap } ] [ "*RES" { res } ] "*END"
 pub data IsSection (mark : ℕ) : List Tok → Section → List Tok → Type 0 where
-  section : {keyword net total end : Tok} {from at_conns at_caps at_ress rest : List Tok} {conns : List Conn} {caps : List Cap} {ress : List Res}
+  section : {keyword net total end : Tok} {from at_conns at_caps at_ress rest : List Tok} {conns : List Conn}
+      {caps : List Cap} {ress : List Res}
       → Is word.Net keyword → IsRef mark net → IsValue total
       → IsConfidence from at_conns
       → IsPart word.Conn (Conns mark) at_conns conns at_caps

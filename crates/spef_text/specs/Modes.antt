@@ -1,4 +1,5 @@
--- A SPEF file taken one token at a time: what is waited for, and what each token then does. It is the grammar unrolled for the reader's loop; the proofs show that both say the same.
+-- A SPEF file taken one token at a time: what is waited for, and what each token then does. It is the grammar unrolled for the reader's
+-- loop; the proofs show that both say the same.
 use Rattle.std.specs.Prelude.{ℕ, Bool, true, false, if◌then◌else◌, List, [], ◌∷◌, ◌++◌, slice_index, Option, Some, None, Result, Ok, Err, ⊤}
 use Rattle.token_fronts.specs.Tokens.{Token}
 use Rattle.spef_text.specs.Classes.{word_of, is_other, is_loose, is_mark, is_two_marks, is_value, is_id, is_index, is_map_name, is_ref, is_direction}
@@ -119,7 +120,8 @@ next_mode (CapWord at) mark number text = or_else (is_other text) (Put Items (Ca
 next_mode ResNumber mark number text = go_if (is_literal text) (ResWord number)
 next_mode (ResWord at) mark number text = or_else (is_other text) (Put Items (ResUnit at)) Refuse
 next_mode NameMap mark number text = or_else (is_index text) (Go (MapName number)) (top_step (word_of text))
-next_mode (MapName index) mark number text = or_else (is_map_name text) (Put NameMap (Mapped (record { index = index; name = number }))) Refuse
+next_mode (MapName index) mark number text =
+    or_else (is_map_name text) (Put NameMap (Mapped (record { index = index; name = number }))) Refuse
 next_mode Sections mark number text = sections_step (word_of text)
 next_mode NetName mark number text = or_else (is_ref mark text) (Open number) Refuse
 next_mode NetTotal mark number text = go_if (is_value text) AfterTotal
@@ -139,11 +141,13 @@ next_mode CapFirst mark number text = go_if (is_ref mark text) (CapSecond number
 next_mode (CapSecond first) mark number text =
     or_else (is_value text) (AddCap (record { first = first; second = None; value = number }))
     (go_if (is_ref mark text) (CapValue first number))
-next_mode (CapValue first second) mark number text = or_else (is_value text) (AddCap (record { first = first; second = Some second; value = number })) Refuse
+next_mode (CapValue first second) mark number text =
+    or_else (is_value text) (AddCap (record { first = first; second = Some second; value = number })) Refuse
 next_mode Ress mark number text = or_else (is_id text) (Go ResFirst) (ress_step (word_of text))
 next_mode ResFirst mark number text = go_if (is_ref mark text) (ResSecond number)
 next_mode (ResSecond first) mark number text = go_if (is_ref mark text) (ResValue first number)
-next_mode (ResValue first second) mark number text = or_else (is_value text) (AddRes (record { first = first; second = second; value = number })) Refuse
+next_mode (ResValue first second) mark number text =
+    or_else (is_value text) (AddRes (record { first = first; second = second; value = number })) Refuse
 
 -- an entry as it is said, from how it is kept
 abbrev pub conn_of : ConnAt → Conn
@@ -192,7 +196,8 @@ state_after s (Open net) = Ok (record { mode = NetTotal; head = s.head; done = s
 state_after s (Join mode conn) = Ok (record { mode = mode; head = s.head; done = s.done; begun = with_conn s.begun conn })
 state_after s (AddCap cap) = Ok (record { mode = Caps; head = s.head; done = s.done; begun = with_cap s.begun cap })
 state_after s (AddRes res) = Ok (record { mode = Ress; head = s.head; done = s.done; begun = with_res s.begun res })
-state_after s (Close last) = Ok (record { mode = Sections; head = s.head; done = s.done ++ with_last s.begun last ∷ []; begun = no_section })
+state_after s (Close last) =
+    Ok (record { mode = Sections; head = s.head; done = s.done ++ with_last s.begun last ∷ []; begun = no_section })
 
 abbrev pub next : State → Token (List ℕ) → Result State ⊤
 next s token = state_after s (next_mode s.mode s.head.marks.delimiter token.number token.text)

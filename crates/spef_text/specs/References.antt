@@ -45,7 +45,8 @@ before (Some place) word = take place word
 abbrev pub digits_in : ℕ → List ℕ → List ℕ
 digits_in delimiter word = index_digits (before (index_end delimiter word) word)
 
--- The node of a word whose index stands for the name. The name is never cut: alone it is a head alone, and with a tail the head. Where the word is not to be cut, the name, the delimiter and the tail are one head.
+-- The node of a word whose index stands for the name. The name is never cut: alone it is a head alone, and with a tail the head. Where the
+-- word is not to be cut, the name, the delimiter and the tail are one head.
 abbrev pub mapped_node : SpefMarks → Bool → List ℕ → List ℕ → Option ℕ → NodeName
 mapped_node marks cut name word None = whole_node marks (characters name)
 mapped_node marks true name word (Some place) = cut_node marks (characters name) (characters (drop (place + 1) word))

@@ -45,12 +45,14 @@ begun_from from net conns caps ress = record {
 }
 
 abbrev pub table_of : List End → ℕ → List ConnAt → List CapAt → List ResAt → SectionTable
-table_of ends net conns caps ress = record { done = sections_from start ends conns caps ress; begun = begun_from (last_end start ends) net conns caps ress }
+table_of ends net conns caps ress = record
+    { done = sections_from start ends conns caps ress; begun = begun_from (last_end start ends) net conns caps ress }
 
 -- no section ends before one in front of it, nor behind all entries
 abbrev pub AreInOrder : End → List End → ℕ → ℕ → ℕ → Type 0
 AreInOrder from [] conns caps ress = (from.conns ≤ conns) × (from.caps ≤ caps) × (from.ress ≤ ress)
-AreInOrder from (to ∷ ends) conns caps ress = (from.conns ≤ to.conns) × (from.caps ≤ to.caps) × (from.ress ≤ to.ress) × AreInOrder to ends conns caps ress
+AreInOrder from (to ∷ ends) conns caps ress = (from.conns ≤ to.conns) × (from.caps ≤ to.caps) × (from.ress ≤ to.ress)
+    × AreInOrder to ends conns caps ress
 
 abbrev pub no_table : SectionTable
 no_table = record { done = []; begun = no_section }

@@ -55,7 +55,8 @@ IsDead bytes OutOfMemory = ⊤
 
 -- the word of a refusal is its token's text, a refused word; where there is none, that token is no refused word
 abbrev pub IsRefusalAt : List (List ℕ) → ℕ → SpefEnd → Type 0
-IsRefusalAt texts number (Syntax token) = (token ≡ number) × ((text : List ℕ) → slice_get texts (number - 1) ≡ Some text → is_refused text ≡ false)
+IsRefusalAt texts number (Syntax token) = (token ≡ number)
+    × ((text : List ℕ) → slice_get texts (number - 1) ≡ Some text → is_refused text ≡ false)
 IsRefusalAt texts number (Form word token) = (token ≡ number) × (slice_get texts (number - 1) ≡ Some word) × (is_refused word ≡ true)
 IsRefusalAt texts number OutOfMemory = ⊤
 

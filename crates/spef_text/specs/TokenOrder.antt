@@ -18,7 +18,8 @@ res_tokens res = res.first ∷ res.second ∷ res.value ∷ []
 
 -- the net's name, then the connections, the capacitances and the resistances
 abbrev pub section_tokens : Section → List ℕ
-section_tokens section = section.net ∷ (flat_map conn_tokens section.conns ++ flat_map cap_tokens section.caps ++ flat_map res_tokens section.ress)
+section_tokens section = section.net
+    ∷ (flat_map conn_tokens section.conns ++ flat_map cap_tokens section.caps ++ flat_map res_tokens section.ress)
 
 -- each of these tokens stands behind the one before it, one section behind the other; the first of them is a token, past 0
 abbrev pub AreInFileOrder : List Section → Type 0

@@ -40,7 +40,8 @@ is_solid byte = not (is_blank byte)
 abbrev pub run_length : List ℕ → ℕ
 run_length bytes = escaped_run_length is_solid bytes
 
--- What stands at the front of `first ∷ rest`: bytes that are passed over, a token, or what no text of the grammar has: an open text, an open comment, and a backslash that has no byte to take.
+-- What stands at the front of `first ∷ rest`: bytes that are passed over, a token, or what no text of the grammar has: an open text, an
+-- open comment, and a backslash that has no byte to take.
 unfoldable pub cut_at : ℕ → List ℕ → Cut
 cut_at first rest =
     if is_blank first then Skip 1

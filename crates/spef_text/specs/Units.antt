@@ -25,7 +25,8 @@ power_in (known ∷ later) word = if same_word word known.0 then Some known.1 el
 abbrev pub power_of : Quantity → List ℕ → Option ℤ
 power_of quantity word = power_in (powers quantity) word
 
--- The unit that a literal and a word name: the literal's digits, times ten to its exponent and the word's power. A unit's digits are from 1 to 9,999,999, and its exponent is from -99 to 99.
+-- The unit that a literal and a word name: the literal's digits, times ten to its exponent and the word's power. A unit's digits are from 1
+-- to 9,999,999, and its exponent is from -99 to 99.
 pub record IsUnit (quantity : Quantity) (number word : List ℕ) (unit : Unit) : Type 0 where
   pub power : ℤ
   pub known : power_of quantity word ≡ Some power

@@ -22,10 +22,14 @@ pub struct SpefFile<'a> {
 impl<'a> Model for SpefFile<'a> {
     ghost Value = { SpefText };
 
-    ghost view = { λ f. record { texts = texts f.bytes.now f.spans.items; reading = record { head = f.head; sections = f.sections.done } } };
+    ghost view = { λ f. record {
+      texts = texts f.bytes.now f.spans.items;
+      reading = record { head = f.head; sections = f.sections.done };
+    } };
 
     // what is kept is what the tokens say, and they are few
-    ghost invariant = { λ f. IsKept (record { texts = texts f.bytes.now f.spans.items; reading = record { head = f.head; sections = f.sections.done } }) };
+    ghost invariant = { λ f. IsKept
+        (record { texts = texts f.bytes.now f.spans.items; reading = record { head = f.head; sections = f.sections.done } }) };
 }
 
 impl<'a> SpefFile<'a> {

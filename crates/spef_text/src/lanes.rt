@@ -13,7 +13,8 @@ const WIDTH: usize = 16;
 #[inline]
 fn ends_from(bytes: &[u8], place: usize) -> u64
     requires { place + 16 ≤ length bytes.now }
-    ensures { (k : ℕ) → k < 16 → bit_at result k ≡ 0 → (is_blank (slice_index bytes.now (place + k)) ≡ false) × (is_backslash (slice_index bytes.now (place + k)) ≡ false) }
+    ensures { (k : ℕ) → k < 16 → bit_at result k ≡ 0 → (is_blank (slice_index bytes.now (place + k)) ≡ false)
+        × (is_backslash (slice_index bytes.now (place + k)) ≡ false) }
 {
     let lanes = u8x16::from_slice(&bytes[place..]);
     let low = lanes.simd_le(u8x16::splat(b' ')).to_bitmask();
@@ -26,7 +27,8 @@ fn ends_from(bytes: &[u8], place: usize) -> u64
 pub fn plain_length(bytes: &[u8], place: usize) -> usize
     requires { place ≤ length bytes.now }
     ensures within { place + result ≤ length bytes.now }
-    ensures plain { (k : ℕ) → k < result → (is_blank (slice_index bytes.now (place + k)) ≡ false) × (is_backslash (slice_index bytes.now (place + k)) ≡ false) }
+    ensures plain { (k : ℕ) → k < result → (is_blank (slice_index bytes.now (place + k)) ≡ false)
+        × (is_backslash (slice_index bytes.now (place + k)) ≡ false) }
 {
     if bytes.len() - place < WIDTH {
         return 0;

@@ -65,7 +65,8 @@ pub fn parse(alloc: Global, bytes: &[u8]) -> Result<SpefFile<'_>, SpefEnd>
     // It is `Form`, with the word, exactly where that token is a refused word.
     ensures form { IfErr result (HasForm bytes.now) }
     // What the bytes say is answered, unless memory ran out.
-    ensures only { (reading : Reading) → SaysSpef bytes.now reading → MatchResult result (λ file. file.reading ≡ reading) (λ end. end ≡ SpefEnd.OutOfMemory) }
+    ensures only { (reading : Reading) → SaysSpef bytes.now reading
+        → MatchResult result (λ file. file.reading ≡ reading) (λ end. end ≡ SpefEnd.OutOfMemory) }
 {
     let spans = match scan(alloc, bytes) {
         Ok(spans) => spans,

@@ -79,7 +79,8 @@ impl Reader {
 
     /// Takes the token of this number, and tells whether it can stand here.
     fn take(&mut self, number: u32, text: &[u8]) -> Result<bool, OutOfMemory>
-        ensures { IfOk result (Steps (state_of self.old) (state_of self.new) (next_mode self.old.mode self.old.head.marks.delimiter number text.now)) }
+        ensures { IfOk result (Steps (state_of self.old) (state_of self.new)
+            (next_mode self.old.mode self.old.head.marks.delimiter number text.now)) }
     {
         let step = self.mode.next(self.head.delimiter(), number, text);
         self.step(step)

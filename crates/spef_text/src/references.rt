@@ -199,7 +199,8 @@ impl Head {
             Err(_) => Err(ResolveEnd::OutOfMemory),
         }
     }
-    /// The head and the tail of the node that a token names, cut as [`resolve`](Head::resolve) cuts it, where both stand in the file as they
+    /// The head and the tail of the node that a token names, cut as [`resolve`](Head::resolve) cuts it, where both stand in the file as
+    /// they
     /// are written. Most do. It takes no memory, and at most one look-up in the map.
     pub fn written<'f>(&self, file: &'f SpefFile<'_>, token: u64) -> Option<WrittenName<'f>>
         requires { IsHeadOf file.now self.now }

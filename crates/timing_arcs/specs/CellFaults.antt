@@ -13,7 +13,8 @@ use Rattle.timing_arcs.specs.DelayGroups.{DelayGroup, delays_of, related_names, 
 use Rattle.timing_arcs.specs.TableModel.{TableMeans, TransitionMeans}
 use Rattle.timing_arcs.specs.declared.library_units.LibraryUnits.{LibraryUnits}
 
--- What is asked: the unit of times, that of loads; the direction of a `pin` group, its capacitance; whether the names in `related_pin` are pins, a delay table, whether a transition table stands beside it, and what that says.
+-- What is asked: the unit of times, that of loads; the direction of a `pin` group, its capacitance; whether the names in `related_pin` are
+-- pins, a delay table, whether a transition table stands beside it, and what that says.
 pub data Question : Type 0 where
   time_unit : Question
   load_unit : Question
@@ -60,21 +61,29 @@ pub data IsSound (library : Group) : Question → Type 0 where
   time_known : {unit : Unit} → IsTimeUnit library unit → IsSound library time_unit
   load_known : {unit : Unit} → IsLoadUnit library unit → IsSound library load_unit
   directed : {pin : Group} {way : Direction} → direction_of pin ≡ Some way → IsSound library (direction pin)
-  measured : {pin : Group} {unit : Unit} {grains : ℕ} → IsLoadUnit library unit → IsCapacitance unit (capacitance_texts library pin) grains → IsSound library (capacitance pin)
-  related : {pins : List PinEntry} {group : Group} → All (λ name. is_pin_in pins name ≡ true) (related_names group) → IsSound library (related_pins pins group)
-  tabled : {group : Group} {units : LibraryUnits} {made : TimingTable} → AreUnits library units → TableMeans library group units (Ok made) → IsSound library (table group)
-  transition_known : {group : Group} {units : LibraryUnits} {made : TimingTable} → AreUnits library units → TransitionMeans library group units (Ok made) → IsSound library (transition_table group)
+  measured : {pin : Group} {unit : Unit} {grains : ℕ} → IsLoadUnit library unit → IsCapacitance unit (capacitance_texts library pin) grains
+      → IsSound library (capacitance pin)
+  related : {pins : List PinEntry} {group : Group} → All (λ name. is_pin_in pins name ≡ true) (related_names group)
+      → IsSound library (related_pins pins group)
+  tabled : {group : Group} {units : LibraryUnits} {made : TimingTable} → AreUnits library units → TableMeans library group units (Ok made)
+      → IsSound library (table group)
+  transition_known : {group : Group} {units : LibraryUnits} {made : TimingTable} → AreUnits library units
+      → TransitionMeans library group units (Ok made) → IsSound library (transition_table group)
 
 -- a question has this fault
 pub data IsFaulty (library : Group) : Question → CellFault → Type 0 where
   no_time_unit : ((unit : Unit) → ¬ IsTimeUnit library unit) → IsFaulty library time_unit BadUnit
   no_load_unit : ((unit : Unit) → ¬ IsLoadUnit library unit) → IsFaulty library load_unit BadUnit
   no_direction : {pin : Group} → direction_of pin ≡ None → IsFaulty library (direction pin) BadDirection
-  no_capacitance : {pin : Group} {unit : Unit} → IsLoadUnit library unit → ((grains : ℕ) → ¬ IsCapacitance unit (capacitance_texts library pin) grains) → IsFaulty library (capacitance pin) BadNumber
-  unrelated : {pins : List PinEntry} {group : Group} {name : List ℕ} → Contains (related_names group) name → is_pin_in pins name ≡ false → IsFaulty library (related_pins pins group) UnknownRelatedPin
-  bad_table : {group : Group} {units : LibraryUnits} {fault : CellFault} → AreUnits library units → TableMeans library group units (Err fault) → IsFaulty library (table group) fault
+  no_capacitance : {pin : Group} {unit : Unit} → IsLoadUnit library unit
+      → ((grains : ℕ) → ¬ IsCapacitance unit (capacitance_texts library pin) grains) → IsFaulty library (capacitance pin) BadNumber
+  unrelated : {pins : List PinEntry} {group : Group} {name : List ℕ} → Contains (related_names group) name → is_pin_in pins name ≡ false
+      → IsFaulty library (related_pins pins group) UnknownRelatedPin
+  bad_table : {group : Group} {units : LibraryUnits} {fault : CellFault} → AreUnits library units
+      → TableMeans library group units (Err fault) → IsFaulty library (table group) fault
   missing_transition : IsFaulty library transition NoTransition
-  bad_transition : {group : Group} {units : LibraryUnits} {fault : CellFault} → AreUnits library units → TransitionMeans library group units (Err fault) → IsFaulty library (transition_table group) fault
+  bad_transition : {group : Group} {units : LibraryUnits} {fault : CellFault} → AreUnits library units
+      → TransitionMeans library group units (Err fault) → IsFaulty library (transition_table group) fault
 
 -- the first question that has a fault has this one
 pub record IsFirstFault (library : Group) (questions : List Question) (fault : CellFault) : Type 0 where
@@ -93,5 +102,6 @@ pub data IsRefusal (library : Group) (questions : List Question) : CellFault →
 -- why there is no model of the cell of a name
 pub data IsCellFault (library : Group) (name : List ℕ) : CellFault → Type 0 where
   no_such_cell : cell_group library name ≡ None → IsCellFault library name NoSuchCell
-  fault_of : {group : Group} {fault : CellFault} → cell_group library name ≡ Some group → IsRefusal library (questions_of group) fault → IsCellFault library name fault
+  fault_of : {group : Group} {fault : CellFault} → cell_group library name ≡ Some group → IsRefusal library (questions_of group) fault
+      → IsCellFault library name fault
   no_cell_memory : IsCellFault library name OutOfMemory

@@ -23,7 +23,8 @@ pub record DelayGroup : Type 0 where
 abbrev pub is_delay_type : Option (List ℕ) → Bool
 is_delay_type None = true
 is_delay_type (Some text) = list_any (bytes_eq text)
-    (codes "combinational" ∷ codes "combinational_rise" ∷ codes "combinational_fall" ∷ codes "rising_edge" ∷ codes "falling_edge" ∷ codes "preset" ∷ codes "clear" ∷ [])
+    (codes "combinational" ∷ codes "combinational_rise" ∷ codes "combinational_fall" ∷ codes "rising_edge" ∷ codes "falling_edge"
+    ∷ codes "preset" ∷ codes "clear" ∷ [])
 
 -- a `timing` group of such a type that has a delay table
 unfoldable pub is_delay_group : Group → Bool
@@ -73,7 +74,8 @@ pub record ArcEntry : Type 0 where
 
 -- a delay group gives an arc for each name in `related_pin` that is an input pin
 abbrev pub arcs_in : List PinEntry → DelayGroup → List ArcEntry
-arcs_in pins delay = map (λ name. record { from = name; to = delay.to; group = delay.group }) (filter (is_input_in pins) (related_names delay.group))
+arcs_in pins delay = map (λ name. record { from = name; to = delay.to; group = delay.group })
+    (filter (is_input_in pins) (related_names delay.group))
 
 -- by output pin, then by group, then by related pin
 unfoldable pub arcs_of : Group → List ArcEntry
@@ -82,15 +84,18 @@ arcs_of cell = flat_map (arcs_in (pins_of cell)) (delays_of cell)
 -- the tables of an edge: a delay table, and then a transition table
 pub data AreEdgeTables (library : Group) : Option Group → Option Group → Option EdgeTables → Type 0 where
   no_edge : {slew : Option Group} → AreEdgeTables library None slew None
-  edge : {delay slew : Group} {tables : EdgeTables} {units : LibraryUnits} → AreUnits library units → TableMeans library delay units (Ok tables.delay) → TransitionMeans library slew units (Ok tables.slew)
+  edge : {delay slew : Group} {tables : EdgeTables} {units : LibraryUnits} → AreUnits library units
+      → TableMeans library delay units (Ok tables.delay) → TransitionMeans library slew units (Ok tables.slew)
       → AreEdgeTables library (Some delay) (Some slew) (Some tables)
 
 -- the tables of a group's rise, and of its fall
 abbrev pub IsRise : Group → Group → Option EdgeTables → Type 0
-IsRise library timing tables = AreEdgeTables library (first_group (codes "cell_rise") timing) (first_group (codes "rise_transition") timing) tables
+IsRise library timing tables = AreEdgeTables library (first_group (codes "cell_rise") timing)
+    (first_group (codes "rise_transition") timing) tables
 
 abbrev pub IsFall : Group → Group → Option EdgeTables → Type 0
-IsFall library timing tables = AreEdgeTables library (first_group (codes "cell_fall") timing) (first_group (codes "fall_transition") timing) tables
+IsFall library timing tables = AreEdgeTables library (first_group (codes "cell_fall") timing)
+    (first_group (codes "fall_transition") timing) tables
 
 -- an arc of a cell whose pins have these names
 pub record IsArc (library : Group) (names : List (List ℕ)) (entry : ArcEntry) (arc : Arc) : Type 0 where

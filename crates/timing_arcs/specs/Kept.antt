@@ -22,7 +22,8 @@ pub data AreKept (unit : Unit) (pieces : List (List ℕ)) : Bool → List ℤ �
 -- the readings of these pieces too
 abbrev pub KeepsMore : Unit → List (List ℕ) → Readings → Readings → Type 0
 KeepsMore unit more before after =
-    (pieces : List (List ℕ)) → AreKept unit pieces before.within before.values.items → AreKept unit (pieces ++ more) after.within after.values.items
+    (pieces : List (List ℕ)) → AreKept unit pieces before.within before.values.items
+    → AreKept unit (pieces ++ more) after.within after.values.items
 
 -- why there are no readings
 pub data IsListFault (pieces : List (List ℕ)) : CellFault → Type 0 where

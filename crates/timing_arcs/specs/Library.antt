@@ -1,4 +1,5 @@
--- Which groups and attributes of a Liberty library count: of several attributes of one name in a group the last, of several groups of one name and first argument the first.
+-- Which groups and attributes of a Liberty library count: of several attributes of one name in a group the last, of several groups of one
+-- name and first argument the first.
 use Rattle.std.specs.Prelude.{ℕ, Bool, false, ◌&&◌, codes, List, slice_get, filter, find, bytes_eq, Option, Some, None}
 use Rattle.liberty_groups.specs.Groups.{Group, name_of, args_of, attributes_of, groups_of}
 use Rattle.timing_arcs.specs.Attributes.{values_of, simple_of}

@@ -39,7 +39,8 @@ pub record IsTiming (library timing : Group) (kind : ArcKind) (rise fall : Optio
   pub fall_is : IsFall library timing fall
 
 -- arcs are added that are those of some entries, and none of these questions has a fault
-pub record AreAdded (library : Group) (names : List (List ℕ)) (entries : List ArcEntry) (questions : List Question) (old new : List Arc) : Type 0 where
+pub record AreAdded (library : Group) (names : List (List ℕ)) (entries : List ArcEntry) (questions : List Question)
+    (old new : List Arc) : Type 0 where
   pub sound : All (IsSound library) questions
   pub arcs : (before : List ArcEntry) → AllZip (IsArc library names) before old → AllZip (IsArc library names) (before ++ entries) new
 

@@ -35,7 +35,8 @@ load_power word =
     else if bytes_eq (lower word) (codes "pf") then Some (pos 9)
     else None
 
--- The unit of capacitances that a number and a word name, as `1.5` and `pf`. A unit's digits are from 1 to 9,999,999, and its exponent is from -99 to 99.
+-- The unit of capacitances that a number and a word name, as `1.5` and `pf`. A unit's digits are from 1 to 9,999,999, and its exponent is
+-- from -99 to 99.
 pub record IsUnitOf (number word : List ℕ) (unit : Unit) : Type 0 where
   pub power : ℤ
   pub known : load_power word ≡ Some power

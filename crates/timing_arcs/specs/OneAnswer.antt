@@ -9,11 +9,13 @@ use Rattle.timing_arcs.specs.declared.faults.CellFault.TheVariants.{OutOfMemory}
 
 -- a cell that has a model has no fault, want of memory aside
 abbrev pub NoFaultBeside : Type 0
-NoFaultBeside = (library : Group) (name : List ℕ) (cell : TimedCell) (fault : CellFault) → IsModel library name cell → IsCellFault library name fault → fault ≡ OutOfMemory
+NoFaultBeside = (library : Group) (name : List ℕ) (cell : TimedCell) (fault : CellFault) → IsModel library name cell
+    → IsCellFault library name fault → fault ≡ OutOfMemory
 
 -- two faults of a cell are one, where neither is want of memory
 abbrev pub OneFault : Type 0
-OneFault = (library : Group) (name : List ℕ) (one other : CellFault) → IsCellFault library name one → IsCellFault library name other → one ≢ OutOfMemory → other ≢ OutOfMemory → one ≡ other
+OneFault = (library : Group) (name : List ℕ) (one other : CellFault) → IsCellFault library name one → IsCellFault library name other
+    → one ≢ OutOfMemory → other ≢ OutOfMemory → one ≡ other
 
 -- two models of a cell are one
 abbrev pub OneModel : Type 0

@@ -12,7 +12,9 @@ abbrev pub AreOne : {A : Type 0} → Result A CellFault → Result A CellFault �
 AreOne one other = one ≢ Err OutOfMemory → other ≢ Err OutOfMemory → one ≡ other
 
 abbrev pub OneTable : Type 0
-OneTable = (library table : Group) (units : LibraryUnits) (one other : Result TimingTable CellFault) → TableMeans library table units one → TableMeans library table units other → AreOne one other
+OneTable = (library table : Group) (units : LibraryUnits) (one other : Result TimingTable CellFault) → TableMeans library table units one
+    → TableMeans library table units other → AreOne one other
 
 abbrev pub OneTransition : Type 0
-OneTransition = (library table : Group) (units : LibraryUnits) (one other : Result TimingTable CellFault) → TransitionMeans library table units one → TransitionMeans library table units other → AreOne one other
+OneTransition = (library table : Group) (units : LibraryUnits) (one other : Result TimingTable CellFault)
+    → TransitionMeans library table units one → TransitionMeans library table units other → AreOne one other

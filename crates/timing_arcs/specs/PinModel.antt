@@ -59,7 +59,9 @@ abbrev pub default_texts : Group → List (List ℕ)
 default_texts library = option_to_list (value_in (codes "default_input_pin_cap") library)
 
 abbrev pub edges_texts : Group → Group → List (List ℕ)
-edges_texts library pin = or_else (option_to_list (value_in (codes "rise_capacitance") pin) ++ option_to_list (value_in (codes "fall_capacitance") pin)) (default_texts library)
+edges_texts library pin =
+    or_else (option_to_list (value_in (codes "rise_capacitance") pin) ++ option_to_list (value_in (codes "fall_capacitance") pin))
+    (default_texts library)
 
 abbrev pub capacitance_texts : Group → Group → List (List ℕ)
 capacitance_texts library pin = or_else (option_to_list (value_in (codes "capacitance") pin)) (edges_texts library pin)

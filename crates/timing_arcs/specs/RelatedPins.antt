@@ -12,7 +12,8 @@ IsAt names name place = slice_get names place ≡ Some name
 
 -- a name is that of a pin, and this is its place, if it is an input pin
 pub data IsPlaceOf (pins : List PinEntry) (names : List (List ℕ)) (name : List ℕ) : Option ℕ → Type 0 where
-  input_pin : {place : ℕ} → IsAt names name place → is_pin_in pins name ≡ true → is_input_in pins name ≡ true → IsPlaceOf pins names name (Some place)
+  input_pin : {place : ℕ} → IsAt names name place → is_pin_in pins name ≡ true → is_input_in pins name ≡ true
+      → IsPlaceOf pins names name (Some place)
   other_pin : is_pin_in pins name ≡ true → is_input_in pins name ≡ false → IsPlaceOf pins names name None
 
 -- some names are those of pins, and these are the places of the input pins among them

@@ -6,16 +6,19 @@ use Rattle.timing_arcs.specs.declared.cell.Pin.{Pin}
 use Rattle.timing_arcs.specs.declared.cell.Arc.{Arc}
 
 module _ (ones others : List Arc) where
-  same_pins_of : (pins also : List Pin) → map pin_entry pins ++ map arc_entry ones ≡ map pin_entry also ++ map arc_entry others → map pin_entry pins ≡ map pin_entry also
+  same_pins_of : (pins also : List Pin) → map pin_entry pins ++ map arc_entry ones ≡ map pin_entry also ++ map arc_entry others
+      → map pin_entry pins ≡ map pin_entry also
   same_pins_of [] [] same = refl
   same_pins_of [] (pin ∷ also) same = by ones same
     where
-      by : (arcs : List Arc) → map arc_entry arcs ≡ pin_entry pin ∷ (map pin_entry also ++ map arc_entry others) → [] ≡ map pin_entry (pin ∷ also)
+      by : (arcs : List Arc) → map arc_entry arcs ≡ pin_entry pin ∷ (map pin_entry also ++ map arc_entry others)
+          → [] ≡ map pin_entry (pin ∷ also)
       by [] same = cc
       by (arc ∷ arcs) same = cc
   same_pins_of (pin ∷ pins) [] same = by others same
     where
-      by : (arcs : List Arc) → pin_entry pin ∷ (map pin_entry pins ++ map arc_entry ones) ≡ map arc_entry arcs → map pin_entry (pin ∷ pins) ≡ []
+      by : (arcs : List Arc) → pin_entry pin ∷ (map pin_entry pins ++ map arc_entry ones) ≡ map arc_entry arcs
+          → map pin_entry (pin ∷ pins) ≡ []
       by [] same = cc
       by (arc ∷ arcs) same = cc
   same_pins_of (pin ∷ pins) (here ∷ also) same =
@@ -24,16 +27,19 @@ module _ (ones others : List Arc) where
       let rest : map pin_entry pins ≡ map pin_entry also = same_pins_of pins also behind in
       cc
 
-  same_arcs_of : (pins also : List Pin) → map pin_entry pins ++ map arc_entry ones ≡ map pin_entry also ++ map arc_entry others → map arc_entry ones ≡ map arc_entry others
+  same_arcs_of : (pins also : List Pin) → map pin_entry pins ++ map arc_entry ones ≡ map pin_entry also ++ map arc_entry others
+      → map arc_entry ones ≡ map arc_entry others
   same_arcs_of [] [] same = same
   same_arcs_of [] (pin ∷ also) same = by ones same
     where
-      by : (arcs : List Arc) → map arc_entry arcs ≡ pin_entry pin ∷ (map pin_entry also ++ map arc_entry others) → map arc_entry arcs ≡ map arc_entry others
+      by : (arcs : List Arc) → map arc_entry arcs ≡ pin_entry pin ∷ (map pin_entry also ++ map arc_entry others)
+          → map arc_entry arcs ≡ map arc_entry others
       by [] same = cc
       by (arc ∷ arcs) same = cc
   same_arcs_of (pin ∷ pins) [] same = by others same
     where
-      by : (arcs : List Arc) → pin_entry pin ∷ (map pin_entry pins ++ map arc_entry ones) ≡ map arc_entry arcs → map arc_entry ones ≡ map arc_entry arcs
+      by : (arcs : List Arc) → pin_entry pin ∷ (map pin_entry pins ++ map arc_entry ones) ≡ map arc_entry arcs
+          → map arc_entry ones ≡ map arc_entry arcs
       by [] same = cc
       by (arc ∷ arcs) same = cc
   same_arcs_of (pin ∷ pins) (here ∷ also) same =

@@ -1,4 +1,5 @@
--- What a table group of a library means (Liberty, cell_rise, rise_transition and the like): a timing table, or the fault that is looked for first.
+-- What a table group of a library means (Liberty, cell_rise, rise_transition and the like): a timing table, or the fault that is looked for
+-- first.
 use Rattle.std.specs.Prelude.{◌≡◌, ℕ, ◌*◌, ℤ, pos, ◌≤ℤ◌, List, [], ◌∷◌, length, map, All, Option, Some, None, unwrap_or, Result, Ok, Err, codes}
 use Rattle.delay_units.specs.declared.numbers.Unit.{Unit}
 use Rattle.liberty_groups.specs.Groups.{Attribute, Group, attributes_of}
@@ -33,12 +34,16 @@ pub data IsAxisOf (readings : List ℤ) : Result (List ℕ) CellFault → Type 0
 -- the points of an axis, by the pieces of its index
 pub data AxisMeans (unit : Unit) (pieces : List (List ℕ)) : Result (List ℕ) CellFault → Type 0 where
   no_number : HasNoNumber pieces → AxisMeans unit pieces (Err BadNumber)
-  of_readings : (readings : List ℤ) (answer : Result (List ℕ) CellFault) → AreReadings unit pieces readings → IsAxisOf readings answer → AxisMeans unit pieces answer
+  of_readings : (readings : List ℤ) (answer : Result (List ℕ) CellFault) → AreReadings unit pieces readings → IsAxisOf readings answer
+      → AxisMeans unit pieces answer
   no_index_memory : AxisMeans unit pieces (Err OutOfMemory)
 
 -- the points of the axis of a variable, and the one point 0 where there is no variable
-pub data PointsMean (units : LibraryUnits) (key : List ℕ) (table template : List Attribute) : Option Which → Result (List ℕ) CellFault → Type 0 where
-  of_variable : (which : Which) (answer : Result (List ℕ) CellFault) → AxisMeans (unit_of units which) (pieces_of (index_of key table template)) answer → PointsMean units key table template (Some which) answer
+pub data PointsMean (units : LibraryUnits) (key : List ℕ) (table template : List Attribute) : Option Which
+    → Result (List ℕ) CellFault → Type 0 where
+  of_variable : (which : Which) (answer : Result (List ℕ) CellFault)
+      → AxisMeans (unit_of units which) (pieces_of (index_of key table template)) answer
+      → PointsMean units key table template (Some which) answer
   of_none : PointsMean units key table template None (Ok (0 ∷ []))
   no_points_memory : (which : Option Which) → PointsMean units key table template which (Err OutOfMemory)
 
@@ -65,12 +70,14 @@ pub record HasVariables (library table : Group) (template : List Attribute) (var
   pub known : variables_of template ≡ Some variables
 
 -- and the points of its first axis
-pub record HasFirstAxis (library table : Group) (units : LibraryUnits) (template : List Attribute) (variables : Variables) (first : List ℕ) : Type 0 where
+pub record HasFirstAxis (library table : Group) (units : LibraryUnits) (template : List Attribute) (variables : Variables)
+    (first : List ℕ) : Type 0 where
   pub laid_out : HasVariables library table template variables
   pub first_axis : PointsMean units (codes "index_1") (attributes_of table) template variables.first (Ok first)
 
 -- and those of its second
-pub record HasAxes (library table : Group) (units : LibraryUnits) (template : List Attribute) (variables : Variables) (first second : List ℕ) : Type 0 where
+pub record HasAxes (library table : Group) (units : LibraryUnits) (template : List Attribute) (variables : Variables)
+    (first second : List ℕ) : Type 0 where
   pub begun : HasFirstAxis library table units template variables first
   pub second_axis : PointsMean units (codes "index_2") (attributes_of table) template variables.second (Ok second)
 
@@ -81,7 +88,8 @@ value_pieces table = pieces_of (unwrap_or (values_of (codes "values") (attribute
 -- What a table group means in its library. The faults are looked for in this order: each comes where none before it stands.
 pub data TableMeans (library table : Group) (units : LibraryUnits) : Result TimingTable CellFault → Type 0 where
   no_template : template_of library table ≡ None → TableMeans library table units (Err UnknownTemplate)
-  no_variables : (template : List Attribute) → template_of library table ≡ Some template → variables_of template ≡ None → TableMeans library table units (Err UnknownVariable)
+  no_variables : (template : List Attribute) → template_of library table ≡ Some template → variables_of template ≡ None
+      → TableMeans library table units (Err UnknownVariable)
   no_first_axis : (template : List Attribute) (variables : Variables) (fault : CellFault)
       → HasVariables library table template variables
       → PointsMean units (codes "index_1") (attributes_of table) template variables.first (Err fault)
@@ -109,5 +117,7 @@ pub data TableMeans (library table : Group) (units : LibraryUnits) : Result Timi
 -- What the group of a transition means: a table as any, and of its faults the last is a value below 0.
 pub data TransitionMeans (library table : Group) (units : LibraryUnits) : Result TimingTable CellFault → Type 0 where
   no_transition : (fault : CellFault) → TableMeans library table units (Err fault) → TransitionMeans library table units (Err fault)
-  below_zero : (made : TimingTable) → TableMeans library table units (Ok made) → ¬ All (λ value. pos 0 ≤ℤ value) made.values → TransitionMeans library table units (Err NegativeTransition)
-  settled : (made : TimingTable) → TableMeans library table units (Ok made) → All (λ value. pos 0 ≤ℤ value) made.values → TransitionMeans library table units (Ok made)
+  below_zero : (made : TimingTable) → TableMeans library table units (Ok made) → ¬ All (λ value. pos 0 ≤ℤ value) made.values
+      → TransitionMeans library table units (Err NegativeTransition)
+  settled : (made : TimingTable) → TableMeans library table units (Ok made) → All (λ value. pos 0 ≤ℤ value) made.values
+      → TransitionMeans library table units (Ok made)

@@ -28,7 +28,8 @@ pub record IsTemplateOf (tree : Tables) (groups : List Group) (name : List ℕ) 
 -- the names of the templates among some groups, and at the place of each name what the first template of it says
 pub record AreTemplates (tree : Tables) (groups : List Group) (names : List (List ℕ)) (templates : List Template) : Type 0 where
   pub even : length templates ≡ length names
-  pub held : (place : ℕ) (name : List ℕ) (template : Template) → slice_get names place ≡ Some name → slice_get templates place ≡ Some template → IsTemplateOf tree groups name template
+  pub held : (place : ℕ) (name : List ℕ) (template : Template) → slice_get names place ≡ Some name
+      → slice_get templates place ≡ Some template → IsTemplateOf tree groups name template
   pub absent : (name : List ℕ) → ¬ Contains names name → template_in groups name ≡ None
 
 -- what the template that a table names says, in the library of the tree
@@ -38,9 +39,11 @@ pub record IsNamedBy (tree : Tables) (table : Group) (template : Template) : Typ
   pub read : IsReadOf tree attributes template
 
 -- a template is added under its name, unless the name is held
-pub data Adds (name : List ℕ) (template : Template) (names : List (List ℕ)) (templates : List Template) (names' : List (List ℕ)) (templates' : List Template) : Type 0 where
+pub data Adds (name : List ℕ) (template : Template) (names : List (List ℕ)) (templates : List Template) (names' : List (List ℕ))
+    (templates' : List Template) : Type 0 where
   is_held : Contains names name → names' ≡ names → templates' ≡ templates → Adds name template names templates names' templates'
-  is_added : ¬ Contains names name → names' ≡ names ++ name ∷ [] → templates' ≡ templates ++ template ∷ [] → Adds name template names templates names' templates'
+  is_added : ¬ Contains names name → names' ≡ names ++ name ∷ [] → templates' ≡ templates ++ template ∷ []
+      → Adds name template names templates names' templates'
 
 -- at some place a name stands, and a template
 pub record IsUnder (names : List (List ℕ)) (templates : List Template) (name : List ℕ) (template : Template) : Type 0 where

@@ -27,7 +27,8 @@ template_in groups name = find (is_template name) groups
 
 -- the attributes of the template of a name in a library: of the first one, and none of `scalar`, which is built in
 abbrev pub template_named : Group → List ℕ → Option (List Attribute)
-template_named library name = if bytes_eq name (codes "scalar") then Some [] else option_map attributes_of (template_in (groups_of library) name)
+template_named library name = if bytes_eq name (codes "scalar") then Some [] else option_map attributes_of
+    (template_in (groups_of library) name)
 
 -- the attributes of the template that a table names by its first argument
 abbrev pub template_of : Group → Group → Option (List Attribute)
@@ -35,7 +36,8 @@ template_of library table = option_and_then (template_named library) (slice_get 
 
 -- the axis of a variable
 abbrev pub axis_of : List ℕ → Option Which
-axis_of name = if bytes_eq name (codes "input_net_transition") then Some Slew else (if bytes_eq name (codes "total_output_net_capacitance") then Some Load else None)
+axis_of name = if bytes_eq name (codes "input_net_transition") then Some Slew else
+    (if bytes_eq name (codes "total_output_net_capacitance") then Some Load else None)
 
 abbrev pub sole : Option Which → Option Variables
 sole None = None
@@ -47,7 +49,8 @@ both (Some Slew) (Some Load) = Some (record { first = Some Slew; second = Some L
 both (Some Load) (Some Slew) = Some (record { first = Some Load; second = Some Slew })
 both _ _ = None
 
--- The variables by `variable_1`, `variable_2` and `variable_3`. The slew of the input and the load of the output may stand in either order, one alone, or neither. All else
+-- The variables by `variable_1`, `variable_2` and `variable_3`. The slew of the input and the load of the output may stand in either order,
+-- one alone, or neither. All else
 -- is unknown: another variable, the same twice, a second one alone, and any third.
 abbrev pub variables_by : Option (List ℕ) → Option (List ℕ) → Option (List ℕ) → Option Variables
 variables_by None None None = Some (record { first = None; second = None })
@@ -57,4 +60,5 @@ variables_by _ _ _ = None
 
 -- the variables of a template
 abbrev pub variables_of : List Attribute → Option Variables
-variables_of template = variables_by (simple_of (codes "variable_1") template) (simple_of (codes "variable_2") template) (simple_of (codes "variable_3") template)
+variables_of template = variables_by (simple_of (codes "variable_1") template) (simple_of (codes "variable_2") template)
+    (simple_of (codes "variable_3") template)

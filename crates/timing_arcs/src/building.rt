@@ -51,8 +51,12 @@ fn read_arcs(
     requires even { length table.now.names ≡ length table.now.groups.items }
     requires within { All (λ id. IsGroup tree.now id.0) table.now.groups.items }
     requires pins { AllZip (IsPin (tree_of tree.now)) (entries_in tree.now table.now.names table.now.groups.items) pins.now }
-    ensures ok { IfOk result (λ arcs. AreArcsOf (tree_of tree.now) table.now.names (entries_in tree.now table.now.names table.now.groups.items) arcs.items) }
-    ensures refused { IfErr result (IsRefusal (tree_of tree.now) (flat_map (delay_questions (entries_in tree.now table.now.names table.now.groups.items)) (flat_map delays_in (entries_in tree.now table.now.names table.now.groups.items)))) }
+    ensures ok { IfOk result (λ arcs. AreArcsOf (tree_of tree.now) table.now.names
+        (entries_in tree.now table.now.names table.now.groups.items) arcs.items) }
+    ensures refused { IfErr result
+        (IsRefusal (tree_of tree.now)
+        (flat_map (delay_questions (entries_in tree.now table.now.names table.now.groups.items))
+        (flat_map delays_in (entries_in tree.now table.now.names table.now.groups.items)))) }
 {
     let mut arcs = Vec::new(alloc);
     let mut start = 0;

@@ -69,7 +69,8 @@ fn larger(unit: &Unit, text: &[u8], other: &[u8]) -> Option<u64>
     grains_within(larger_amount(one, two))
 }
 
-/// The capacitance of an input pin that has none of its own: the library's default, else 0. `None` where that is no number, or is below 0 or more than a
+/// The capacitance of an input pin that has none of its own: the library's default, else 0. `None` where that is no number, or is below 0
+/// or more than a
 /// nanofarad.
 #[tactic(auto, using(crate::proofs::SizeLemmas::nothing_given))]
 pub(crate) fn default_capacitance(tree: &GroupTree, unit: &Unit) -> Option<u64>
@@ -95,7 +96,8 @@ fn edges_capacitance(
     requires some { IfSome default (IsCapacitance unit.now (default_texts (tree_of tree.now))) }
     requires none { IfNone default ((grains : ℕ) → ¬ IsCapacitance unit.now (default_texts (tree_of tree.now)) grains) }
     ensures some { IfSome result (IsCapacitance unit.now (edges_texts (tree_of tree.now) (group_at tree.now pin.0))) }
-    ensures none { IfNone result ((grains : ℕ) → ¬ IsCapacitance unit.now (edges_texts (tree_of tree.now) (group_at tree.now pin.0)) grains) }
+    ensures none { IfNone result ((grains : ℕ)
+        → ¬ IsCapacitance unit.now (edges_texts (tree_of tree.now) (group_at tree.now pin.0)) grains) }
 {
     match (
         value_in(tree, pin, b"rise_capacitance"),
@@ -108,7 +110,8 @@ fn edges_capacitance(
     }
 }
 
-/// The capacitance of an input pin: its own, else the larger of those of its rise and its fall, else the `default`, which is read once. `None` where what
+/// The capacitance of an input pin: its own, else the larger of those of its rise and its fall, else the `default`, which is read once.
+/// `None` where what
 /// counts is no number, or is below 0 or more than a nanofarad.
 pub(crate) fn capacitance_of(
     tree: &GroupTree,
@@ -121,7 +124,8 @@ pub(crate) fn capacitance_of(
     requires some { IfSome default (IsCapacitance unit.now (default_texts (tree_of tree.now))) }
     requires none { IfNone default ((grains : ℕ) → ¬ IsCapacitance unit.now (default_texts (tree_of tree.now)) grains) }
     ensures some { IfSome result (IsCapacitance unit.now (capacitance_texts (tree_of tree.now) (group_at tree.now pin.0))) }
-    ensures none { IfNone result ((grains : ℕ) → ¬ IsCapacitance unit.now (capacitance_texts (tree_of tree.now) (group_at tree.now pin.0)) grains) }
+    ensures none { IfNone result ((grains : ℕ)
+        → ¬ IsCapacitance unit.now (capacitance_texts (tree_of tree.now) (group_at tree.now pin.0)) grains) }
 {
     match value_in(tree, pin, b"capacitance") {
         Some(text) => sole(unit, text),

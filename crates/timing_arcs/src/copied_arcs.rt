@@ -46,7 +46,8 @@ fn copy_arcs(alloc: Global, start: usize, to: usize, arcs: &mut Vec<Arc>) -> Res
     Ok(())
 }
 
-/// The arcs to the pin at a place, where those to the pin before stand from `start` on. A name that has the group of the name before has the same
+/// The arcs to the pin at a place, where those to the pin before stand from `start` on. A name that has the group of the name before has
+/// the same
 /// arcs: the group is read once for all of its names.
 pub(crate) fn add_next_arcs(
     alloc: Global,
@@ -63,13 +64,18 @@ pub(crate) fn add_next_arcs(
     requires within { All (λ id. IsGroup tree.now id.0) table.now.groups.items }
     requires pins { AllZip (IsPin (tree_of tree.now)) (entries_in tree.now table.now.names table.now.groups.items) pins.now }
     requires to { to < length pins.now }
-    requires before { 0 < to → (entry : PinEntry) → slice_get (entries_in tree.now table.now.names table.now.groups.items) (to - 1) ≡ Some entry
-        → AreArcsTo (tree_of tree.now) table.now.names (entries_in tree.now table.now.names table.now.groups.items) entry (drop start arcs.old.items) }
-    ensures ok { (entry : PinEntry) → slice_get (entries_in tree.now table.now.names table.now.groups.items) to ≡ Some entry → OnOk result (AreAdded (tree_of tree.now) table.now.names
+    requires before { 0 < to → (entry : PinEntry)
+        → slice_get (entries_in tree.now table.now.names table.now.groups.items) (to - 1) ≡ Some entry
+        → AreArcsTo (tree_of tree.now) table.now.names (entries_in tree.now table.now.names table.now.groups.items) entry
+        (drop start arcs.old.items) }
+    ensures ok { (entry : PinEntry) → slice_get (entries_in tree.now table.now.names table.now.groups.items) to ≡ Some entry
+        → OnOk result (AreAdded (tree_of tree.now) table.now.names
         (flat_map (arcs_in (entries_in tree.now table.now.names table.now.groups.items)) (delays_in entry))
-        (flat_map (delay_questions (entries_in tree.now table.now.names table.now.groups.items)) (delays_in entry)) arcs.old.items arcs.new.items) }
+        (flat_map (delay_questions (entries_in tree.now table.now.names table.now.groups.items)) (delays_in entry))
+        arcs.old.items arcs.new.items) }
     ensures refused { (entry : PinEntry) → slice_get (entries_in tree.now table.now.names table.now.groups.items) to ≡ Some entry
-        → IfErr result (IsRefusal (tree_of tree.now) (flat_map (delay_questions (entries_in tree.now table.now.names table.now.groups.items)) (delays_in entry))) }
+        → IfErr result (IsRefusal (tree_of tree.now)
+        (flat_map (delay_questions (entries_in tree.now table.now.names table.now.groups.items)) (delays_in entry))) }
 {
     if table.repeats(to) {
         copy_arcs(alloc, start, to, arcs)

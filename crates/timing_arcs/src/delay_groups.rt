@@ -120,9 +120,14 @@ fn read_tables(
     requires basis { IsBasis tree.now basis.now.units basis.now.templates.names basis.now.templates.read.items }
     requires delay { IsGroup tree.now delay.0 }
     requires slew { IfSome slew (λ slew. IsGroup tree.now slew.0) }
-    ensures ok { IfOk result (λ tables. AreEdgeTables (tree_of tree.now) (Some (group_at tree.now delay.0)) (option_map (λ slew. group_at tree.now slew.0) slew) (Some tables)) }
-    ensures sound { OnOk result (All (IsSound (tree_of tree.now)) (edge_questions (Some (group_at tree.now delay.0)) (option_map (λ slew. group_at tree.now slew.0) slew))) }
-    ensures refused { IfErr result (IsRefusal (tree_of tree.now) (edge_questions (Some (group_at tree.now delay.0)) (option_map (λ slew. group_at tree.now slew.0) slew))) }
+    ensures ok { IfOk result (λ tables. AreEdgeTables (tree_of tree.now) (Some (group_at tree.now delay.0))
+        (option_map (λ slew. group_at tree.now slew.0) slew) (Some tables)) }
+    ensures sound { OnOk result
+        (All (IsSound (tree_of tree.now))
+        (edge_questions (Some (group_at tree.now delay.0)) (option_map (λ slew. group_at tree.now slew.0) slew))) }
+    ensures refused { IfErr result
+        (IsRefusal (tree_of tree.now)
+        (edge_questions (Some (group_at tree.now delay.0)) (option_map (λ slew. group_at tree.now slew.0) slew))) }
 {
     let table = match build_table(alloc, tree, delay, &basis.templates, &basis.units) {
         Ok(table) => table,
@@ -149,9 +154,14 @@ fn read_edge(
     requires basis { IsBasis tree.now basis.now.units basis.now.templates.names basis.now.templates.read.items }
     requires delay { IfSome delay (λ delay. IsGroup tree.now delay.0) }
     requires slew { IfSome slew (λ slew. IsGroup tree.now slew.0) }
-    ensures ok { IfOk result (AreEdgeTables (tree_of tree.now) (option_map (λ delay. group_at tree.now delay.0) delay) (option_map (λ slew. group_at tree.now slew.0) slew)) }
-    ensures sound { OnOk result (All (IsSound (tree_of tree.now)) (edge_questions (option_map (λ delay. group_at tree.now delay.0) delay) (option_map (λ slew. group_at tree.now slew.0) slew))) }
-    ensures refused { IfErr result (IsRefusal (tree_of tree.now) (edge_questions (option_map (λ delay. group_at tree.now delay.0) delay) (option_map (λ slew. group_at tree.now slew.0) slew))) }
+    ensures ok { IfOk result (AreEdgeTables (tree_of tree.now) (option_map (λ delay. group_at tree.now delay.0) delay)
+        (option_map (λ slew. group_at tree.now slew.0) slew)) }
+    ensures sound { OnOk result
+        (All (IsSound (tree_of tree.now))
+        (edge_questions (option_map (λ delay. group_at tree.now delay.0) delay) (option_map (λ slew. group_at tree.now slew.0) slew))) }
+    ensures refused { IfErr result
+        (IsRefusal (tree_of tree.now)
+        (edge_questions (option_map (λ delay. group_at tree.now delay.0) delay) (option_map (λ slew. group_at tree.now slew.0) slew))) }
 {
     match delay {
         None => Ok(None),
@@ -240,8 +250,10 @@ fn read_timing(
     requires basis { IsBasis tree.now basis.now.units basis.now.templates.names basis.now.templates.read.items }
     requires group { IsGroup tree.now group.0 }
     ensures ok { IfOk result (λ timing. IsTiming (tree_of tree.now) (group_at tree.now group.0) timing.kind timing.rise timing.fall) }
-    ensures sound { OnOk result (All (IsSound (tree_of tree.now)) (rise_questions (group_at tree.now group.0) ++ fall_questions (group_at tree.now group.0))) }
-    ensures refused { IfErr result (IsRefusal (tree_of tree.now) (rise_questions (group_at tree.now group.0) ++ fall_questions (group_at tree.now group.0))) }
+    ensures sound { OnOk result
+        (All (IsSound (tree_of tree.now)) (rise_questions (group_at tree.now group.0) ++ fall_questions (group_at tree.now group.0))) }
+    ensures refused { IfErr result
+        (IsRefusal (tree_of tree.now) (rise_questions (group_at tree.now group.0) ++ fall_questions (group_at tree.now group.0))) }
 {
     let rise = match read_rise(alloc, tree, basis, group) {
         Ok(rise) => rise,
@@ -300,8 +312,12 @@ fn add_arcs(
     requires pins { AllZip (IsPin (tree_of tree.now)) (entries_in tree.now table.now.names table.now.groups.items) pins.now }
     ensures ok { (name : List ℕ) → slice_get table.now.names to ≡ Some name → OnOk result (AreAdded (tree_of tree.now) table.now.names
         (arcs_in (entries_in tree.now table.now.names table.now.groups.items) (record { to = name; group = group_at tree.now group.0 }))
-        (delay_questions (entries_in tree.now table.now.names table.now.groups.items) (record { to = name; group = group_at tree.now group.0 })) arcs.old.items arcs.new.items) }
-    ensures refused { (name : List ℕ) → IfErr result (IsRefusal (tree_of tree.now) (delay_questions (entries_in tree.now table.now.names table.now.groups.items) (record { to = name; group = group_at tree.now group.0 }))) }
+        (delay_questions (entries_in tree.now table.now.names table.now.groups.items)
+        (record { to = name; group = group_at tree.now group.0 })) arcs.old.items arcs.new.items) }
+    ensures refused { (name : List ℕ) → IfErr result
+        (IsRefusal (tree_of tree.now)
+        (delay_questions (entries_in tree.now table.now.names table.now.groups.items)
+        (record { to = name; group = group_at tree.now group.0 }))) }
 {
     let places = match related_places(alloc, tree, table, pins, group) {
         Ok(places) => places,
@@ -331,8 +347,11 @@ fn add_group(
     requires pins { AllZip (IsPin (tree_of tree.now)) (entries_in tree.now table.now.names table.now.groups.items) pins.now }
     ensures ok { (name : List ℕ) → slice_get table.now.names to ≡ Some name → OnOk result (AreAdded (tree_of tree.now) table.now.names
         (arcs_from (entries_in tree.now table.now.names table.now.groups.items) name (group_at tree.now group.0))
-        (questions_from (entries_in tree.now table.now.names table.now.groups.items) name (group_at tree.now group.0)) arcs.old.items arcs.new.items) }
-    ensures refused { (name : List ℕ) → IfErr result (IsRefusal (tree_of tree.now) (questions_from (entries_in tree.now table.now.names table.now.groups.items) name (group_at tree.now group.0))) }
+        (questions_from (entries_in tree.now table.now.names table.now.groups.items) name (group_at tree.now group.0))
+        arcs.old.items arcs.new.items) }
+    ensures refused { (name : List ℕ) → IfErr result
+        (IsRefusal (tree_of tree.now)
+        (questions_from (entries_in tree.now table.now.names table.now.groups.items) name (group_at tree.now group.0))) }
 {
     if is_delay_group(tree, group) {
         add_arcs(alloc, tree, basis, table, pins, to, group, arcs)
@@ -356,11 +375,14 @@ fn add_groups(
     requires within { All (λ id. IsGroup tree.now id.0) table.now.groups.items }
     requires pins { AllZip (IsPin (tree_of tree.now)) (entries_in tree.now table.now.names table.now.groups.items) pins.now }
     requires to { to < length table.now.groups.items }
-    ensures ok { (entry : PinEntry) → slice_get (entries_in tree.now table.now.names table.now.groups.items) to ≡ Some entry → OnOk result (AreAdded (tree_of tree.now) table.now.names
+    ensures ok { (entry : PinEntry) → slice_get (entries_in tree.now table.now.names table.now.groups.items) to ≡ Some entry
+        → OnOk result (AreAdded (tree_of tree.now) table.now.names
         (flat_map (arcs_from (entries_in tree.now table.now.names table.now.groups.items) entry.name) (groups_of entry.group))
-        (flat_map (questions_from (entries_in tree.now table.now.names table.now.groups.items) entry.name) (groups_of entry.group)) arcs.old.items arcs.new.items) }
+        (flat_map (questions_from (entries_in tree.now table.now.names table.now.groups.items) entry.name) (groups_of entry.group))
+        arcs.old.items arcs.new.items) }
     ensures refused { (entry : PinEntry) → slice_get (entries_in tree.now table.now.names table.now.groups.items) to ≡ Some entry
-        → IfErr result (IsRefusal (tree_of tree.now) (flat_map (questions_from (entries_in tree.now table.now.names table.now.groups.items) entry.name) (groups_of entry.group))) }
+        → IfErr result (IsRefusal (tree_of tree.now)
+        (flat_map (questions_from (entries_in tree.now table.now.names table.now.groups.items) entry.name) (groups_of entry.group))) }
 {
     let pin = table.group(to);
     for place in 0..tree.child_count(pin) {
@@ -397,11 +419,14 @@ pub(crate) fn add_pin_arcs(
     requires within { All (λ id. IsGroup tree.now id.0) table.now.groups.items }
     requires pins { AllZip (IsPin (tree_of tree.now)) (entries_in tree.now table.now.names table.now.groups.items) pins.now }
     requires to { to < length pins.now }
-    ensures ok { (entry : PinEntry) → slice_get (entries_in tree.now table.now.names table.now.groups.items) to ≡ Some entry → OnOk result (AreAdded (tree_of tree.now) table.now.names
+    ensures ok { (entry : PinEntry) → slice_get (entries_in tree.now table.now.names table.now.groups.items) to ≡ Some entry
+        → OnOk result (AreAdded (tree_of tree.now) table.now.names
         (flat_map (arcs_in (entries_in tree.now table.now.names table.now.groups.items)) (delays_in entry))
-        (flat_map (delay_questions (entries_in tree.now table.now.names table.now.groups.items)) (delays_in entry)) arcs.old.items arcs.new.items) }
+        (flat_map (delay_questions (entries_in tree.now table.now.names table.now.groups.items)) (delays_in entry))
+        arcs.old.items arcs.new.items) }
     ensures refused { (entry : PinEntry) → slice_get (entries_in tree.now table.now.names table.now.groups.items) to ≡ Some entry
-        → IfErr result (IsRefusal (tree_of tree.now) (flat_map (delay_questions (entries_in tree.now table.now.names table.now.groups.items)) (delays_in entry))) }
+        → IfErr result (IsRefusal (tree_of tree.now)
+        (flat_map (delay_questions (entries_in tree.now table.now.names table.now.groups.items)) (delays_in entry))) }
 {
     if is_output(pins[to].direction) {
         add_groups(alloc, tree, basis, table, pins, to, arcs)

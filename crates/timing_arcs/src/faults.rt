@@ -10,7 +10,8 @@ pub enum CellFault {
     /// The library has no `cell` group with this first argument.
     NoSuchCell,
 
-    /// `time_unit` is none of `1ps`, `10ps`, `100ps` and `1ns`, or `capacitive_load_unit` is missing or is no positive number of `ff` or `pf`.
+    /// `time_unit` is none of `1ps`, `10ps`, `100ps` and `1ns`, or `capacitive_load_unit` is missing or is no positive number of `ff` or
+    /// `pf`.
     BadUnit,
 
     /// The `direction` of a pin is missing, or none of `input`, `output`, `inout` and `internal`.

@@ -20,7 +20,8 @@ pub(crate) fn value_in<'a>(tree: &'a GroupTree, group: GroupId, key: &[u8]) -> O
 #[tactic(auto, unfolding(crate::specs::Library::values_in))]
 pub(crate) fn values_in(tree: &GroupTree, group: GroupId, key: &[u8]) -> Option<AttrId>
     requires { IsGroup tree.now group.0 }
-    ensures values { option_map (λ attribute. (attribute_at tree.now attribute.0).values) result ≡ values_in key.now (group_at tree.now group.0) }
+    ensures values { option_map (λ attribute. (attribute_at tree.now attribute.0).values) result
+        ≡ values_in key.now (group_at tree.now group.0) }
     ensures within { IfSome result (λ attribute. IsAttribute tree.now attribute.0) }
 {
     last_of(tree, group, key)

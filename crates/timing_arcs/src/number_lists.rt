@@ -82,7 +82,8 @@ pub(crate) fn read_list(
     unit: &Unit,
 ) -> Result<Readings, CellFault>
     requires { IfSome attribute (λ a. IsAttribute tree.now a.0) }
-    ensures kept { IfOk result (λ readings. AreKept unit.now (pieces_of (texts_of tree.now attribute)) readings.within readings.values.items) }
+    ensures kept { IfOk result
+        (λ readings. AreKept unit.now (pieces_of (texts_of tree.now attribute)) readings.within readings.values.items) }
     ensures fault { IfErr result (IsListFault (pieces_of (texts_of tree.now attribute))) }
 {
     let mut readings = Readings::new(alloc);

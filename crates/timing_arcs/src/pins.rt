@@ -106,8 +106,10 @@ fn grains_of(
     requires some { IfSome default (IsCapacitance unit.now (default_texts (tree_of tree.now))) }
     requires none { IfNone default ((grains : ℕ) → ¬ IsCapacitance unit.now (default_texts (tree_of tree.now)) grains) }
     ensures some { IfSome result (IsPinCapacitance direction (tree_of tree.now) (group_at tree.now pin.0)) }
-    ensures sound { IfSome result (λ _. (name : List ℕ) → All (IsSound (tree_of tree.now)) (pin_questions (record { name = name; group = group_at tree.now pin.0 }))) }
-    ensures none { IfNone result ((name : List ℕ) → IsRefusal (tree_of tree.now) (pin_questions (record { name = name; group = group_at tree.now pin.0 })) BadNumber) }
+    ensures sound { IfSome result (λ _. (name : List ℕ)
+        → All (IsSound (tree_of tree.now)) (pin_questions (record { name = name; group = group_at tree.now pin.0 }))) }
+    ensures none { IfNone result ((name : List ℕ)
+        → IsRefusal (tree_of tree.now) (pin_questions (record { name = name; group = group_at tree.now pin.0 })) BadNumber) }
 {
     match direction {
         Direction::Input => capacitance_of(tree, unit, default, pin),
@@ -176,7 +178,8 @@ fn read_once(
 
 /// A pin of a name, with what its group says.
 fn pin_of(alloc: Global, name: &[u8], reading: PinReading) -> Result<Pin, OutOfMemory>
-    ensures { (tree : Tables) (group : GroupId) → IsReadingOf tree group reading → IfOk result (IsPin (tree_of tree) (entry_at tree name.now group)) }
+    ensures { (tree : Tables) (group : GroupId) → IsReadingOf tree group reading
+        → IfOk result (IsPin (tree_of tree) (entry_at tree name.now group)) }
 {
     let name = Text::from_bytes(alloc, name)?;
     Ok(Pin {
@@ -218,8 +221,11 @@ fn add_name(
 ) -> Result<(), OutOfMemory>
     requires even { length names.old ≡ length groups.old.items }
     ensures even { OnOk result (length names.new ≡ length groups.new.items) }
-    ensures entries { (tree : Tables) → OnOk result (entries_in tree names.new groups.new.items ≡ with_entry (entries_in tree names.old groups.old.items) (entry_at tree name.now group)) }
-    ensures within { (tree : Tables) → IsGroup tree group.0 → All (λ id. IsGroup tree id.0) groups.old.items → OnOk result (All (λ id. IsGroup tree id.0) groups.new.items) }
+    ensures entries { (tree : Tables) → OnOk result
+        (entries_in tree names.new groups.new.items
+        ≡ with_entry (entries_in tree names.old groups.old.items) (entry_at tree name.now group)) }
+    ensures within { (tree : Tables) → IsGroup tree group.0 → All (λ id. IsGroup tree id.0) groups.old.items
+        → OnOk result (All (λ id. IsGroup tree id.0) groups.new.items) }
 {
     match names.find(name) {
         Some(_) => Ok(()),
@@ -239,7 +245,8 @@ fn add_names(
     requires within { All (λ id. IsGroup tree.now id.0) groups.old.items }
     ensures even { OnOk result (length names.new ≡ length groups.new.items) }
     ensures within { OnOk result (All (λ id. IsGroup tree.now id.0) groups.new.items) }
-    ensures entries { OnOk result (entries_in tree.now names.new groups.new.items ≡ fold with_entry (entries_in tree.now names.old groups.old.items) (entries_of (group_at tree.now group.0))) }
+    ensures entries { OnOk result (entries_in tree.now names.new groups.new.items
+        ≡ fold with_entry (entries_in tree.now names.old groups.old.items) (entries_of (group_at tree.now group.0))) }
 {
     for place in 0..tree.arg_count(group) {
         add_name(names, groups, tree.arg(group, place).bytes(), group)?;
@@ -259,7 +266,9 @@ fn add_group(
     requires within { All (λ id. IsGroup tree.now id.0) groups.old.items }
     ensures even { OnOk result (length names.new ≡ length groups.new.items) }
     ensures within { OnOk result (All (λ id. IsGroup tree.now id.0) groups.new.items) }
-    ensures entries { OnOk result (entries_in tree.now names.new groups.new.items ≡ fold with_entry (entries_in tree.now names.old groups.old.items) (flat_map entries_of (filter (is_named (codes "pin")) (group_at tree.now group.0 ∷ [])))) }
+    ensures entries { OnOk result (entries_in tree.now names.new groups.new.items
+        ≡ fold with_entry (entries_in tree.now names.old groups.old.items)
+        (flat_map entries_of (filter (is_named (codes "pin")) (group_at tree.now group.0 ∷ [])))) }
 {
     if !is_named(tree, group, b"pin") {
         return Ok(());
@@ -297,9 +306,12 @@ pub(crate) fn read_pins(
     requires unit { IsLoadUnit (tree_of tree.now) unit.now }
     requires even { length table.now.names ≡ length table.now.groups.items }
     requires within { All (λ id. IsGroup tree.now id.0) table.now.groups.items }
-    ensures ok { IfOk result (λ pins. AllZip (IsPin (tree_of tree.now)) (entries_in tree.now table.now.names table.now.groups.items) pins.items) }
-    ensures sound { OnOk result (All (IsSound (tree_of tree.now)) (flat_map pin_questions (entries_in tree.now table.now.names table.now.groups.items))) }
-    ensures refused { IfErr result (IsRefusal (tree_of tree.now) (flat_map pin_questions (entries_in tree.now table.now.names table.now.groups.items))) }
+    ensures ok { IfOk result (λ pins. AllZip (IsPin (tree_of tree.now))
+        (entries_in tree.now table.now.names table.now.groups.items) pins.items) }
+    ensures sound { OnOk result
+        (All (IsSound (tree_of tree.now)) (flat_map pin_questions (entries_in tree.now table.now.names table.now.groups.items))) }
+    ensures refused { IfErr result
+        (IsRefusal (tree_of tree.now) (flat_map pin_questions (entries_in tree.now table.now.names table.now.groups.items))) }
 {
     let default = default_capacitance(tree, unit);
     let mut pins = Vec::new(alloc);

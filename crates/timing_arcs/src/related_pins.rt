@@ -60,8 +60,10 @@ fn add_place(
 ) -> Result<(), CellFault>
     requires even { length table.now.names ≡ length table.now.groups.items }
     requires pins { AllZip (IsPin (tree_of tree.now)) (entries_in tree.now table.now.names table.now.groups.items) pins.now }
-    ensures ok { (done : List (List ℕ)) → ArePlaces (entries_in tree.now table.now.names table.now.groups.items) table.now.names done places.old.items
-        → OnOk result (ArePlaces (entries_in tree.now table.now.names table.now.groups.items) table.now.names (done ++ name.now ∷ []) places.new.items) }
+    ensures ok { (done : List (List ℕ)) → ArePlaces
+        (entries_in tree.now table.now.names table.now.groups.items) table.now.names done places.old.items
+        → OnOk result (ArePlaces (entries_in tree.now table.now.names table.now.groups.items) table.now.names
+        (done ++ name.now ∷ []) places.new.items) }
     ensures err { IfErr result (IsUnrelated (entries_in tree.now table.now.names table.now.groups.items) (name.now ∷ [])) }
 {
     match place_of(tree, table, pins, name) {
@@ -84,8 +86,10 @@ fn places_in(
 ) -> Result<Vec<usize>, CellFault>
     requires even { length table.now.names ≡ length table.now.groups.items }
     requires pins { AllZip (IsPin (tree_of tree.now)) (entries_in tree.now table.now.names table.now.groups.items) pins.now }
-    ensures ok { IfOk result (λ places. ArePlaces (entries_in tree.now table.now.names table.now.groups.items) table.now.names (pieces_between is_blank text.now) places.items) }
-    ensures err { IfErr result (IsUnrelated (entries_in tree.now table.now.names table.now.groups.items) (pieces_between is_blank text.now)) }
+    ensures ok { IfOk result (λ places. ArePlaces (entries_in tree.now table.now.names table.now.groups.items) table.now.names
+        (pieces_between is_blank text.now) places.items) }
+    ensures err { IfErr result
+        (IsUnrelated (entries_in tree.now table.now.names table.now.groups.items) (pieces_between is_blank text.now)) }
 {
     let mut places = Vec::new(alloc);
     let mut rest = text;
@@ -107,8 +111,10 @@ pub(crate) fn related_places(
     requires group { IsGroup tree.now group.0 }
     requires even { length table.now.names ≡ length table.now.groups.items }
     requires pins { AllZip (IsPin (tree_of tree.now)) (entries_in tree.now table.now.names table.now.groups.items) pins.now }
-    ensures ok { IfOk result (λ places. ArePlaces (entries_in tree.now table.now.names table.now.groups.items) table.now.names (related_names (group_at tree.now group.0)) places.items) }
-    ensures err { IfErr result (IsUnrelated (entries_in tree.now table.now.names table.now.groups.items) (related_names (group_at tree.now group.0))) }
+    ensures ok { IfOk result (λ places. ArePlaces (entries_in tree.now table.now.names table.now.groups.items) table.now.names
+        (related_names (group_at tree.now group.0)) places.items) }
+    ensures err { IfErr result
+        (IsUnrelated (entries_in tree.now table.now.names table.now.groups.items) (related_names (group_at tree.now group.0))) }
 {
     match value_in(tree, group, b"related_pin") {
         Some(text) => places_in(alloc, tree, table, pins, text),

@@ -76,7 +76,8 @@ fn index_of(
 ) -> Option<AttrId>
     requires table { IsGroup tree.now table.0 }
     requires template { IfSome of_template (λ a. IsAttribute tree.now a.0) }
-    ensures texts { texts_of tree.now result ≡ unwrap_or (values_of key.now (attributes_of (group_at tree.now table.0))) (texts_of tree.now of_template) }
+    ensures texts { texts_of tree.now result
+        ≡ unwrap_or (values_of key.now (attributes_of (group_at tree.now table.0))) (texts_of tree.now of_template) }
     ensures within { IfSome result (λ a. IsAttribute tree.now a.0) }
 {
     match last_of(tree, table, key) {
@@ -97,7 +98,8 @@ impl LibraryUnits {
     }
 }
 
-/// The axis of a variable of a table, by its index, or where it has none of its own by that of its template; and the axis of the one point 0,
+/// The axis of a variable of a table, by its index, or where it has none of its own by that of its template; and the axis of the one point
+/// 0,
 /// where there is no variable.
 pub(crate) fn axis_of_variable(
     alloc: Global,

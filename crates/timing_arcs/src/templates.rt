@@ -145,7 +145,8 @@ fn template_name(tree: &GroupTree, group: GroupId) -> Option<&[u8]>
 }
 
 impl Templates {
-    /// The templates of the library that is the root of a tree. It takes one pass over the groups in it, and a few over the attributes of each
+    /// The templates of the library that is the root of a tree. It takes one pass over the groups in it, and a few over the attributes of
+    /// each
     /// template.
     pub(crate) fn new(alloc: Global, tree: &GroupTree) -> Result<Templates, OutOfMemory>
         requires { 0 < length tree.now.rows }

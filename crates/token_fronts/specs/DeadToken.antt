@@ -14,7 +14,8 @@ module _ {T V : Type 0} (IsToken : T → Type 0) (grammar : List (Token T) → V
     pub tokens : AllByRecursion IsToken more
     pub text : IsText (front ++ more)
 
-  -- the texts do not leave the grammar with the token of this number: the front up to it begins a text; the number one past the last token stands for the end of the file, where the whole must be a text
+  -- the texts do not leave the grammar with the token of this number: the front up to it begins a text; the number one past the last token
+  -- stands for the end of the file, where the whole must be a text
   abbrev pub StaysAt : List T → ℕ → Type 0
   StaysAt texts number = MatchBool (nat_le number (length texts)) (Begins (take number texts)) (IsText texts)
 

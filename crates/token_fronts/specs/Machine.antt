@@ -13,7 +13,8 @@ abbrev pub go_on : {A V S C : Type 0} → ℕ → S → (A → Result V (Stop S 
 go_on number state more (Ok answer) = more answer
 go_on number state more (Err cause) = Err (record { number = number; state = state; cause = cause })
 
--- what the machine makes of the texts from a state on, where the first has this number: `next` is the state after a token, and `finish` what has been said, where the tokens may end
+-- what the machine makes of the texts from a state on, where the first has this number: `next` is the state after a token, and `finish`
+-- what has been said, where the tokens may end
 abbrev pub outcome : {T V S C : Type 0} → (S → Token T → Result S C) → (S → Result V C) → S → ℕ → List T → Result V (Stop S C)
 outcome next finish state number [] = go_on number state (λ value. Ok value) (finish state)
 outcome next finish state number (text ∷ texts) =

@@ -26,7 +26,8 @@ pub data AreParts {K : Type 0} (cut_at : ℕ → List ℕ → Cut K) : List ℕ 
       → AreParts cut_at (first ∷ rest) (token (record { kind = kind; bytes = take n (first ∷ rest) }) ∷ parts)
 
 -- The tokens of the bytes, in order, where `tokens_of` says what tokens the parts of a text are.
-pub record AreTokensOf {K T : Type 0} (cut_at : ℕ → List ℕ → Cut K) (tokens_of : List (Part K) → List T) (bytes : List ℕ) (tokens : List T) : Type 0 where
+pub record AreTokensOf {K T : Type 0} (cut_at : ℕ → List ℕ → Cut K) (tokens_of : List (Part K) → List T) (bytes : List ℕ)
+    (tokens : List T) : Type 0 where
   pub parts : List (Part K)
   pub parted : AreParts cut_at bytes parts
   pub are : tokens ≡ tokens_of parts

@@ -7,16 +7,19 @@ use Rattle.token_texts.specs.Quoted.{takes, quote_end}
 use Rattle.token_texts.specs.ByteLemmas.{not_byte}
 use Rattle.token_texts.specs.declared.quoted.Escape.{Escape}
 
-step_within : (bytes : List ℕ) (place : ℕ) (t : Bool) (later : Option ℕ) → ((p : ℕ) → later ≡ Some p → p < length bytes) → cond t (Some 0) (option_map (λ n. n + 1) later) ≡ Some place → place < suc (length bytes)
+step_within : (bytes : List ℕ) (place : ℕ) (t : Bool) (later : Option ℕ) → ((p : ℕ) → later ≡ Some p → p < length bytes)
+    → cond t (Some 0) (option_map (λ n. n + 1) later) ≡ Some place → place < suc (length bytes)
 step_within bytes place true later there h = let z : 0 ≡ place = cc in omega arith
 step_within bytes place false None there h = absurd (cc)
 step_within bytes place false (Some p) there h = let more = there p refl in let z : p + 1 ≡ place = cc in omega arith
 
-pub quote_within : (escape : Escape) (taken : Bool) (bytes : List ℕ) (place : ℕ) → quote_end escape taken bytes ≡ Some place → place < length bytes
+pub quote_within : (escape : Escape) (taken : Bool) (bytes : List ℕ) (place : ℕ) → quote_end escape taken bytes ≡ Some place
+    → place < length bytes
 unfolding quote_end
 quote_within escape taken [] place e = absurd (cc)
 quote_within escape taken (b ∷ bytes) place e =
-    step_within bytes place (b == quote && not taken) (quote_end escape (takes escape b taken) bytes) (quote_within escape (takes escape b taken) bytes) e
+    step_within bytes place (b == quote && not taken) (quote_end escape (takes escape b taken) bytes)
+    (quote_within escape (takes escape b taken) bytes) e
 
 -- further on by so many
 abbrev pub moved : ℕ → Option ℕ → Option ℕ
@@ -54,11 +57,13 @@ ends_taken b taken q = ap (λ y. (b == quote) && not y) q ∙ neither_way (b == 
 pub ends_other : (b : ℕ) (taken : Bool) → (b ≡ quote → ⊥) → ends_here b taken ≡ false
 ends_other b taken p = ap (λ x. x && not taken) (not_byte b quote p)
 
-end_step : (escape : Escape) (taken : Bool) (b : ℕ) (rest : List ℕ) → quote_end escape taken (b ∷ rest) ≡ cond (ends_here b taken) (Some 0) (moved 1 (quote_end escape (takes escape b taken) rest))
+end_step : (escape : Escape) (taken : Bool) (b : ℕ) (rest : List ℕ)
+    → quote_end escape taken (b ∷ rest) ≡ cond (ends_here b taken) (Some 0) (moved 1 (quote_end escape (takes escape b taken) rest))
 unfolding quote_end
 end_step escape taken b rest = refl
 
-pub end_goes_on : (escape : Escape) (whole : List ℕ) (taken : Bool) (place : ℕ) → EndSoFar escape whole taken place → place < length whole → ends_here (get_or whole place 0) taken ≡ false
+pub end_goes_on : (escape : Escape) (whole : List ℕ) (taken : Bool) (place : ℕ) → EndSoFar escape whole taken place → place < length whole
+    → ends_here (get_or whole place 0) taken ≡ false
     → EndSoFar escape whole (takes escape (get_or whole place 0) taken) (place + 1)
 end_goes_on escape whole taken place h lt on =
     let b : ℕ = get_or whole place 0 in
@@ -66,19 +71,23 @@ end_goes_on escape whole taken place h lt on =
     record {
       within = omega arith;
       so_far = h.so_far ∙ ap (λ l. moved place (quote_end escape taken l)) (drop_more whole place 0 lt)
-          ∙ ap (moved place) (end_step escape taken b rest ∙ ap (λ t. cond t (Some 0) (moved 1 (quote_end escape (takes escape b taken) rest))) on)
+          ∙ ap (moved place) (end_step escape taken b rest ∙ ap
+          (λ t. cond t (Some 0) (moved 1 (quote_end escape (takes escape b taken) rest))) on)
           ∙ moved_twice place (quote_end escape (takes escape b taken) rest);
     }
 
-pub end_found : (escape : Escape) (whole : List ℕ) (taken : Bool) (place : ℕ) → EndSoFar escape whole taken place → place < length whole → ends_here (get_or whole place 0) taken ≡ true → quote_end escape false whole ≡ Some place
+pub end_found : (escape : Escape) (whole : List ℕ) (taken : Bool) (place : ℕ) → EndSoFar escape whole taken place → place < length whole
+    → ends_here (get_or whole place 0) taken ≡ true → quote_end escape false whole ≡ Some place
 end_found escape whole taken place h lt here =
     let b : ℕ = get_or whole place 0 in
     let rest : List ℕ = drop (place + 1) whole in
     let e : 0 + place ≡ place = omega arith in
     h.so_far ∙ ap (λ l. moved place (quote_end escape taken l)) (drop_more whole place 0 lt)
-    ∙ ap (moved place) (end_step escape taken b rest ∙ ap (λ t. cond t (Some 0) (moved 1 (quote_end escape (takes escape b taken) rest))) here)
+    ∙ ap (moved place) (end_step escape taken b rest ∙ ap
+    (λ t. cond t (Some 0) (moved 1 (quote_end escape (takes escape b taken) rest))) here)
     ∙ ap (λ n. Some n) e
 
-pub end_missing : (escape : Escape) (whole : List ℕ) (taken : Bool) (place : ℕ) → EndSoFar escape whole taken place → length whole ≤ place → quote_end escape false whole ≡ None
+pub end_missing : (escape : Escape) (whole : List ℕ) (taken : Bool) (place : ℕ) → EndSoFar escape whole taken place → length whole ≤ place
+    → quote_end escape false whole ≡ None
 unfolding quote_end
 end_missing escape whole taken place h le = h.so_far ∙ ap (λ l. moved place (quote_end escape taken l)) (drop_all place whole le)

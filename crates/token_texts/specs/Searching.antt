@@ -12,16 +12,20 @@ not_passing : (b : Bool) → (b ≡ true → ⊥) → b ≡ false
 not_passing true h = absurd (h refl)
 not_passing false h = refl
 
-at_first : (test : ℕ → Bool) (hay : List ℕ) (k : ℕ) → NoneBefore (Passes test hay) 0 (length hay) k → Passes test hay k → position test hay ≡ Some k
+at_first : (test : ℕ → Bool) (hay : List ℕ) (k : ℕ) → NoneBefore (Passes test hay) 0 (length hay) k → Passes test hay k
+    → position test hay ≡ Some k
 at_first test hay k none passes =
     let below : k < length hay = none.high in
-    let at : position_or_len test hay ≡ k = position_or_len_is test hay k 0 (omega arith) (λ j lt. not_passing _ (none.before j (omega arith) lt)) (λ inside. passes) in
+    let at : position_or_len test hay ≡ k = position_or_len_is test hay k 0 (omega arith)
+    (λ j lt. not_passing _ (none.before j (omega arith) lt)) (λ inside. passes) in
     let inside : nat_lt (position_or_len test hay) (length hay) ≡ true = lt-ltb _ _ (omega arith) in
     ap (λ b. cond b (Some (position_or_len test hay)) None) inside ∙ ap (λ i. Some i) at
 
 at_none : (test : ℕ → Bool) (hay : List ℕ) → Nowhere (Passes test hay) 0 (length hay) → position test hay ≡ None
 at_none test hay nowhere =
-    let at : position_or_len test hay ≡ length hay = position_or_len_is test hay (length hay) 0 (omega arith) (λ j lt. not_passing _ (nowhere j (omega arith) lt)) (λ inside. absurd (omega arith)) in
+    let at : position_or_len test hay ≡ length hay =
+    position_or_len_is test hay (length hay) 0 (omega arith) (λ j lt. not_passing _ (nowhere j (omega arith) lt))
+    (λ inside. absurd (omega arith)) in
     let past : nat_lt (position_or_len test hay) (length hay) ≡ false = grind (arith, common_steps) in
     ap (λ b. cond b (Some (position_or_len test hay)) None) past
 
@@ -82,12 +86,14 @@ module _ (one two : ℕ) where
   pair_at : (hay : List ℕ) (k : ℕ) → ((j : ℕ) → j < k → OccursAt hay pair j → ⊥) → OccursAt hay pair k → pair_place one two hay ≡ Some k
   unfolding pair_place
   pair_at [] k none occurs = let fits = occurs.fits in absurd (omega arith)
-  pair_at (b ∷ hay) zero none occurs = ap (λ t. cond t (Some 0) (option_map (λ place. place + 1) (pair_place one two hay))) (front_is b hay occurs)
+  pair_at (b ∷ hay) zero none occurs = ap (λ t. cond t (Some 0) (option_map (λ place. place + 1) (pair_place one two hay)))
+      (front_is b hay occurs)
   pair_at (b ∷ hay) (suc k) none occurs =
       let not_here : is_front b hay ≡ false = not_passing _ (λ is. none 0 (omega arith) (front_occurs b hay is)) in
       let later = pair_at hay k (λ j lt here. none (suc j) (omega arith) (occurs_before b hay j here)) (occurs_behind b hay k occurs) in
       let e : k + 1 ≡ suc k = omega arith in
-      ap (λ t. cond t (Some 0) (option_map (λ place. place + 1) (pair_place one two hay))) not_here ∙ ap (option_map (λ place. place + 1)) later ∙ ap (λ i. Some i) e
+      ap (λ t. cond t (Some 0) (option_map (λ place. place + 1) (pair_place one two hay))) not_here ∙ ap
+      (option_map (λ place. place + 1)) later ∙ ap (λ i. Some i) e
 
   pair_missing : (hay : List ℕ) → ((j : ℕ) → OccursAt hay pair j → ⊥) → pair_place one two hay ≡ None
   unfolding pair_place
@@ -95,7 +101,8 @@ module _ (one two : ℕ) where
   pair_missing (b ∷ hay) none =
       let not_here : is_front b hay ≡ false = not_passing _ (λ is. none 0 (front_occurs b hay is)) in
       let later = pair_missing hay (λ j here. none (suc j) (occurs_before b hay j here)) in
-      ap (λ t. cond t (Some 0) (option_map (λ place. place + 1) (pair_place one two hay))) not_here ∙ ap (option_map (λ place. place + 1)) later
+      ap (λ t. cond t (Some 0) (option_map (λ place. place + 1) (pair_place one two hay))) not_here ∙ ap
+      (option_map (λ place. place + 1)) later
 
   -- the place that `memmem` finds is that of the pair
   pub pair_found : (hay : List ℕ) (found : Option ℕ) → FindsNeedle hay pair 0 found → found ≡ pair_place one two hay

@@ -62,7 +62,8 @@ pub trait TokenReader: Drop {
         requires bytes { start + length bytes.now < 2 ^ 32 }
         requires sound { IsSound number self.old }
         ensures sound { OnTaken result (IsSound (number + 1) self.new) }
-        ensures state { (before : List (Part Self.Kind)) → IsNext before number start → Leads before self.old → IfOk result (Follows Leads Stops before number kind bytes.now self.new) };
+        ensures state { (before : List (Part Self.Kind)) → IsNext before number start → Leads before self.old
+            → IfOk result (Follows Leads Stops before number kind bytes.now self.new) };
 
     /// What the text says, or why it cannot end here.
     fn finish(self) -> Result<Result<Self::Value, Self::Cause>, OutOfMemory>

@@ -57,11 +57,13 @@ module _ (bytes : List ℕ) where
 
   -- the names of the header, then those that `wire` declares, then those that are joined to ports; each once, where it first comes
   abbrev pub texts_in : List Entry → List (List ℕ)
-  texts_in entries = insert_all bytes_eq [] (texts_of group.Headers entries ++ (texts_of group.Wires entries ++ texts_of group.Joined entries))
+  texts_in entries = insert_all bytes_eq []
+      (texts_of group.Headers entries ++ (texts_of group.Wires entries ++ texts_of group.Joined entries))
 
   -- how an entry declares this name, and with which direction
   abbrev pub declaration_of : List ℕ → Entry → Option Declaration
-  declaration_of text (Declared by name bounds) = if bytes_eq (text_at bytes name) text then Some (record { by = by; range = bounds }) else None
+  declaration_of text (Declared by name bounds) =
+      if bytes_eq (text_at bytes name) text then Some (record { by = by; range = bounds }) else None
   declaration_of text _ = None
 
   abbrev pub direction_of : List ℕ → Entry → Option Direction

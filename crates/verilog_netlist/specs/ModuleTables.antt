@@ -69,7 +69,8 @@ module _ (t : Tables) where
   -- the number of the name that is joined here
   abbrev pub IsNumberAt : ℕ → ℕ → ℕ → Type 0
   IsNumberAt m place number =
-      is_in group.Joined (entry_at t.entries.items place) ≡ true → number ≡ number_of (names_at m) (text_at t.bytes.now (name_of (entry_at t.entries.items place)))
+      is_in group.Joined (entry_at t.entries.items place) ≡ true
+      → number ≡ number_of (names_at m) (text_at t.bytes.now (name_of (entry_at t.entries.items place)))
 
   abbrev pub run_at : ℕ → ℕ → Run
   run_at m place = run_of t.bytes.now (names_at m) (entry_at t.entries.items place)

@@ -79,7 +79,8 @@ noted_at texts from text declaration old =
     if nat_lt place (length texts) then set old (from + place) (noted (get_or old (from + place) no_facts) declaration) else old
 
 abbrev pub NotesEntry : List ℕ → List (List ℕ) → ℕ → Entry → List Facts → List Facts → Type 0
-NotesEntry bytes texts from (Declared by name bounds) old new = new ≡ noted_at texts from (text_at bytes name) (record { by = by; range = bounds }) old
+NotesEntry bytes texts from (Declared by name bounds) old new = new
+    ≡ noted_at texts from (text_at bytes name) (record { by = by; range = bounds }) old
 NotesEntry bytes texts from _ old new = new ≡ old
 
 -- the names of a module more
@@ -104,11 +105,14 @@ module _ (bytes : List ℕ) (entries : List Entry) (p : Places) where
   pub record HoldsNetNames (n : ℕ) (names : NetNames) : Type 0 where
     pub starts : length names.starts.items ≡ n + 1
     pub last : get_or names.starts.items n 0 ≡ length names.rows.items
-    pub order : (m : ℕ) → m < n → (get_or names.starts.items m 0 ≤ get_or names.starts.items (m + 1) 0) × (get_or names.starts.items (m + 1) 0 ≤ length names.rows.items)
-    pub rows : (m : ℕ) → m < n → map view_row (rows_of names.starts.items names.rows.items m) ≡ map (facts_in bytes (own_at entries p m)) (texts_in bytes (own_at entries p m))
+    pub order : (m : ℕ) → m < n → (get_or names.starts.items m 0 ≤ get_or names.starts.items (m + 1) 0)
+        × (get_or names.starts.items (m + 1) 0 ≤ length names.rows.items)
+    pub rows : (m : ℕ) → m < n → map view_row (rows_of names.starts.items names.rows.items m)
+        ≡ map (facts_in bytes (own_at entries p m)) (texts_in bytes (own_at entries p m))
     pub numbered : length names.numbers.items ≡ start_at p n
     pub behind : (m : ℕ) → m < n → start_at p (m + 1) ≤ length names.numbers.items
-    pub numbers : (m at : ℕ) → m < n → start_at p m < at → at < start_at p (m + 1) → get_or names.numbers.items at 0 ≡ text_number bytes (texts_in bytes (own_at entries p m)) (entry_at entries at)
+    pub numbers : (m at : ℕ) → m < n → start_at p m < at → at < start_at p (m + 1)
+        → get_or names.numbers.items at 0 ≡ text_number bytes (texts_in bytes (own_at entries p m)) (entry_at entries at)
 
   -- the names of all modules
   abbrev pub AreNetNames : NetNames → Type 0

@@ -32,7 +32,11 @@ module _ (begins : Entry → Bool) (entries : List Entry) where
 
 module _ (entries : List Entry) where
   abbrev pub module_row : ℕ → ModuleRow
-  module_row place = record { place = place; instances = begun begins_instance entries place; connections = begun begins_connection entries place }
+  module_row place = record {
+    place = place;
+    instances = begun begins_instance entries place;
+    connections = begun begins_connection entries place;
+  }
 
   abbrev pub instance_row : ℕ → InstanceRow
   instance_row place = record { place = place; connections = begun begins_connection entries place }
@@ -75,7 +79,8 @@ module _ (entries : List Entry) where
 
 -- what one entry adds to the tables
 pub record AddsModule (old : Places) (place : ℕ) (new : Places) : Type 0 where
-  pub modules : new.modules.items ≡ old.modules.items ++ record { place = place; instances = length old.instances.items; connections = length old.connections.items } ∷ []
+  pub modules : new.modules.items ≡ old.modules.items
+      ++ record { place = place; instances = length old.instances.items; connections = length old.connections.items } ∷ []
   pub instances : new.instances.items ≡ old.instances.items
   pub connections : new.connections.items ≡ old.connections.items
 

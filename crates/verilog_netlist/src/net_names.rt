@@ -210,7 +210,8 @@ fn add_module_rows<'a>(
     entries: &[Entry],
 ) -> Result<(), OutOfMemory>
     requires { AllDiffer (keys_of texts.now.keys) }
-    ensures { OnOk result (map view_row rows.new.items ≡ map view_row rows.old.items ++ map (facts_in bytes.now entries.now) (keys_of texts.now.keys)) }
+    ensures { OnOk result (map view_row rows.new.items ≡ map view_row rows.old.items
+        ++ map (facts_in bytes.now entries.now) (keys_of texts.now.keys)) }
 {
     let from = rows.len();
     add_rows(rows, texts)?;

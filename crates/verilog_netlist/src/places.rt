@@ -151,7 +151,8 @@ impl Places {
         requires { m + 1 < length self.now.modules.items }
         ensures start { result.place ≡ start_at self.now m }
         ensures end { result.end ≡ start_at self.now (m + 1) }
-        ensures part { (entries : List Entry) → ArePlaces entries self.now → IsPartAt entries begins_module entries m result.place result.end }
+        ensures part { (entries : List Entry) → ArePlaces entries self.now
+            → IsPartAt entries begins_module entries m result.place result.end }
         ensures extent { (entries : List Entry) → ArePlaces entries self.now → IsModuleExtent entries result }
     {
         let row = self.modules[m];
@@ -172,7 +173,8 @@ impl Places {
         requires known { within.instances_end ≤ length self.now.instances.items }
         ensures part { (entries : List Entry) → ArePlaces entries self.now → IsModuleExtent entries within
             → IsPartAt entries begins_instance (stretch entries (within.place + 1) within.end) k result.place result.end }
-        ensures extent { (entries : List Entry) → ArePlaces entries self.now → IsModuleExtent entries within → IsInstanceExtent entries result }
+        ensures extent { (entries : List Entry) → ArePlaces entries self.now → IsModuleExtent entries within
+            → IsInstanceExtent entries result }
         ensures inside { (entries : List Entry) → ArePlaces entries self.now → IsModuleExtent entries within
             → (within.place < result.place) × (result.end ≤ within.end) }
     {
