@@ -4,7 +4,7 @@ use Rattle.std.specs.Prelude.{⊤}
 use Rattle.std.proofs.lemmas.Bool.{ltb-true}
 use Rattle.token_fronts.specs.Accepting.{Accepts, ended, taken}
 use Rattle.verilog_netlist.specs.Grammar.{Tok, Is, added, Listed, one, and_one, Many, none, more, Maybe, left_out, there, IsName, name, IsDirection, input, output, MaybeWire, no_wire, wire, range, MaybeRange, no_range, with_range, declared, IsAnsi, ansi, names, directions, IsPorts, ports, IsExpr, whole, bit, part, constant, in_braces, AreExprs, one_expr, and_expr, IsConnection, connection, IsInstance, instance, IsItem, directed, wires, instances, IsModule, is_module, IsNetlist}
-use Rattle.verilog_netlist.specs.Steps.{modules_step, module_name_step, module_head_step, header_start_step, header_name_step, header_more_step, header_end_step, items_step, after_wire_step, after_way_step, range_left_step, range_colon_step, range_right_step, range_end_step, declared_name_step, header_declared_step, item_declared_step, next_port_step, instance_name_step, instance_open_step, first_connection_step, next_connection_step, port_name_step, port_open_step, place_at, operand_step, joined_step, behind_expr, saying, name_end_step, select_left_step, select_next_step, select_right_step, select_end_step, connection_end_step, instance_end_step}
+use Rattle.verilog_netlist.specs.Steps.{Go, Refuse, modules_step, module_name_step, module_head_step, header_start_step, header_name_step, header_more_step, header_end_step, items_step, after_wire_step, after_way_step, range_left_step, range_colon_step, range_right_step, range_end_step, declared_name_step, header_declared_step, item_declared_step, next_port_step, instance_name_step, instance_open_step, first_connection_step, next_connection_step, port_name_step, port_open_step, place_at, operand_step, joined_step, behind_expr, saying, name_end_step, select_left_step, select_next_step, select_right_step, select_end_step, connection_end_step, instance_end_step}
 use Rattle.verilog_netlist.specs.Modes.{State, first_state, state_after, next, finish}
 use Rattle.token_texts.specs.declared.spans.Span.{Span}
 use Rattle.verilog_netlist.specs.declared.kinds.Kind.{Kind}
@@ -18,7 +18,6 @@ use Rattle.verilog_netlist.specs.declared.entries.Entry.{Entry}
 use Rattle.verilog_netlist.specs.declared.entries.Entry.TheVariants as entry
 use Rattle.verilog_netlist.specs.declared.modes.Mode.{Mode}
 use Rattle.verilog_netlist.specs.declared.modes.Mode.TheVariants.{Modules, ModuleName, ModuleHead, HeaderStart, HeaderName, HeaderMore, HeaderEnd, Items, AfterWay, AfterWire, RangeLeft, RangeColon, RangeRight, RangeEnd, DeclaredName, DeclaredMore, NextPort, InstanceName, InstanceOpen, FirstConnection, NextConnection, PortName, PortOpen, Joined, Operand, NameEnd, SelectLeft, SelectNext, SelectRight, SelectEnd, OperandEnd, ConnectionEnd, InstanceEnd}
-use Rattle.verilog_netlist.specs.declared.modes.Step.TheVariants.{Go, Refuse}
 
 abbrev at : Mode → List Entry → State
 at mode entries = record { mode = mode; entries = entries }

@@ -9,7 +9,7 @@ use Rattle.token_fronts.specs.ReadingLaw.{says_made, leaves_where_stopped, one_r
 use Rattle.verilog_netlist.specs.Tokens.{Lexeme, span_of, cut_at, AreTokensFrom, end, skip, take_one, AreTokens, IsToken}
 use Rattle.verilog_netlist.specs.Cuts.{IsWithin}
 use Rattle.verilog_netlist.specs.Grammar.{IsNetlist}
-use Rattle.verilog_netlist.specs.Steps.{step_in}
+use Rattle.verilog_netlist.specs.Steps.{Step, Refuse, Go, Put, step_in}
 use Rattle.verilog_netlist.specs.Modes.{State, first_state, state_after, next, finish_in, finish}
 use Rattle.verilog_netlist.specs.Netlists.{SaysNetlist, LeavesNetlist, IsDead, IsRefusalAt, HasWord}
 use Rattle.verilog_netlist.specs.ReaderStates.{IsRefusalOf}
@@ -18,8 +18,6 @@ use Rattle.verilog_netlist.specs.declared.kinds.Kind.{Kind}
 use Rattle.verilog_netlist.specs.declared.entries.Entry.{Entry}
 use Rattle.verilog_netlist.specs.declared.modes.Mode.{Mode}
 use Rattle.verilog_netlist.specs.declared.modes.Mode.TheVariants.{Modules}
-use Rattle.verilog_netlist.specs.declared.modes.Step.{Step}
-use Rattle.verilog_netlist.specs.declared.modes.Step.TheVariants.{Refuse, Go, Put}
 use Rattle.verilog_netlist.specs.declared.scan.Cut.{Cut}
 use Rattle.verilog_netlist.specs.declared.scan.Cut.TheVariants.{Skip, Take}
 use Rattle.verilog_netlist.specs.declared.reading.ReadEnd.{ReadEnd}

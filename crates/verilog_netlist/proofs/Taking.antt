@@ -2,7 +2,7 @@
 use Rattle.std.proofs.Common.{◌≡◌, ℕ, zero, suc, cond, List, ◌∷◌, Option, Some, None, Ok, refl, ap, ◌∙◌, lt-ltb}
 use Rattle.token_fronts.specs.Accepting.{Accepts, ended, taken}
 use Rattle.verilog_netlist.specs.Grammar.{Tok, Is, added, Listed, one, and_one, Many, none, more, Maybe, left_out, there, IsName, name, input, output, MaybeWire, no_wire, wire, range, no_range, with_range, AreDeclared, declared, IsAnsi, ansi, IsHeader, names, directions, IsPorts, ports, IsExpr, whole, bit, part, constant, in_braces, AreExprs, one_expr, and_expr, IsConnection, connection, IsInstance, instance, IsItem, directed, wires, instances, IsModule, is_module, IsNetlist}
-use Rattle.verilog_netlist.specs.Steps.{place_at, behind_expr, operand_step, joined_step, name_end_step, step_in}
+use Rattle.verilog_netlist.specs.Steps.{Step, Refuse, Go, Put, place_at, behind_expr, operand_step, joined_step, name_end_step, step_in}
 use Rattle.verilog_netlist.specs.Modes.{State, first_state, state_after, next, finish}
 use Rattle.token_texts.specs.declared.spans.Span.{Span}
 use Rattle.verilog_netlist.specs.declared.kinds.Kind.{Kind}
@@ -16,8 +16,6 @@ use Rattle.verilog_netlist.specs.declared.entries.Entry.{Entry}
 use Rattle.verilog_netlist.specs.declared.entries.Entry.TheVariants as entry
 use Rattle.verilog_netlist.specs.declared.modes.Mode.{Mode}
 use Rattle.verilog_netlist.specs.declared.modes.Mode.TheVariants.{Modules, ModuleName, ModuleHead, HeaderStart, HeaderName, HeaderMore, HeaderEnd, Items, AfterWay, AfterWire, RangeLeft, RangeColon, RangeRight, RangeEnd, DeclaredName, DeclaredMore, NextPort, InstanceName, InstanceOpen, FirstConnection, NextConnection, PortName, PortOpen, Joined, Operand, NameEnd, SelectLeft, SelectNext, SelectRight, SelectEnd, OperandEnd, ConnectionEnd, InstanceEnd}
-use Rattle.verilog_netlist.specs.declared.modes.Step.{Step}
-use Rattle.verilog_netlist.specs.declared.modes.Step.TheVariants.{Refuse, Go, Put}
 
 abbrev at : Mode → List Entry → State
 at mode entries = record { mode = mode; entries = entries }

@@ -2,12 +2,10 @@
 use Rattle.std.specs.Prelude.{List, [], ◌∷◌, ◌++◌, Result, Ok, Err, ⊤}
 use Rattle.token_fronts.specs.Tokens.{Token}
 use Rattle.verilog_netlist.specs.Tokens.{Lexeme}
-use Rattle.verilog_netlist.specs.Steps.{step_in}
+use Rattle.verilog_netlist.specs.Steps.{Step, Refuse, Go, Put, step_in}
 use Rattle.verilog_netlist.specs.declared.entries.Entry.{Entry}
 use Rattle.verilog_netlist.specs.declared.modes.Mode.{Mode}
 use Rattle.verilog_netlist.specs.declared.modes.Mode.TheVariants.{Modules}
-use Rattle.verilog_netlist.specs.declared.modes.Step.{Step}
-use Rattle.verilog_netlist.specs.declared.modes.Step.TheVariants.{Refuse, Go, Put}
 
 pub record State : Type 0 where
   pub mode : Mode

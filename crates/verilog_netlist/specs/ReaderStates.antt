@@ -1,7 +1,8 @@
 -- What the reader's own state stands for.
-use Rattle.std.specs.Prelude.{◌≡◌, ℕ, Bool, true, false, List, Option, Some, None, Result, Ok, Err, ⊤}
+use Rattle.std.specs.Prelude.{◌≡◌, ℕ, Bool, true, false, List, Option, Some, None, Result, Ok, Err, IfOk, ⊤}
 use Rattle.token_texts.specs.Spans.{text_at}
-use Rattle.verilog_netlist.specs.Modes.{State}
+use Rattle.verilog_netlist.specs.Steps.{Step, Refuse, Go}
+use Rattle.verilog_netlist.specs.Modes.{State, state_after}
 use Rattle.token_texts.specs.declared.spans.Span.{Span}
 use Rattle.verilog_netlist.specs.declared.kinds.Kind.{Kind}
 use Rattle.verilog_netlist.specs.declared.kinds.Kind.TheVariants.{NotStructural as StartsOther}
@@ -9,6 +10,8 @@ use Rattle.verilog_netlist.specs.declared.reading.ReadEnd.{ReadEnd}
 use Rattle.verilog_netlist.specs.declared.reading.ReadEnd.TheVariants.{Syntax, NotStructural, OutOfMemory}
 use Rattle.verilog_netlist.specs.declared.entries.Entry.{Entry}
 use Rattle.verilog_netlist.specs.declared.reader.Reader.{Reader}
+use Rattle.verilog_netlist.specs.declared.modes.Mode.{Mode}
+use Rattle.edge_io.specs.declared.failures.OutOfMemory.{OutOfMemory as NoMemory}
 
 abbrev pub state_of : Reader → State
 state_of reader = record { mode = reader.mode; entries = reader.entries.items }
@@ -28,3 +31,12 @@ abbrev pub IsRefusalOf : List ℕ → ℕ → Kind → Span → ReadEnd → Type
 IsRefusalOf bytes number kind at (Syntax token) = (token ≡ number) × (kind ≡ StartsOther → ⊥)
 IsRefusalOf bytes number kind at (NotStructural word token) = (token ≡ number) × (kind ≡ StartsOther) × (word ≡ text_at bytes at)
 IsRefusalOf bytes number kind at OutOfMemory = ⊤
+
+-- the step that goes on to a mode, or refuses where there is none
+abbrev pub go_if : Option Mode → Step
+go_if None = Refuse
+go_if (Some mode) = Go mode
+
+-- what the reader answers, and what it is then, where the token does this
+abbrev pub Does : Reader → Step → Result Bool NoMemory → Reader → Type 0
+Does before step answer after = IfOk answer (Steps (state_after step before.entries.items) (state_of after))

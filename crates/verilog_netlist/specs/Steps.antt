@@ -13,8 +13,12 @@ use Rattle.verilog_netlist.specs.declared.entries.Entry.TheVariants as entry
 use Rattle.verilog_netlist.specs.declared.modes.Place.{Place}
 use Rattle.verilog_netlist.specs.declared.modes.Mode.{Mode}
 use Rattle.verilog_netlist.specs.declared.modes.Mode.TheVariants.{Modules, ModuleName, ModuleHead, HeaderStart, HeaderName, HeaderMore, HeaderEnd, Items, AfterWay, AfterWire, RangeLeft, RangeColon, RangeRight, RangeEnd, DeclaredName, DeclaredMore, NextPort, InstanceName, InstanceOpen, FirstConnection, NextConnection, PortName, PortOpen, Joined, Operand, NameEnd, SelectLeft, SelectNext, SelectRight, SelectEnd, OperandEnd, ConnectionEnd, InstanceEnd}
-use Rattle.verilog_netlist.specs.declared.modes.Step.{Step}
-use Rattle.verilog_netlist.specs.declared.modes.Step.TheVariants.{Refuse, Go, Put}
+
+-- a token cannot stand here; or something else is waited for; or the same, and the token says something
+pub data Step : Type 0 where
+  Refuse : Step
+  Go : Mode → Step
+  Put : Mode → Entry → Step
 
 abbrev pub modules_step : Kind → Step
 modules_step kind.Module = Go ModuleName

@@ -23,6 +23,7 @@ mod reading;
 mod repeats;
 mod runs;
 mod scan;
+mod steps;
 mod tables;
 mod words;
 

@@ -1,14 +1,24 @@
 //! The reader: takes one token after another.
-ghost use Rattle.std.specs.Prelude.{◌≡◌, ⊤, IfOk};
+ghost use Rattle.std.specs.Prelude.{◌≡◌};
 ghost use Rattle.std.specs.Option.{option_map};
-ghost use Rattle.verilog_netlist.specs.Steps.{step_in};
-ghost use Rattle.verilog_netlist.specs.Modes.{first_state, state_after, finish};
-ghost use Rattle.verilog_netlist.specs.ReaderStates.{state_of, Steps, Finishes};
+ghost use Rattle.verilog_netlist.specs.Steps.{Refuse, Go, Put, step_in};
+ghost use Rattle.verilog_netlist.specs.Modes.{first_state, finish};
+ghost use Rattle.verilog_netlist.specs.ReaderStates.{state_of, Does, Finishes};
 
 use crate::entries::Entry;
 use crate::kinds::Kind;
-use crate::modes::{Mode, Step};
+use crate::modes::Mode;
+use crate::steps::{
+    after_way_step, after_wire_step, connection_end_step, declared_more_step, declared_name_step,
+    first_connection_step, header_end_step, header_more_step, header_name_step, header_start_step,
+    instance_end_step, instance_name_step, instance_open_step, items_step, joined_step,
+    module_head_step, module_name_step, modules_step, name_end_step, next_connection_step,
+    next_port_step, operand_end_step, operand_step, port_name_step, port_open_step,
+    range_colon_step, range_end_step, range_left_step, range_right_step, select_end_step,
+    select_left_step, select_next_step, select_right_step,
+};
 use edge_io::OutOfMemory;
+use edge_io::lists::push;
 use std::alloc::Global;
 use token_texts::Span;
 
@@ -30,31 +40,76 @@ impl Reader {
         }
     }
 
-    /// Does what the step says, if it is no refusal.
-    #[inline]
-    fn step(&mut self, step: Step) -> Result<bool, OutOfMemory>
-        ensures { IfOk result (Steps (state_after step self.old.entries.items) (state_of self.new)) }
+    /// The token cannot stand here.
+    #[inline(always)]
+    pub(crate) fn refuse(&mut self) -> Result<bool, OutOfMemory>
+        ensures { Does self.old Refuse result self.new }
     {
-        match step {
-            Step::Refuse => return Ok(false),
-            Step::Go(mode) => self.mode = mode,
-            Step::Put(mode, entry) => {
-                self.mode = mode;
-                if self.entries.push(entry).is_err() {
-                    return Err(OutOfMemory);
-                }
-            }
-        }
+        Ok(false)
+    }
+
+    /// Waits for something else.
+    #[inline(always)]
+    pub(crate) fn go(&mut self, mode: Mode) -> Result<bool, OutOfMemory>
+        ensures { Does self.old (Go mode) result self.new }
+    {
+        self.mode = mode;
         Ok(true)
     }
 
-    /// Takes the token of this kind at this place of the file, and tells whether it can stand here.
+    /// The same, where the token says something.
+    #[inline(always)]
+    pub(crate) fn put(&mut self, mode: Mode, entry: Entry) -> Result<bool, OutOfMemory>
+        ensures { Does self.old (Put mode entry) result self.new }
+    {
+        self.mode = mode;
+        push(&mut self.entries, entry)?;
+        Ok(true)
+    }
+
+    /// Takes the token of this kind at this place of the file, and tells whether it can stand here. Each step changes the reader where
+    /// it stands: to hand steps out as values took half of the time of the grammar.
     #[inline]
     pub(crate) fn take(&mut self, kind: Kind, at: Span) -> Result<bool, OutOfMemory>
-        ensures { IfOk result (Steps (state_after (step_in self.old.mode kind at) self.old.entries.items) (state_of self.new)) }
+        ensures { Does self.old (step_in self.old.mode kind at) result self.new }
     {
-        let step = self.mode.next(kind, at);
-        self.step(step)
+        match self.mode {
+            Mode::Modules => modules_step(self, kind),
+            Mode::ModuleName => module_name_step(self, kind, at),
+            Mode::ModuleHead => module_head_step(self, kind),
+            Mode::HeaderStart => header_start_step(self, kind, at),
+            Mode::HeaderName => header_name_step(self, kind, at),
+            Mode::HeaderMore => header_more_step(self, kind),
+            Mode::HeaderEnd => header_end_step(self, kind),
+            Mode::Items => items_step(self, kind, at),
+            Mode::AfterWay(decl) => after_way_step(self, kind, at, decl),
+            Mode::AfterWire(decl) => after_wire_step(self, kind, at, decl),
+            Mode::RangeLeft(decl) => range_left_step(self, kind, decl),
+            Mode::RangeColon(decl, left) => range_colon_step(self, kind, decl, left),
+            Mode::RangeRight(decl, left) => range_right_step(self, kind, decl, left),
+            Mode::RangeEnd(decl, range) => range_end_step(self, kind, decl, range),
+            Mode::DeclaredName(decl, range) => declared_name_step(self, kind, at, decl, range),
+            Mode::DeclaredMore(decl, range) => declared_more_step(self, kind, decl, range),
+            Mode::NextPort(way, range) => next_port_step(self, kind, at, way, range),
+            Mode::InstanceName(cell) => instance_name_step(self, kind, at, cell),
+            Mode::InstanceOpen(cell) => instance_open_step(self, kind, cell),
+            Mode::FirstConnection(cell) => first_connection_step(self, kind, cell),
+            Mode::NextConnection(cell) => next_connection_step(self, kind, cell),
+            Mode::PortName(cell) => port_name_step(self, kind, at, cell),
+            Mode::PortOpen(cell) => port_open_step(self, kind, cell),
+            Mode::Joined(cell) => joined_step(self, kind, at, cell),
+            Mode::Operand(place) => operand_step(self, kind, at, place),
+            Mode::NameEnd(place, name) => name_end_step(self, kind, place, name),
+            Mode::SelectLeft(place, name) => select_left_step(self, kind, place, name),
+            Mode::SelectNext(place, name, left) => select_next_step(self, kind, place, name, left),
+            Mode::SelectRight(place, name, left) => select_right_step(
+                self, kind, place, name, left,
+            ),
+            Mode::SelectEnd(place, name, range) => select_end_step(self, kind, place, name, range),
+            Mode::OperandEnd(place) => operand_end_step(self, kind, place),
+            Mode::ConnectionEnd(cell) => connection_end_step(self, kind, cell),
+            Mode::InstanceEnd(cell) => instance_end_step(self, kind, cell),
+        }
     }
 
     /// What has been said, where the file may end.
