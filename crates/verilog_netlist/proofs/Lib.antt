@@ -15,6 +15,7 @@ pub mod PartsFound
 pub mod Placing
 pub mod Naming
 pub mod NetNaming
+pub mod Ports
 pub mod TableReading
 pub mod Numbering
 pub mod Sounding

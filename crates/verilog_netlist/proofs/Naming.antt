@@ -1,9 +1,12 @@
 -- The names of a module, one more at a time.
-use Rattle.std.proofs.Common.{◌≡◌, ℕ, suc, ◌+◌, ◌-◌, ◌<◌, ◌≤◌, Bool, true, false, not, ◌||◌, nat_lt, inl, inr, List, [], ◌∷◌, ◌++◌, length, get_or, set, map, Option, Some, None, refl, sym, ap, ap₂, ◌∙◌, subst, arith, cond, if◌then◌else◌, true≢false, Bor}
+use Rattle.std.proofs.Common.{◌≡◌, ℕ, suc, ◌+◌, ◌-◌, ◌<◌, ◌≤◌, Bool, true, false, not, ◌||◌, nat_lt, inl, inr, List, [], ◌∷◌, ◌++◌, length, filter, get_or, set, map, Option, Some, None, refl, sym, ap, ap₂, ◌∙◌, subst, arith, cond, if◌then◌else◌, true≢false}
+use Rattle.std.specs.Prelude.{⊤}
 use Rattle.std.specs.List.{list_any, position, position_or_len}
 use Rattle.std.specs.Option.{option_or}
 use Rattle.std.specs.Str.{bytes_eq}
-use Rattle.std.proofs.lemmas.List.{map-append, map-set, get_or-map, set-append_right, length-map, get_or-append-add}
+use Rattle.std.proofs.lemmas.List.{append_assoc, map-append, map-set, get_or-map, set-append_right, length-map, get_or-append-add}
+use Rattle.std.proofs.lemmas.List.Elements.{filter-append}
+use Rattle.std.proofs.lemmas.List.Sums.{fold-append}
 use Rattle.std.proofs.lemmas.List.Folds.{list_any-append}
 use Rattle.std.proofs.lemmas.Slice.Eq.{bytes_eq-Decides}
 use Rattle.std.proofs.lemmas.Bool.{lt-ltb, le-ltb}
@@ -11,36 +14,38 @@ use Rattle.indexmap.specs.IndexSet.{insert_key, insert_all}
 use Rattle.token_texts.specs.Spans.{text_at}
 use Rattle.verilog_netlist.specs.Namespaces.{name_of}
 use Rattle.verilog_netlist.specs.ModuleNames.{is_in, first_said, direction_by, direction_of, declaration_of, texts_of, texts_in}
-use Rattle.verilog_netlist.specs.NameRows.{keys_of, AllDiffer, Facts, view_row, noted, facts_in, no_facts, noted_at, text_number, NotesEntry}
+use Rattle.verilog_netlist.specs.NameRows.{keys_of, AllDiffer, Facts, view_row, noted, facts_in, no_facts, noted_at, joined_texts, text_number, NotesEntry}
 use Rattle.verilog_netlist.specs.declared.declared.Declaration.{Declaration}
 use Rattle.verilog_netlist.specs.declared.entries.Direction.{Direction}
 use Rattle.verilog_netlist.specs.declared.entries.Entry.{Entry}
 use Rattle.verilog_netlist.specs.declared.entries.Entry.TheVariants.{Module, Header, Declared, Instance, Port, Whole, Bit, Part, Constant}
+use Rattle.verilog_netlist.specs.declared.name_text.NameText.{NameText}
 use Rattle.verilog_netlist.specs.declared.net_names.Group.{Group}
 use Rattle.verilog_netlist.specs.declared.net_names.Group.TheVariants as group
 use Rattle.verilog_netlist.specs.declared.net_names.NameRow.{NameRow}
 use Rattle.verilog_netlist.proofs.PartsFound.{le_or_lt}
+use Rattle.verilog_netlist.proofs.Repeating.{any_inserted, or_left, or_true}
 
 -- what a set of texts does is what the list of its texts does
-any_text : (text : List ℕ) (keys : List (Bor (List ℕ))) → list_any (λ other. bytes_eq text other.now) keys ≡ list_any (bytes_eq text) (keys_of keys)
+pub any_text : (text : List ℕ) (keys : List NameText) → list_any (λ other. bytes_eq text other.bytes.now) keys ≡ list_any (bytes_eq text) (keys_of keys)
 any_text text [] = refl
-any_text text (other ∷ keys) = ap (λ (t : Bool). bytes_eq text other.now || t) (any_text text keys)
+any_text text (other ∷ keys) = ap (λ (t : Bool). bytes_eq text other.bytes.now || t) (any_text text keys)
 
-pub text_inserted : (keys after : List (Bor (List ℕ))) (key : Bor (List ℕ)) → after ≡ insert_key (λ one other. bytes_eq one.now other.now) keys key → keys_of after ≡ insert_key bytes_eq (keys_of keys) key.now
-text_inserted keys after key is = ap keys_of is ∙ by (list_any (λ other. bytes_eq key.now other.now) keys) refl
+pub text_inserted : (keys after : List NameText) (key : NameText) → after ≡ insert_key (λ one other. bytes_eq one.bytes.now other.bytes.now) keys key → keys_of after ≡ insert_key bytes_eq (keys_of keys) key.bytes.now
+text_inserted keys after key is = ap keys_of is ∙ by (list_any (λ other. bytes_eq key.bytes.now other.bytes.now) keys) refl
   where
-    by : (held : Bool) → list_any (λ other. bytes_eq key.now other.now) keys ≡ held
-        → keys_of (if list_any (λ other. bytes_eq key.now other.now) keys then keys else keys ++ key ∷ []) ≡ insert_key bytes_eq (keys_of keys) key.now
-    by true held = ap (λ (b : Bool). keys_of (if b then keys else keys ++ key ∷ [])) held ∙ sym (ap (λ (b : Bool). if b then keys_of keys else keys_of keys ++ key.now ∷ []) (sym (any_text key.now keys) ∙ held))
-    by false held = ap (λ (b : Bool). keys_of (if b then keys else keys ++ key ∷ [])) held ∙ map-append (λ (k : Bor (List ℕ)). k.now) keys (key ∷ [])
-        ∙ sym (ap (λ (b : Bool). if b then keys_of keys else keys_of keys ++ key.now ∷ []) (sym (any_text key.now keys) ∙ held))
+    by : (held : Bool) → list_any (λ other. bytes_eq key.bytes.now other.bytes.now) keys ≡ held
+        → keys_of (if list_any (λ other. bytes_eq key.bytes.now other.bytes.now) keys then keys else keys ++ key ∷ []) ≡ insert_key bytes_eq (keys_of keys) key.bytes.now
+    by true held = ap (λ (b : Bool). keys_of (if b then keys else keys ++ key ∷ [])) held ∙ sym (ap (λ (b : Bool). if b then keys_of keys else keys_of keys ++ key.bytes.now ∷ []) (sym (any_text key.bytes.now keys) ∙ held))
+    by false held = ap (λ (b : Bool). keys_of (if b then keys else keys ++ key ∷ [])) held ∙ map-append (λ (k : NameText). k.bytes.now) keys (key ∷ [])
+        ∙ sym (ap (λ (b : Bool). if b then keys_of keys else keys_of keys ++ key.bytes.now ∷ []) (sym (any_text key.bytes.now keys) ∙ held))
 
 pub texts_yes : (bytes : List ℕ) (of : Group) (e : Entry) → is_in of e ≡ true → texts_of bytes of (e ∷ []) ≡ text_at bytes (name_of e) ∷ []
 texts_yes bytes of e h = ap (λ (b : Bool). map (λ (x : Entry). text_at bytes (name_of x)) (cond b (e ∷ []) [])) h
 
-pub place_of_text : (text : List ℕ) (keys : List (Bor (List ℕ))) → position_or_len (λ other. bytes_eq text other.now) keys ≡ position_or_len (bytes_eq text) (keys_of keys)
+pub place_of_text : (text : List ℕ) (keys : List NameText) → position_or_len (λ other. bytes_eq text other.bytes.now) keys ≡ position_or_len (bytes_eq text) (keys_of keys)
 place_of_text text [] = refl
-place_of_text text (other ∷ keys) = ap (λ (n : ℕ). cond (not (bytes_eq text other.now)) (1 + n) 0) (place_of_text text keys)
+place_of_text text (other ∷ keys) = ap (λ (n : ℕ). cond (not (bytes_eq text other.bytes.now)) (1 + n) 0) (place_of_text text keys)
 
 -- texts that differ
 turned : (one other : List ℕ) → bytes_eq one other ≡ false → bytes_eq other one ≡ false
@@ -196,12 +201,12 @@ module _ (bytes : List ℕ) (items : List Entry) (texts : List (List ℕ)) (d : 
   entry_noted (Constant token) old new h notes = nothing_noted (Constant token) (λ t. refl) (λ t. refl) new (notes ∙ h)
 
 -- what the set finds
-module _ (text : List ℕ) (keys : List (Bor (List ℕ))) (found : Option ℕ) (is : found ≡ position (λ other. bytes_eq text other.now) keys) where
+module _ (text : List ℕ) (keys : List NameText) (found : Option ℕ) (is : found ≡ position (λ other. bytes_eq text other.bytes.now) keys) where
   abbrev at : ℕ
   at = position_or_len (bytes_eq text) (keys_of keys)
 
   same_place : found ≡ cond (nat_lt at (length (keys_of keys))) (Some at) None
-  same_place = is ∙ ap₂ (λ (n l : ℕ). cond (nat_lt n l) (Some n) None) (place_of_text text keys) (sym (length-map keys (λ (k : Bor (List ℕ)). k.now)))
+  same_place = is ∙ ap₂ (λ (n l : ℕ). cond (nat_lt n l) (Some n) None) (place_of_text text keys) (sym (length-map keys (λ (k : NameText). k.bytes.now)))
 
   pub found_some : (n : ℕ) → found ≡ Some n → (at < length (keys_of keys)) × (n ≡ at)
   found_some n some = elim (le_or_lt (length (keys_of keys)) at) [
@@ -232,23 +237,135 @@ module _ (texts : List (List ℕ)) (from : ℕ) (text : List ℕ) (declaration :
       sym (ap (λ (b : Bool). if b then set (map view_row rows) (from + position_or_len (bytes_eq text) texts) (noted (get_or (map view_row rows) (from + position_or_len (bytes_eq text) texts) no_facts) declaration) else map view_row rows)
       (le-ltb (position_or_len (bytes_eq text) texts) (length texts) past))
 
--- the number of the name that an entry joins
-module _ (bytes : List ℕ) (texts : List (List ℕ)) (e : Entry) (joins : is_in group.Joined e ≡ true) (text : List ℕ) (is : text ≡ text_at bytes (name_of e)) where
-  number_is : position_or_len (bytes_eq text) texts ≡ text_number bytes texts e
-  number_is =
-      ap (λ (t : List ℕ). position_or_len (bytes_eq t) texts) is
-      ∙ sym (ap (λ (b : Bool). if b then position_or_len (bytes_eq (text_at bytes (name_of e))) texts else 0) joins)
+-- the place of a text, as another is put in
+place_push : (texts : List (List ℕ)) (text : List ℕ) → list_any (bytes_eq text) texts ≡ false → position_or_len (bytes_eq text) (texts ++ text ∷ []) ≡ position_or_len (bytes_eq text) texts
+place_push [] text none = ap (λ (b : Bool). cond (not b) 1 0) ((bytes_eq-Decides text text).1 refl)
+place_push (t ∷ texts) text none = ap (λ (n : ℕ). cond (not (bytes_eq text t)) (1 + n) 0) (place_push texts text (none_of_two (bytes_eq text t) (list_any (bytes_eq text) texts) none).1)
 
-  pub number_some : (n : ℕ) → n ≡ position_or_len (bytes_eq text) texts → n ≡ text_number bytes texts e
-  number_some n place = place ∙ number_is
+place_kept : (texts : List (List ℕ)) (text more : List ℕ) → list_any (bytes_eq text) texts ≡ true → position_or_len (bytes_eq text) (texts ++ more ∷ []) ≡ position_or_len (bytes_eq text) texts
+place_kept [] text more h = absurd (true≢false (sym h))
+place_kept (t ∷ texts) text more h = by (bytes_eq text t) refl (place_kept texts text more)
+  where
+    by : (b : Bool) → bytes_eq text t ≡ b → (list_any (bytes_eq text) texts ≡ true → position_or_len (bytes_eq text) (texts ++ more ∷ []) ≡ position_or_len (bytes_eq text) texts)
+        → position_or_len (bytes_eq text) (t ∷ (texts ++ more ∷ [])) ≡ position_or_len (bytes_eq text) (t ∷ texts)
+    by true is rest =
+        ap (λ (b : Bool). cond (not b) (1 + position_or_len (bytes_eq text) (texts ++ more ∷ [])) 0) is
+        ∙ sym (ap (λ (b : Bool). cond (not b) (1 + position_or_len (bytes_eq text) texts) 0) is)
+    by false is rest = ap (λ (n : ℕ). cond (not (bytes_eq text t)) (1 + n) 0) (rest (sym (ap (λ (b : Bool). b || list_any (bytes_eq text) texts) is) ∙ h))
 
-  pub number_none : length texts ≤ position_or_len (bytes_eq text) texts → length texts ≡ text_number bytes texts e
-  number_none past = (let few = few_places texts in omega arith) ∙ number_is
+pub place_inserted : (texts : List (List ℕ)) (text : List ℕ) → position_or_len (bytes_eq text) (insert_key bytes_eq texts text) ≡ position_or_len (bytes_eq text) texts
+place_inserted texts text = by (list_any (bytes_eq text) texts) refl
+  where
+    by : (held : Bool) → list_any (bytes_eq text) texts ≡ held → position_or_len (bytes_eq text) (if list_any (bytes_eq text) texts then texts else texts ++ text ∷ []) ≡ position_or_len (bytes_eq text) texts
+    by true h = ap (λ (b : Bool). position_or_len (bytes_eq text) (if b then texts else texts ++ text ∷ [])) h
+    by false h = ap (λ (b : Bool). position_or_len (bytes_eq text) (if b then texts else texts ++ text ∷ [])) h ∙ place_push texts text h
+
+place_stays : (texts : List (List ℕ)) (text more : List ℕ) → list_any (bytes_eq text) texts ≡ true → position_or_len (bytes_eq text) (insert_key bytes_eq texts more) ≡ position_or_len (bytes_eq text) texts
+place_stays texts text more there = by (list_any (bytes_eq more) texts) refl
+  where
+    by : (held : Bool) → list_any (bytes_eq more) texts ≡ held → position_or_len (bytes_eq text) (if list_any (bytes_eq more) texts then texts else texts ++ more ∷ []) ≡ position_or_len (bytes_eq text) texts
+    by true h = ap (λ (b : Bool). position_or_len (bytes_eq text) (if b then texts else texts ++ more ∷ [])) h
+    by false h = ap (λ (b : Bool). position_or_len (bytes_eq text) (if b then texts else texts ++ more ∷ [])) h ∙ place_kept texts text more there
+
+-- names that are joined, as they are put in one after another
+module _ (bytes : List ℕ) where
+  abbrev text_in : Entry → List ℕ
+  text_in e = text_at bytes (name_of e)
+
+  -- the names that these entries join are there
+  abbrev pub AreHeld : List (List ℕ) → List Entry → Type 0
+  AreHeld texts [] = ⊤
+  AreHeld texts (e ∷ items) = (is_in group.Joined e ≡ true → list_any (bytes_eq (text_in e)) texts ≡ true) × AreHeld texts items
+
+  held_push : (texts : List (List ℕ)) (items : List Entry) (e : Entry) → AreHeld texts items → (is_in group.Joined e ≡ true → list_any (bytes_eq (text_in e)) texts ≡ true) → AreHeld texts (items ++ e ∷ [])
+  held_push texts [] e h last = (last, tt)
+  held_push texts (item ∷ items) e h last = (h.0, held_push texts items e h.1 last)
+
+  held_stays : (texts : List (List ℕ)) (items : List Entry) (more : List ℕ) → AreHeld texts items → AreHeld (insert_key bytes_eq texts more) items
+  held_stays texts [] more h = tt
+  held_stays texts (e ∷ items) more h = (
+    (λ joins. any_inserted bytes_eq bytes_eq-Decides texts more (text_in e) ∙ or_left (list_any (bytes_eq (text_in e)) texts) (bytes_eq (text_in e) more) (h.0 joins)),
+    held_stays texts items more h.1,
+  )
+
+  number_stays : (texts : List (List ℕ)) (e : Entry) (more : List ℕ) → (is_in group.Joined e ≡ true → list_any (bytes_eq (text_in e)) texts ≡ true)
+      → text_number bytes (insert_key bytes_eq texts more) e ≡ text_number bytes texts e
+  number_stays texts e more there = by (is_in group.Joined e) refl
     where
-      few_places : (l : List (List ℕ)) → position_or_len (bytes_eq text) l ≤ length l
-      few_places [] = omega arith
-      few_places (t ∷ l) = by (bytes_eq text t) (few_places l)
+      by : (b : Bool) → is_in group.Joined e ≡ b → text_number bytes (insert_key bytes_eq texts more) e ≡ text_number bytes texts e
+      by true joins = ap (λ (n : ℕ). if is_in group.Joined e then n else 0) (place_stays texts (text_in e) more (there joins))
+      by false never =
+          ap (λ (b : Bool). if b then position_or_len (bytes_eq (text_in e)) (insert_key bytes_eq texts more) else 0) never
+          ∙ sym (ap (λ (b : Bool). if b then position_or_len (bytes_eq (text_in e)) texts else 0) never)
+
+  numbers_stay : (texts : List (List ℕ)) (items : List Entry) (more : List ℕ) → AreHeld texts items → map (text_number bytes (insert_key bytes_eq texts more)) items ≡ map (text_number bytes texts) items
+  numbers_stay texts [] more h = refl
+  numbers_stay texts (e ∷ items) more h = ap₂ (λ (n : ℕ) (ns : List ℕ). n ∷ ns) (number_stays texts e more h.0) (numbers_stay texts items more h.1)
+
+  -- an entry that joins a name, or one that joins none
+  pub joined_yes : (texts : List (List ℕ)) (e : Entry) → is_in group.Joined e ≡ true → insert_all bytes_eq texts (joined_texts bytes (e ∷ [])) ≡ insert_key bytes_eq texts (text_in e)
+  joined_yes texts e h = ap (insert_all bytes_eq texts) (texts_yes bytes group.Joined e h)
+
+  pub joined_no : (texts : List (List ℕ)) (e : Entry) → is_in group.Joined e ≡ false → insert_all bytes_eq texts (joined_texts bytes (e ∷ [])) ≡ texts
+  joined_no texts e h = ap (λ (b : Bool). insert_all bytes_eq texts (map (λ (x : Entry). text_in x) (cond b (e ∷ []) []))) h
+
+  -- the number of a name that is put in
+  pub number_joined : (texts : List (List ℕ)) (e : Entry) → is_in group.Joined e ≡ true → position_or_len (bytes_eq (text_in e)) texts ≡ text_number bytes (insert_key bytes_eq texts (text_in e)) e
+  number_joined texts e joins = sym (ap (λ (b : Bool). if b then position_or_len (bytes_eq (text_in e)) (insert_key bytes_eq texts (text_in e)) else 0) joins ∙ place_inserted texts (text_in e))
+
+  pub number_none : (texts : List (List ℕ)) (e : Entry) → is_in group.Joined e ≡ false → 0 ≡ text_number bytes texts e
+  number_none texts e never = sym (ap (λ (b : Bool). if b then position_or_len (bytes_eq (text_in e)) texts else 0) never)
+
+  -- the names that these entries join, put into some texts, and their numbers
+  pub record Joins (first : List (List ℕ)) (before : List ℕ) (items : List Entry) (texts : List (List ℕ)) (numbers : List ℕ) : Type 0 where
+    pub texts_are : texts ≡ insert_all bytes_eq first (joined_texts bytes items)
+    pub held : AreHeld texts items
+    pub numbers_are : numbers ≡ before ++ map (text_number bytes texts) items
+
+  module _ (first : List (List ℕ)) (before : List ℕ) where
+    pub joins_none : (texts : List (List ℕ)) (numbers : List ℕ) → texts ≡ first → numbers ≡ before → Joins first before [] texts numbers
+    joins_none texts numbers t n = record { texts_are = t; held = tt; numbers_are = n ∙ sym (none_more before) }
+      where
+        none_more : (l : List ℕ) → l ++ [] ≡ l
+        none_more [] = refl
+        none_more (x ∷ l) = ap (λ (m : List ℕ). x ∷ m) (none_more l)
+
+    module _ (items : List Entry) (texts after : List (List ℕ)) (numbers : List ℕ) (number : ℕ) (e : Entry) (h : Joins first before items texts numbers)
+        (after_is : after ≡ insert_all bytes_eq texts (joined_texts bytes (e ∷ []))) (number_is : number ≡ text_number bytes after e) where
+      all_texts : after ≡ insert_all bytes_eq first (joined_texts bytes (items ++ e ∷ []))
+      all_texts =
+          after_is ∙ ap (λ (l : List (List ℕ)). insert_all bytes_eq l (joined_texts bytes (e ∷ []))) h.texts_are
+          ∙ sym (fold-append (insert_key bytes_eq) first (joined_texts bytes items) (joined_texts bytes (e ∷ [])))
+          ∙ ap (insert_all bytes_eq first) (sym (ap (map (λ (x : Entry). text_in x)) (filter-append (is_in group.Joined) items (e ∷ [])) ∙ map-append (λ (x : Entry). text_in x) (filter (is_in group.Joined) items) (filter (is_in group.Joined) (e ∷ []))))
+
+      -- what holds for the text that is put in, or for no text
+      record Stays (l : List (List ℕ)) : Type 0 where
+        held : AreHeld l items
+        last : is_in group.Joined e ≡ true → list_any (bytes_eq (text_in e)) l ≡ true
+        same : map (text_number bytes l) items ≡ map (text_number bytes texts) items
+
+      stays : Stays after
+      stays = by (is_in group.Joined e) refl
         where
-          by : (b : Bool) → position_or_len (bytes_eq text) l ≤ length l → cond (not b) (1 + position_or_len (bytes_eq text) l) 0 ≤ suc (length l)
-          by true few = omega arith
-          by false few = omega arith
+          by : (b : Bool) → is_in group.Joined e ≡ b → Stays after
+          by true joins = subst Stays (sym (after_is ∙ joined_yes texts e joins)) (record {
+            held = held_stays texts items (text_in e) h.held;
+            last = λ j. any_inserted bytes_eq bytes_eq-Decides texts (text_in e) (text_in e)
+                ∙ ap (λ (b : Bool). list_any (bytes_eq (text_in e)) texts || b) ((bytes_eq-Decides (text_in e) (text_in e)).1 refl) ∙ or_true (list_any (bytes_eq (text_in e)) texts);
+            same = numbers_stay texts items (text_in e) h.held;
+          })
+          by false never = subst Stays (sym (after_is ∙ joined_no texts e never)) (record {
+            held = h.held;
+            last = λ j. absurd (true≢false (sym j ∙ never));
+            same = refl;
+          })
+
+      pub joins_more : Joins first before (items ++ e ∷ []) after (numbers ++ number ∷ [])
+      joins_more = record {
+        texts_are = all_texts;
+        held = held_push after items e stays.held stays.last;
+        numbers_are =
+            ap₂ (λ (l : List ℕ) (n : ℕ). l ++ n ∷ []) (h.numbers_are ∙ ap (λ (l : List ℕ). before ++ l) (sym stays.same)) number_is
+            ∙ append_assoc before (map (text_number bytes after) items) (text_number bytes after e ∷ [])
+            ∙ ap (λ (l : List ℕ). before ++ l) (sym (map-append (text_number bytes after) items (e ∷ [])));
+      }

@@ -1,5 +1,5 @@
 -- Whether a name lacks its pair.
-use Rattle.std.proofs.Common.{◌≡◌, ℕ, ◌<◌, Bool, true, false, not, ◌⊎◌, inl, inr, List, length, get_or, slice_get, Option, Some, None, refl, sym, ap, ◌∙◌, subst, true≢false, Decides}
+use Rattle.std.proofs.Common.{◌≡◌, ℕ, ◌<◌, Bool, true, false, not, ◌⊎◌, inl, inr, List, length, get_or, slice_get, Option, Some, None, refl, sym, ap, ◌∙◌, subst, arith, true≢false, Decides}
 use Rattle.token_texts.specs.Spans.{text_at}
 use Rattle.verilog_netlist.specs.Namespaces.{name_of, IsAmong, by_own, in_header}
 use Rattle.verilog_netlist.specs.Directions.{paired_names, StandsAmong, IsUnpaired}
@@ -56,6 +56,18 @@ needing (Declared (decl.InHeader way) name bounds) other is = absurd (cc)
 needing (Declared decl.Wire name bounds) other is = absurd (cc)
 needing _ other is = absurd (cc)
 
+abbrev IsNotPorts : Names → Type 0
+IsNotPorts other = code_of other ≡ code_of names.Ports → ⊥
+
+not_five : (code : ℕ) → code < 5 → code ≡ 5 → ⊥
+not_five code low is = absurd (omega arith)
+
+-- a port of an instance is no name's pair
+pair_is_not_ports : (among other : Names) → paired_names among ≡ Some other → IsNotPorts other
+pair_is_not_ports names.Headers other pair port = let same : names.Directions ≡ other = cc in not_five 2 (omega arith) (ap code_of same ∙ port)
+pair_is_not_ports names.Directions other pair port = let same : names.Headers ≡ other = cc in not_five 1 (omega arith) (ap code_of same ∙ port)
+pair_is_not_ports _ other pair port = absurd (cc)
+
 module _ (bytes : List ℕ) (entries : List Entry) (index : ℕ) (keys : List Key) (scopes : Scopes) (counts : Counts entries index scopes)
     (names : HoldsNames bytes entries (length entries) keys) (e : Entry) (stands : slice_get entries index ≡ Some e) (within : index < length entries) (here : get_or entries index e ≡ e) where
   abbrev now : Scopes
@@ -71,11 +83,11 @@ module _ (bytes : List ℕ) (entries : List Entry) (index : ℕ) (keys : List Ke
   key_is_here among = ap (λ (s : ℕ). record { code = code_of among; scope = s; name = name }) (scope_is entries index scopes counts e within here among)
 
   -- what is held stands somewhere, and what stands somewhere is held
-  there : (other : Names) → holds keys (key_of other now name) ≡ true → StandsAmong bytes entries other index name
-  there other h = key_stands bytes entries other index name (length entries) (subst (λ (k : Key). IsKeyBefore bytes entries (length entries) k) (key_is_here other) (names.held (key_of other now name) h))
+  there : (other : Names) → IsNotPorts other → holds keys (key_of other now name) ≡ true → StandsAmong bytes entries other index name
+  there other differs h = key_stands bytes entries other index name (length entries) (subst (λ (k : Key). IsKeyBefore bytes entries (length entries) k) (key_is_here other) (names.held (key_of other now name) differs h))
 
-  held : (other : Names) → StandsAmong bytes entries other index name → holds keys (key_of other now name) ≡ true
-  held other s = names.seen (key_of other now name) (subst (λ (k : Key). IsKeyBefore bytes entries (length entries) k) (sym (key_is_here other))
+  held : (other : Names) → IsNotPorts other → StandsAmong bytes entries other index name → holds keys (key_of other now name) ≡ true
+  held other differs s = names.seen (key_of other now name) differs (subst (λ (k : Key). IsKeyBefore bytes entries (length entries) k) (sym (key_is_here other))
       (stands_key bytes entries other index name (length entries) s (within_list entries s.at s.one s.one_stands)))
 
   itself : (other : Names) → IsAmong other e → StandsAmong bytes entries other index name
@@ -100,7 +112,7 @@ module _ (bytes : List ℕ) (entries : List Entry) (index : ℕ) (keys : List Ke
   unpaired h =
       let l = lacking (needed_names e) h in
       let n = needing e l.0 l.1 in
-      record { among = n.0; other = l.0; one = e; one_stands = stands; one_among = n.1; pair = n.2; lacks = λ s. true≢false (sym (held l.0 s) ∙ l.2) }
+      record { among = n.0; other = l.0; one = e; one_stands = stands; one_among = n.1; pair = n.2; lacks = λ s. true≢false (sym (held l.0 (pair_is_not_ports n.0 l.0 n.2) s) ∙ l.2) }
 
   is_lacking_here : IsUnpaired bytes entries index → is_lacking (needed_names e) now name keys ≡ true
   unfolding Needs
@@ -110,7 +122,7 @@ module _ (bytes : List ℕ) (entries : List Entry) (index : ℕ) (keys : List Ke
       by r.other lacks (needs r.other e r.among (subst (λ (x : Entry). IsAmong r.among x) same r.one_among) r.pair)
     where
       by : (other : Names) → (StandsAmong bytes entries other index name → ⊥) → Needs other e → is_lacking (needed_names e) now name keys ≡ true
-      by other lacks (inl need) = lacks_so (needed_names e) other need (λ h. lacks (there other h))
+      by other lacks (inl need) = let n = needing e other need in lacks_so (needed_names e) other need (λ h. lacks (there other (pair_is_not_ports n.0 other n.2) h))
       by other lacks (inr is) = absurd (lacks (itself other is))
 
   pub decides_unpaired : Decides (is_lacking (needed_names e) now name keys) (IsUnpaired bytes entries index)

@@ -1,5 +1,5 @@
 -- Names as they are kept while those that are repeated, or without their pair, are looked for.
-use Rattle.std.specs.Prelude.{◌≡◌, ℕ, ◌+◌, ◌<◌, Bool, true, false, not, ◌&&◌, ◌==◌, if◌then◌else◌, List, [], ◌∷◌, ◌++◌, map, slice_get, Option, Some, None}
+use Rattle.std.specs.Prelude.{◌≡◌, ℕ, ◌+◌, ◌<◌, Bool, true, false, not, ◌&&◌, ◌||◌, ◌==◌, if◌then◌else◌, List, [], map, slice_get, Option, Some, None}
 use Rattle.std.specs.List.{list_any}
 use Rattle.std.specs.Str.{bytes_eq}
 use Rattle.token_texts.specs.Spans.{text_at}
@@ -26,7 +26,7 @@ pub record Key : Type 0 where
   pub name : List ℕ
 
 abbrev pub key_in : NameKey → Key
-key_in key = record { code = key.code; scope = key.scope; name = key.name.now }
+key_in key = record { code = key.code; scope = key.scope; name = key.name.bytes.now }
 
 abbrev pub keys_in : List NameKey → List Key
 keys_in keys = map key_in keys
@@ -48,20 +48,34 @@ counted scopes entry = record {
 abbrev pub key_of : Names → Scopes → List ℕ → Key
 key_of among scopes name = record { code = code_of among; scope = scope_in among scopes; name = name }
 
--- whether a key is among those that are kept, and they with it
+-- whether a key is in a list
 abbrev pub holds : List Key → Key → Bool
 holds keys key = list_any (same_key key) keys
 
-abbrev pub with_key : List Key → Key → List Key
-with_key keys key = if holds keys key then keys else keys ++ key ∷ []
+abbrev pub is_ports : Names → Bool
+is_ports names.Ports = true
+is_ports _ = false
 
-abbrev pub is_held : Option Names → Scopes → List ℕ → List Key → Bool
-is_held None scopes name keys = false
-is_held (Some among) scopes name keys = holds keys (key_of among scopes name)
+-- whether a key is kept: in the list, or, of a port, among those of the instance of this number
+abbrev pub keeps : ℕ → List Key → List (List ℕ) → Key → Bool
+keeps number keys ports key =
+    if key.code == code_of names.Ports then (key.scope == number) && list_any (bytes_eq key.name) ports else holds keys key
 
-abbrev pub with_name : Option Names → Scopes → List ℕ → List Key → List Key
-with_name None scopes name keys = keys
-with_name (Some among) scopes name keys = with_key keys (key_of among scopes name)
+-- the ports of the instance of this entry, before it is read
+abbrev pub ports_from : Entry → List (List ℕ) → List (List ℕ)
+ports_from entry ports = if begins_instance entry then [] else ports
+
+-- of what tells the keys that are kept: whether a name is, and what tells them with that name
+abbrev pub is_held : Option Names → Scopes → List ℕ → (Key → Bool) → Bool
+is_held None scopes name has = false
+is_held (Some among) scopes name has = has (key_of among scopes name)
+
+abbrev pub with_key : (Key → Bool) → Key → Key → Bool
+with_key has new key = has key || same_key key new
+
+abbrev pub with_name : Option Names → Scopes → List ℕ → (Key → Bool) → Key → Bool
+with_name None scopes name has key = has key
+with_name (Some among) scopes name has key = with_key has (key_of among scopes name) key
 
 -- the key of an entry at this place, as one of these names
 abbrev pub key_at : List ℕ → List Entry → ℕ → Entry → Names → Key
@@ -78,10 +92,14 @@ pub record IsKeyBefore (bytes : List ℕ) (entries : List Entry) (index : ℕ) (
   pub is : IsAmong among e
   pub key_is : key ≡ key_at bytes entries before e among
 
--- the keys are those of the names that stand before this place
+-- a key of another name than a port's
+abbrev pub IsNoPort : Key → Type 0
+IsNoPort key = key.code ≡ code_of names.Ports → ⊥
+
+-- the keys are those of the names that stand before this place, but for ports
 pub record HoldsNames (bytes : List ℕ) (entries : List Entry) (index : ℕ) (keys : List Key) : Type 0 where
-  pub held : (key : Key) → holds keys key ≡ true → IsKeyBefore bytes entries index key
-  pub seen : (key : Key) → IsKeyBefore bytes entries index key → holds keys key ≡ true
+  pub held : (key : Key) → IsNoPort key → holds keys key ≡ true → IsKeyBefore bytes entries index key
+  pub seen : (key : Key) → IsNoPort key → IsKeyBefore bytes entries index key → holds keys key ≡ true
 
 -- the names among which an entry's name needs a pair; where a direction stands in a header the pair is the entry itself
 abbrev pub needed_names : Entry → Option Names

@@ -2,25 +2,25 @@
 use Rattle.std.specs.Prelude.{◌≡◌, ℕ, ◌+◌, ◌-◌, ◌<◌, ◌≤◌, false, ⊤, nat_lt, if◌then◌else◌, List, [], ◌∷◌, ◌++◌, length, map, take, drop, set, get_or, Option, Some, None}
 use Rattle.std.specs.List.{list_any, position_or_len}
 use Rattle.std.specs.Str.{bytes_eq}
-use Rattle.std.specs.Borrow.{Bor}
 use Rattle.std.specs.Option.{option_or}
 use Rattle.token_texts.specs.Spans.{text_at}
 use Rattle.verilog_netlist.specs.Namespaces.{name_of}
 use Rattle.verilog_netlist.specs.PartPlaces.{entry_at, stretch}
 use Rattle.verilog_netlist.specs.Ranges.{declared_range}
-use Rattle.verilog_netlist.specs.ModuleNames.{NetName, direction_by, way_of, first_said, declaration_of, direction_of, is_in, number_of, texts_in}
+use Rattle.verilog_netlist.specs.ModuleNames.{NetName, direction_by, way_of, first_said, declaration_of, direction_of, is_in, number_of, texts_of, texts_in}
 use Rattle.verilog_netlist.specs.declared.declared.Declaration.{Declaration}
 use Rattle.verilog_netlist.specs.declared.entries.Direction.{Direction}
 use Rattle.verilog_netlist.specs.declared.entries.Entry.{Entry}
 use Rattle.verilog_netlist.specs.declared.entries.Entry.TheVariants.{Declared}
+use Rattle.verilog_netlist.specs.declared.name_text.NameText.{NameText}
 use Rattle.verilog_netlist.specs.declared.net_names.Group.TheVariants as group
 use Rattle.verilog_netlist.specs.declared.net_names.NameRow.{NameRow}
 use Rattle.verilog_netlist.specs.declared.net_names.NetNames.{NetNames}
 use Rattle.verilog_netlist.specs.declared.places.ModuleRow.{ModuleRow}
 use Rattle.verilog_netlist.specs.declared.places.Places.{Places}
 
-abbrev pub keys_of : List (Bor (List ℕ)) → List (List ℕ)
-keys_of keys = map (λ key. key.now) keys
+abbrev pub keys_of : List NameText → List (List ℕ)
+keys_of keys = map (λ key. key.bytes.now) keys
 
 -- no text stands twice
 abbrev pub AllDiffer : List (List ℕ) → Type 0
@@ -68,6 +68,10 @@ rows_of starts rows m = take (get_or starts (m + 1) 0 - get_or starts m 0) (drop
 -- the number of the name that an entry joins, among these names; 0 where it joins none
 abbrev pub text_number : List ℕ → List (List ℕ) → Entry → ℕ
 text_number bytes texts entry = if is_in group.Joined entry then position_or_len (bytes_eq (text_at bytes (name_of entry))) texts else 0
+
+-- the names that these entries join, in the order in which they stand
+abbrev pub joined_texts : List ℕ → List Entry → List (List ℕ)
+joined_texts bytes entries = texts_of bytes group.Joined entries
 
 abbrev pub no_facts : Facts
 no_facts = fresh []

@@ -4,11 +4,13 @@ ghost use Rattle.verilog_netlist.specs.NameKeys.{key_in};
 ghost use Rattle.verilog_netlist.specs.DeclaredNames.{declared_key, found_in, widened, AddsRow, AddsDeclared, HoldsDeclared, BoundsWidths};
 
 use crate::entries::{Decl, Entry, Range};
+use crate::name_text::NameText;
 use crate::namespaces::Names;
 use crate::ranges::whole_width;
 use crate::repeats::{NameKey, Scopes, code_of};
 use edge_io::OutOfMemory;
 use indexmap::IndexMap;
+use name_table::NameHash;
 use std::alloc::Global;
 
 /// What declares a name, and its range.
@@ -21,7 +23,7 @@ pub struct Declaration {
 /// The names of all modules that are declared, by a direction or by `wire`, each with its first declaration.
 #[derive(Drop)]
 pub struct DeclaredNames<'a> {
-    pub rows: IndexMap<NameKey<'a>, Declaration>,
+    pub rows: IndexMap<NameKey<'a>, Declaration, NameHash>,
     /// No name has more bits than this, and no undeclared one.
     pub widest: u64,
 }
@@ -34,7 +36,7 @@ fn declared_key(scope: u32, name: &[u8]) -> NameKey<'_>
     NameKey {
         code: code_of(Names::Wires),
         scope,
-        name,
+        name: NameText { bytes: name },
     }
 }
 
@@ -106,7 +108,7 @@ pub(crate) fn collect_declared<'a>(
 {
     let many = count_declared(entries);
     let mut names = DeclaredNames {
-        rows: IndexMap::with_capacity(alloc, many)?,
+        rows: IndexMap::with_capacity_and_hasher(alloc, many, NameHash::default())?,
         widest: 1,
     };
     let mut scopes = Scopes::new();

@@ -4,6 +4,7 @@ ghost use Rattle.verilog_netlist.specs.Directions.{IsFirstUnpaired};
 ghost use Rattle.verilog_netlist.specs.NameKeys.{keys_in, is_lacking, HoldsNames};
 
 use crate::entries::Entry;
+use crate::name_text::NameText;
 use crate::namespaces::Names;
 use crate::repeats::{NameKey, NameTable, Scopes, code_of, collect_names};
 use edge_io::OutOfMemory;
@@ -21,7 +22,7 @@ impl NameTable<'_> {
                 let key = NameKey {
                     code: code_of(among),
                     scope: scopes.of(among),
-                    name,
+                    name: NameText { bytes: name },
                 };
                 !self.keys.contains(&key)
             }

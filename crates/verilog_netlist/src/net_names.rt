@@ -5,14 +5,16 @@ ghost use Rattle.indexmap.specs.IndexSet.{insert_all};
 ghost use Rattle.verilog_netlist.specs.Ranges.{declared_range};
 ghost use Rattle.verilog_netlist.specs.ModuleNames.{is_in, direction_by, way_of, texts_of, texts_in};
 ghost use Rattle.verilog_netlist.specs.PartPlaces.{ArePlaces};
-ghost use Rattle.verilog_netlist.specs.NameRows.{AreNetNames, keys_of, noted, view_row, fresh, facts_in, text_number, AllDiffer, NotesEntry, AddsNames};
+ghost use Rattle.verilog_netlist.specs.NameRows.{AreNetNames, keys_of, noted, view_row, fresh, facts_in, joined_texts, text_number, AllDiffer, NotesEntry, AddsNames};
 
 use crate::declared::Declaration;
 use crate::entries::{Decl, Direction, Entry, Range};
+use crate::name_text::NameText;
 use crate::places::Places;
 use edge_io::OutOfMemory;
 use edge_io::lists::{push, refill, to_u32};
 use indexmap::IndexSet;
+use name_table::NameHash;
 use std::alloc::Global;
 
 /// What a name of a module is: a port of this direction, or a wire in it.
@@ -126,7 +128,7 @@ impl<'a> NameRow<'a> {
 
 /// Adds the name of an entry, if it is in the group and is not there yet.
 fn add_text<'a>(
-    texts: &mut IndexSet<&'a [u8]>,
+    texts: &mut IndexSet<NameText<'a>, NameHash>,
     bytes: &'a [u8],
     entry: Entry,
     group: Group,
@@ -134,7 +136,10 @@ fn add_text<'a>(
     ensures { OnOk result (keys_of texts.new.keys ≡ insert_all bytes_eq (keys_of texts.old.keys) (texts_of bytes.now group (entry ∷ []))) }
 {
     if entry.is_in(group) {
-        match texts.insert(entry.name().of(bytes)) {
+        let text = NameText {
+            bytes: entry.name().of(bytes),
+        };
+        match texts.insert(text) {
             Ok(_) => Ok(()),
             Err(_) => Err(OutOfMemory),
         }
@@ -145,7 +150,7 @@ fn add_text<'a>(
 
 /// Adds the names of a group, each where it first comes.
 fn add_texts<'a>(
-    texts: &mut IndexSet<&'a [u8]>,
+    texts: &mut IndexSet<NameText<'a>, NameHash>,
     bytes: &'a [u8],
     entries: &[Entry],
     group: Group,
@@ -158,27 +163,77 @@ fn add_texts<'a>(
     Ok(())
 }
 
-/// The names of a module, of which these are the entries. It takes time in proportion to the bytes of the names.
-fn collect_texts<'a>(
-    alloc: Global,
+/// Adds the name that an entry joins, if it is not there yet, and answers its number; 0 where the entry joins none.
+#[inline]
+fn join_text<'a>(
+    texts: &mut IndexSet<NameText<'a>, NameHash>,
+    bytes: &'a [u8],
+    entry: Entry,
+) -> Result<u32, OutOfMemory>
+    ensures texts { OnOk result (keys_of texts.new.keys
+        ≡ insert_all bytes_eq (keys_of texts.old.keys) (joined_texts bytes.now (entry ∷ []))) }
+    ensures number { IfOk result (λ number. number ≡ text_number bytes.now (keys_of texts.new.keys) entry) }
+{
+    if entry.is_in(Group::Joined) {
+        let text = NameText {
+            bytes: entry.name().of(bytes),
+        };
+        let Ok((place, _)) = texts.insert_full(text) else {
+            return Err(OutOfMemory);
+        };
+        let number = to_u32(place)?;
+        return Ok(number);
+    }
+    Ok(0)
+}
+
+/// Adds the names that entries join, each where it first comes, and their numbers beside the entries.
+fn join_texts<'a>(
+    texts: &mut IndexSet<NameText<'a>, NameHash>,
+    numbers: &mut Vec<u32>,
     bytes: &'a [u8],
     entries: &[Entry],
-) -> Result<IndexSet<&'a [u8]>, OutOfMemory>
-    ensures { IfOk result (λ texts. keys_of texts.keys ≡ texts_in bytes.now entries.now) }
+) -> Result<(), OutOfMemory>
+    ensures texts { OnOk result (keys_of texts.new.keys
+        ≡ insert_all bytes_eq (keys_of texts.old.keys) (joined_texts bytes.now entries.now)) }
+    ensures numbers { OnOk result (numbers.new.items
+        ≡ numbers.old.items ++ map (text_number bytes.now (keys_of texts.new.keys)) entries.now) }
 {
-    let mut texts = IndexSet::new(alloc);
+    for entry in entries {
+        let number = join_text(texts, bytes, *entry)?;
+        push(numbers, number)?;
+    }
+    Ok(())
+}
+
+/// The names of a module, of which these are the entries. It puts the numbers of the names that they join beside the entries. It
+/// takes time in proportion to the bytes of the names.
+fn collect_texts<'a>(
+    alloc: Global,
+    numbers: &mut Vec<u32>,
+    bytes: &'a [u8],
+    entries: &[Entry],
+) -> Result<IndexSet<NameText<'a>, NameHash>, OutOfMemory>
+    ensures texts { IfOk result (λ texts. keys_of texts.keys ≡ texts_in bytes.now entries.now) }
+    ensures numbers { IfOk result (λ texts. numbers.new.items
+        ≡ numbers.old.items ++ map (text_number bytes.now (keys_of texts.keys)) entries.now) }
+{
+    let mut texts = IndexSet::with_hasher(alloc, NameHash::default());
     add_texts(&mut texts, bytes, entries, Group::Headers)?;
     add_texts(&mut texts, bytes, entries, Group::Wires)?;
-    add_texts(&mut texts, bytes, entries, Group::Joined)?;
+    join_texts(&mut texts, numbers, bytes, entries)?;
     Ok(texts)
 }
 
 /// Adds rows for these names, of which nothing is known yet.
-fn add_rows<'a>(rows: &mut Vec<NameRow<'a>>, texts: &IndexSet<&'a [u8]>) -> Result<(), OutOfMemory>
+fn add_rows<'a>(
+    rows: &mut Vec<NameRow<'a>>,
+    texts: &IndexSet<NameText<'a>, NameHash>,
+) -> Result<(), OutOfMemory>
     ensures { OnOk result (map view_row rows.new.items ≡ map view_row rows.old.items ++ map fresh (keys_of texts.now.keys)) }
 {
     for text in texts.as_slice() {
-        push(rows, NameRow::fresh(text))?;
+        push(rows, NameRow::fresh(text.bytes))?;
     }
     Ok(())
 }
@@ -187,7 +242,7 @@ fn add_rows<'a>(rows: &mut Vec<NameRow<'a>>, texts: &IndexSet<&'a [u8]>) -> Resu
 fn note(
     rows: &mut Vec<NameRow<'_>>,
     from: usize,
-    texts: &IndexSet<&[u8]>,
+    texts: &IndexSet<NameText<'_>, NameHash>,
     bytes: &[u8],
     entry: Entry,
 )
@@ -195,7 +250,10 @@ fn note(
     ensures { NotesEntry bytes.now (keys_of texts.now.keys) from entry (map view_row rows.old.items) (map view_row rows.new.items) }
 {
     if let Entry::Declared(by, name, range) = entry {
-        if let Some(number) = texts.get_index_of(name.of(bytes)) {
+        let text = NameText {
+            bytes: name.of(bytes),
+        };
+        if let Some(number) = texts.get_index_of(&text) {
             let row = rows[from + number];
             rows[from + number] = row.noted(Declaration { by, range });
         }
@@ -205,7 +263,7 @@ fn note(
 /// Adds the rows of the names of a module, of which these are the entries.
 fn add_module_rows<'a>(
     rows: &mut Vec<NameRow<'a>>,
-    texts: &IndexSet<&'a [u8]>,
+    texts: &IndexSet<NameText<'a>, NameHash>,
     bytes: &[u8],
     entries: &[Entry],
 ) -> Result<(), OutOfMemory>
@@ -217,37 +275,6 @@ fn add_module_rows<'a>(
     add_rows(rows, texts)?;
     for entry in entries {
         note(rows, from, texts, bytes, *entry);
-    }
-    Ok(())
-}
-
-/// The number of the name that an entry joins, or 0.
-#[inline]
-fn number_of(texts: &IndexSet<&[u8]>, bytes: &[u8], entry: Entry) -> Result<u32, OutOfMemory>
-    ensures { IfOk result (λ number. number ≡ text_number bytes.now (keys_of texts.now.keys) entry) }
-{
-    if entry.is_in(Group::Joined) {
-        match texts.get_index_of(entry.name().of(bytes)) {
-            Some(number) => to_u32(number),
-            None => to_u32(texts.len()),
-        }
-    } else {
-        Ok(0)
-    }
-}
-
-/// Adds the numbers of the names that these entries join.
-fn add_numbers(
-    numbers: &mut Vec<u32>,
-    texts: &IndexSet<&[u8]>,
-    bytes: &[u8],
-    entries: &[Entry],
-) -> Result<(), OutOfMemory>
-    ensures { OnOk result (numbers.new.items ≡ numbers.old.items ++ map (text_number bytes.now (keys_of texts.now.keys)) entries.now) }
-{
-    for entry in entries {
-        let number = number_of(texts, bytes, *entry)?;
-        push(numbers, number)?;
     }
     Ok(())
 }
@@ -288,10 +315,9 @@ impl<'a> NetNames<'a> {
     ) -> Result<(), OutOfMemory>
         ensures { OnOk result (AddsNames bytes.now entries.now self.old self.new) }
     {
-        let texts = collect_texts(alloc, bytes, entries)?;
-        add_module_rows(&mut self.rows, &texts, bytes, entries)?;
         push(&mut self.numbers, 0)?;
-        add_numbers(&mut self.numbers, &texts, bytes, entries)?;
+        let texts = collect_texts(alloc, &mut self.numbers, bytes, entries)?;
+        add_module_rows(&mut self.rows, &texts, bytes, entries)?;
         let end = to_u32(self.rows.len())?;
         push(&mut self.starts, end)
     }

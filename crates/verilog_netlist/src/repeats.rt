@@ -1,21 +1,25 @@
 //! Collects the names that must differ, and looks for one that stands twice.
-ghost use Rattle.std.specs.Prelude.{◌≡◌, ℕ, ◌+◌, ◌^◌, ◌<◌, List, length, count_by, map, IfOk, OnOk};
+ghost use Rattle.std.specs.Prelude.{◌≡◌, ◌+◌, ◌^◌, ◌<◌, length, IfOk, OnOk};
 ghost use Rattle.verilog_netlist.specs.Namespaces.{IsFirstRepeated, begins_module, begins_instance};
 ghost use Rattle.verilog_netlist.specs.Firsts.{first_or};
-ghost use Rattle.verilog_netlist.specs.NameKeys.{code_of, keys_in, key_of, scope_in, holds, with_key, is_held, with_name, counted, HoldsNames};
+ghost use Rattle.verilog_netlist.specs.NameKeys.{Key, code_of, keys_in, key_of, scope_in, holds, is_ports, keeps, ports_from, with_key, is_held, with_name, counted, HoldsNames};
 
 use crate::entries::Entry;
+use crate::name_text::NameText;
 use crate::namespaces::Names;
+use crate::port_names::PortNames;
 use edge_io::OutOfMemory;
 use indexmap::IndexSet;
+use name_table::NameHash;
 use std::alloc::Global;
 
-/// What makes a name the one that it is: among which names it is, by their number, in which scope, and its text.
+/// What makes a name the one that it is: among which names it is, by their number, in which scope, and its text. The text comes last:
+/// the hash of names puts those that differ in their last byte alone side by side.
 #[derive(Clone, Copy, PartialEq, Eq, Hash)]
 pub struct NameKey<'a> {
     pub code: u8,
     pub scope: u32,
-    pub name: &'a [u8],
+    pub name: NameText<'a>,
 }
 
 /// How many modules and instances have begun.
@@ -86,18 +90,19 @@ impl Scopes {
 
 /// Adds a name among others, and tells whether it was there.
 fn add_key<'a>(
-    keys: &mut IndexSet<NameKey<'a>>,
+    keys: &mut IndexSet<NameKey<'a>, NameHash>,
     among: Names,
     scopes: Scopes,
     name: &'a [u8],
 ) -> Result<bool, OutOfMemory>
     ensures held { IfOk result (λ held. held ≡ holds (keys_in keys.old.keys) (key_of among scopes name.now)) }
-    ensures keys { OnOk result (keys_in keys.new.keys ≡ with_key (keys_in keys.old.keys) (key_of among scopes name.now)) }
+    ensures keys { OnOk result ((key : Key) → holds (keys_in keys.new.keys) key
+        ≡ with_key (holds (keys_in keys.old.keys)) (key_of among scopes name.now) key) }
 {
     let key = NameKey {
         code: code_of(among),
         scope: scopes.of(among),
-        name,
+        name: NameText { bytes: name },
     };
     match keys.insert_full(key) {
         Ok((_, is_new)) => Ok(!is_new),
@@ -105,27 +110,61 @@ fn add_key<'a>(
     }
 }
 
-/// Adds a name, if it is among names that must differ, and tells whether it was there.
-#[inline(always)]
-fn add_name<'a>(
-    keys: &mut IndexSet<NameKey<'a>>,
-    among: Option<Names>,
-    scopes: Scopes,
-    name: &'a [u8],
-) -> Result<bool, OutOfMemory>
-    ensures held { IfOk result (λ held. held ≡ is_held among scopes name.now (keys_in keys.old.keys)) }
-    ensures keys { OnOk result (keys_in keys.new.keys ≡ with_name among scopes name.now (keys_in keys.old.keys)) }
+#[inline]
+fn is_ports(among: Names) -> bool
+    ensures { result ≡ is_ports among }
 {
-    match among {
-        Some(among) => add_key(keys, among, scopes, name),
-        None => Ok(false),
+    matches!(among, Names::Ports)
+}
+
+/// The names before a place: the ports of the instance there, and all other names.
+#[derive(Drop)]
+pub struct NamesSoFar<'a> {
+    pub keys: IndexSet<NameKey<'a>, NameHash>,
+    pub ports: PortNames<'a>,
+}
+
+impl<'a> NamesSoFar<'a> {
+    /// Comes to this entry. The ports of an instance belong to no other one.
+    #[inline]
+    fn come_to(&mut self, alloc: Global, entry: Entry)
+        ensures keys { self.new.keys ≡ self.old.keys }
+        ensures ports { self.new.ports ≡ ports_from entry self.old.ports }
+    {
+        if entry.begins_instance() {
+            self.ports.clear(alloc);
+        }
+    }
+
+    /// Adds a name, if it is among names that must differ, and tells whether it was there.
+    #[inline(always)]
+    fn add(
+        &mut self,
+        among: Option<Names>,
+        scopes: Scopes,
+        name: &'a [u8],
+    ) -> Result<bool, OutOfMemory>
+        ensures held { IfOk result (λ held. held
+            ≡ is_held among scopes name.now (keeps scopes.instances (keys_in self.old.keys.keys) self.old.ports)) }
+        ensures names { OnOk result ((key : Key) → keeps scopes.instances (keys_in self.new.keys.keys) self.new.ports key
+            ≡ with_name among scopes name.now (keeps scopes.instances (keys_in self.old.keys.keys) self.old.ports) key) }
+    {
+        let Some(among) = among else {
+            return Ok(false);
+        };
+        if is_ports(among) {
+            let is_held = self.ports.add(name)?;
+            return Ok(is_held);
+        }
+        let is_held = add_key(&mut self.keys, among, scopes, name)?;
+        Ok(is_held)
     }
 }
 
-/// The names of a netlist, and the place of the first entry whose name is repeated.
+/// The names of a netlist but for ports, and the place of the first entry whose name is repeated.
 #[derive(Drop)]
 pub struct NameTable<'a> {
-    pub keys: IndexSet<NameKey<'a>>,
+    pub keys: IndexSet<NameKey<'a>, NameHash>,
     pub repeated: Option<usize>,
 }
 
@@ -141,11 +180,11 @@ fn first_or(found: Option<usize>, place: usize, here: bool) -> Option<usize>
     }
 }
 
-/// How many entries have a name that must be new.
+/// How many entries have a name that must be new and is none of a port.
 fn count_names(entries: &[Entry]) -> usize {
     let mut count = 0;
     for entry in entries {
-        if entry.own_names().is_some() {
+        if matches!(entry.own_names(), Some(among) if !is_ports(among)) {
             count += 1;
         }
     }
@@ -163,17 +202,24 @@ pub(crate) fn collect_names<'a>(
     ensures keys { IfOk result (λ table. HoldsNames bytes.now entries.now (length entries.now) (keys_in table.keys.keys)) }
 {
     let many = count_names(entries);
-    let mut keys = IndexSet::with_capacity(alloc, many)?;
+    let mut names = NamesSoFar {
+        keys: IndexSet::with_capacity_and_hasher(alloc, many, NameHash::default())?,
+        ports: PortNames::new(alloc),
+    };
     let mut repeated = None;
     let mut scopes = Scopes::new();
     for (place, entry) in entries.iter().enumerate() {
         scopes = scopes.from(*entry);
+        names.come_to(alloc, *entry);
         let name = entry.name().of(bytes);
-        let in_header = add_name(&mut keys, entry.header_names(), scopes, name)?;
-        let by_own = add_name(&mut keys, entry.own_names(), scopes, name)?;
+        let in_header = names.add(entry.header_names(), scopes, name)?;
+        let by_own = names.add(entry.own_names(), scopes, name)?;
         repeated = first_or(repeated, place, in_header || by_own);
     }
-    Ok(NameTable { keys, repeated })
+    Ok(NameTable {
+        keys: names.keys,
+        repeated,
+    })
 }
 
 /// The place of the first entry whose name is repeated, if there is one: it stands before among the same names, in the same

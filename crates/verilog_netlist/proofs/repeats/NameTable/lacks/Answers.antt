@@ -8,7 +8,7 @@ use Rattle.verilog_netlist.proofs.repeats.NameTable.lacks.Goals as goal
 
 pub returns-in-Some : goal.returns-in-Some
 returns-in-Some c =
-    let key : NameKey = record { code = c.code_of.result; scope = c.of.result; name = c.args.name } in
+    let key : NameKey = record { code = c.code_of.result; scope = c.of.result; name = record { bytes = c.args.name } } in
     let same : key_in key ≡ key_of c.in-Some.among c.args.scopes c.args.name.now =
     ap₂ (λ (a s : ℕ). record { code = a; scope = s; name = c.args.name.now }) c.code_of.ensures c.of.ensures in
     ap not (c.contains.ensures ∙ any_key key c.args.self.now.keys.keys ∙ ap (λ (k : Key). holds (keys_in c.args.self.now.keys.keys) k) same)
