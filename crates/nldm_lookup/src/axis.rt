@@ -1,5 +1,6 @@
 //! The points of one variable of a table.
 ghost use Rattle.std.specs.Prelude.{◌≡◌, ℕ, ℤ, pos, ◌≤ℤ◌, ◌+◌, ◌-◌, ◌<◌, ◌≤◌, length, map, slice_get, slice_index, Some, All, IfOk, OnOk, IfErr, IfSome, IfNone};
+ghost use Rattle.std.specs.Rc.{rc_slice_items};
 ghost use Rattle.nldm_lookup.specs.Axes.{IsAxis, IsAxisFault, IsFaultless, FallsAt, most, most_points};
 ghost use Rattle.nldm_lookup.specs.Betweens.{IsBetween, IsPast, width};
 ghost use Rattle.nldm_lookup.specs.BetweenOf.{between_of};
@@ -10,6 +11,7 @@ use crate::faults::AxisFault;
 use edge_io::{OutOfMemory, Steps};
 use std::alloc::Global;
 use std::marker::Model;
+use std::rc::RcSlice;
 use std::sync::ledger::Ledger;
 
 /// The most points of an axis.
@@ -19,21 +21,22 @@ const MOST_POINTS: usize = 256;
 const HALVINGS: usize = 8;
 
 /// The points of an axis, from 1 to 256, each above the one before: attoseconds of a slew, or 10^-21 F of a load, from 0 to 10^12.
-/// Contracts see the list of them.
+/// Contracts see the list of them. Copies share the points.
 #[derive(Drop)]
 pub struct Axis {
-    points: Vec<u64>,
+    points: RcSlice<u64>,
 }
 
 impl Model for Axis {
     ghost use Rattle.std.specs.Prelude.{ℕ, List};
+    ghost use Rattle.std.specs.Rc.{rc_slice_items};
     ghost use Rattle.nldm_lookup.specs.Axes.{IsAxis};
 
     ghost Value = { List ℕ };
 
-    ghost view = { λ axis. axis.points.items };
+    ghost view = { λ axis. rc_slice_items axis.points };
 
-    ghost invariant = { λ axis. IsAxis axis.points.items };
+    ghost invariant = { λ axis. IsAxis (rc_slice_items axis.points) };
 }
 
 // The first place whose point is not above the one before.
@@ -51,9 +54,9 @@ fn first_fall(points: &[i64]) -> Option<usize>
 }
 
 // The points as they are kept.
-fn kept(alloc: Global, points: &[i64]) -> Result<Vec<u64>, OutOfMemory>
+fn kept(alloc: Global, points: &[i64]) -> Result<RcSlice<u64>, OutOfMemory>
     requires { All (λ point. pos 0 ≤ℤ point) points.now }
-    ensures { IfOk result (λ kept. map pos kept.items ≡ points.now) }
+    ensures { IfOk result (λ kept. map pos (rc_slice_items kept) ≡ points.now) }
 {
     let mut kept = Vec::with_capacity(alloc, points.len())?;
     for point in points {
@@ -61,6 +64,7 @@ fn kept(alloc: Global, points: &[i64]) -> Result<Vec<u64>, OutOfMemory>
             return Err(OutOfMemory);
         }
     }
+    let kept = RcSlice::from_vec(kept)?;
     Ok(kept)
 }
 
@@ -89,11 +93,11 @@ impl Axis {
         }
     }
 
-    /// An axis of the same points.
-    pub(crate) fn copied(&self, alloc: Global) -> Result<Axis, OutOfMemory>
+    /// An axis of the same points, which it shares. It takes a count and no memory.
+    pub fn copied(&self) -> Result<Axis, OutOfMemory>
         ensures { IfOk result (λ axis. axis ≡ self.now) }
     {
-        let points = Vec::from_slice(alloc, self.points.as_slice())?;
+        let points = self.points.clone()?;
         Ok(Axis { points })
     }
 
@@ -114,7 +118,7 @@ impl Axis {
         ensures step { steps.new ≡ steps.old + 1 }
     {
         steps.tick();
-        self.points[place]
+        self.points.as_slice()[place]
     }
 
     /// Where a quantity lies on the axis, or nothing where it is past an axis of two or more points. It takes at most 12 steps.
@@ -135,7 +139,9 @@ impl Axis {
                 high: 0,
             });
         }
-        if quantity < self.point(0, steps) || self.point(last, steps) < quantity {
+        let lowest = self.point(0, steps);
+        let highest = self.point(last, steps);
+        if quantity < lowest || highest < quantity {
             return None;
         }
         let place = self.gap_of(quantity, steps);

@@ -16,6 +16,7 @@ use delay_units::{Atto, Farads, half_up};
 use edge_io::{OutOfMemory, Steps};
 use std::alloc::Global;
 use std::marker::Model;
+use std::rc::RcSlice;
 use std::sync::ledger::Ledger;
 
 /// Which variable is the first of a table's template, whose index changes slowest in the list of values.
@@ -25,23 +26,25 @@ pub enum Order {
     LoadFirst,
 }
 
-/// A value for each point of the slew and each of the load. Contracts see the axes, the order and the list of values.
+/// A value for each point of the slew and each of the load. Contracts see the axes, the order and the list of values. Copies share
+/// the points and the values.
 #[derive(Drop)]
 pub struct Table {
     slew: Axis,
     load: Axis,
     order: Order,
-    values: Vec<i64>,
+    values: RcSlice<i64>,
 }
 
 impl Model for Table {
+    ghost use Rattle.std.specs.Rc.{rc_slice_items};
     ghost use Rattle.nldm_lookup.specs.Tables.{TimingTable, IsTable};
 
     ghost Value = { TimingTable };
 
-    ghost view = { λ t. record { slew = t.slew; load = t.load; order = t.order; values = t.values.items } };
+    ghost view = { λ t. record { slew = t.slew; load = t.load; order = t.order; values = rc_slice_items t.values } };
 
-    ghost invariant = { λ t. IsTable (record { slew = t.slew; load = t.load; order = t.order; values = t.values.items }) };
+    ghost invariant = { λ t. IsTable (record { slew = t.slew; load = t.load; order = t.order; values = rc_slice_items t.values }) };
 }
 
 // A value, or a sum of values by their weights, by one more weight.
@@ -99,7 +102,7 @@ impl Table {
                 got: values.len(),
             });
         }
-        match Vec::from_slice(alloc, values) {
+        match RcSlice::from_slice(alloc, values) {
             Ok(values) => Ok(Table {
                 slew,
                 load,
@@ -110,14 +113,14 @@ impl Table {
         }
     }
 
-    /// A table of the same axes and values.
-    pub fn copied(&self, alloc: Global) -> Result<Table, OutOfMemory>
+    /// A table of the same axes and values, which it shares. It takes counts and no memory.
+    pub fn copied(&self) -> Result<Table, OutOfMemory>
         ensures { IfOk result (λ table. table ≡ self.now) }
     {
-        let values = Vec::from_slice(alloc, self.values.as_slice())?;
+        let values = self.values.clone()?;
         Ok(Table {
-            slew: self.slew.copied(alloc)?,
-            load: self.load.copied(alloc)?,
+            slew: self.slew.copied()?,
+            load: self.load.copied()?,
             order: self.order,
             values,
         })
@@ -145,7 +148,7 @@ impl Table {
         ensures step { steps.new ≡ steps.old + 1 }
     {
         steps.tick();
-        self.values[self.place_of(slew, load)] as i128
+        self.values.as_slice()[self.place_of(slew, load)] as i128
     }
 
     // The values at a point of the slew, by the weights of the load's neighbours. It takes one step, or two.

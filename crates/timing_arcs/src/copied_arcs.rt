@@ -19,26 +19,26 @@ use std::alloc::Global;
 
 impl Arc {
     /// The same arc, to another pin.
-    fn led_to(&self, alloc: Global, to: usize) -> Result<Arc, OutOfMemory>
+    fn led_to(&self, to: usize) -> Result<Arc, OutOfMemory>
         ensures { IfOk result (λ arc. arc ≡ led_to to self.now) }
     {
         Ok(Arc {
             from: self.from,
             to,
             kind: self.kind,
-            rise: copied(alloc, &self.rise)?,
-            fall: copied(alloc, &self.fall)?,
+            rise: copied(&self.rise)?,
+            fall: copied(&self.fall)?,
         })
     }
 }
 
 // The arcs from a place on, once more, to another pin.
-fn copy_arcs(alloc: Global, start: usize, to: usize, arcs: &mut Vec<Arc>) -> Result<(), CellFault>
+fn copy_arcs(start: usize, to: usize, arcs: &mut Vec<Arc>) -> Result<(), CellFault>
     ensures arcs { OnOk result (arcs.new.items ≡ arcs.old.items ++ map (led_to to) (drop start arcs.old.items)) }
     ensures memory { IfErr result IsNoMemory }
 {
     for place in start..arcs.len() {
-        let arc = arcs[place].led_to(alloc, to)?;
+        let arc = arcs[place].led_to(to)?;
         if arcs.push(arc).is_err() {
             return Err(CellFault::OutOfMemory);
         }
@@ -78,7 +78,7 @@ pub(crate) fn add_next_arcs(
         (flat_map (delay_questions (entries_in tree.now table.now.names table.now.groups.items)) (delays_in entry))) }
 {
     if table.repeats(to) {
-        copy_arcs(alloc, start, to, arcs)
+        copy_arcs(start, to, arcs)
     } else {
         add_pin_arcs(alloc, tree, basis, table, pins, to, arcs)
     }

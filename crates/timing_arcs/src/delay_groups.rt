@@ -209,26 +209,23 @@ fn read_fall(
 }
 
 impl EdgeTables {
-    /// The same tables.
-    fn copied(&self, alloc: Global) -> Result<EdgeTables, OutOfMemory>
+    /// The same tables, which are shared.
+    fn copied(&self) -> Result<EdgeTables, OutOfMemory>
         ensures { IfOk result (λ tables. tables ≡ self.now) }
     {
         Ok(EdgeTables {
-            delay: self.delay.copied(alloc)?,
-            slew: self.slew.copied(alloc)?,
+            delay: self.delay.copied()?,
+            slew: self.slew.copied()?,
         })
     }
 }
 
-pub(crate) fn copied(
-    alloc: Global,
-    tables: &Option<EdgeTables>,
-) -> Result<Option<EdgeTables>, OutOfMemory>
+pub(crate) fn copied(tables: &Option<EdgeTables>) -> Result<Option<EdgeTables>, OutOfMemory>
     ensures { IfOk result (λ copy. copy ≡ tables.now) }
 {
     match tables {
         None => Ok(None),
-        Some(tables) => Ok(Some(tables.copied(alloc)?)),
+        Some(tables) => Ok(Some(tables.copied()?)),
     }
 }
 
@@ -271,7 +268,6 @@ fn read_timing(
 
 // An arc for each place, with the same tables.
 fn push_arcs(
-    alloc: Global,
     timing: &Timing,
     places: &[usize],
     to: usize,
@@ -285,8 +281,8 @@ fn push_arcs(
             from: *from,
             to,
             kind: timing.kind,
-            rise: copied(alloc, &timing.rise)?,
-            fall: copied(alloc, &timing.fall)?,
+            rise: copied(&timing.rise)?,
+            fall: copied(&timing.fall)?,
         };
         if arcs.push(arc).is_err() {
             return Err(CellFault::OutOfMemory);
@@ -327,7 +323,7 @@ fn add_arcs(
         Ok(timing) => timing,
         Err(fault) => return Err(fault),
     };
-    push_arcs(alloc, &timing, places.as_slice(), to, arcs)
+    push_arcs(&timing, places.as_slice(), to, arcs)
 }
 
 // The arcs of a group in the pin at a place, if it is a delay group.

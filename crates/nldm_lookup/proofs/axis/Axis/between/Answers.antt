@@ -1,7 +1,7 @@
 use Rattle.std.proofs.Common.{◌≡◌, ◌-◌, ◌<◌, length, slice_get, Some, arith, subst}
 use Rattle.nldm_lookup.specs.Betweens.{sole, pair, below, above}
 use Rattle.nldm_lookup.proofs.Gaps.{on_sole, on_pair, not_past, not_past_sole}
-use Rattle.nldm_lookup.proofs.axis.Axis.between.Goals.{then-quantity-point-via-then-quantity-point, then-quantity-point-via-else-quantity-point+then-point-quantity}
+use Rattle.nldm_lookup.proofs.axis.Axis.between.Goals.{then-quantity-lowest-via-then-quantity-lowest, then-quantity-lowest-via-else-quantity-lowest+then-highest-quantity}
 use Rattle.nldm_lookup.proofs.axis.Axis.between.Goals as goal
 
 pub overflow_sub-last : goal.overflow_sub-last
@@ -16,14 +16,14 @@ returns-then-last-eq0-clause-on g c = on_sole c.args.self.now (omega (arith, c.l
 pub returns-then-last-eq0-clause-inside : goal.returns-then-last-eq0-clause-inside
 returns-then-last-eq0-clause-inside g c = not_past_sole c.args.self.now c.args.quantity (omega (arith, c.len-last.ensures.len, c.len-last.ensures.whole.some, c.if-last-eq0.true))
 
-pub returns-then-quantity-point-clause-none : goal.returns-then-quantity-point-clause-none
-returns-then-quantity-point-clause-none g c =
+pub returns-then-quantity-lowest-clause-none : goal.returns-then-quantity-lowest-clause-none
+returns-then-quantity-lowest-clause-none g c =
     let many : 1 < length c.args.self.now = omega (arith, c.len-last.ensures.len, c.if-last-eq0.false) in
-    elim c.then-quantity-point.branch [
-      | then-quantity-point-via-then-quantity-point w ↦ below c.point.result many c.point.ensures.value w.if-quantity-point.true
-      | then-quantity-point-via-else-quantity-point+then-point-quantity w ↦
-          above w.point-else-quantity-point.result many
-          (subst (λ n. slice_get c.args.self.now (n - 1) ≡ Some w.point-else-quantity-point.result) c.len-last.ensures.len w.point-else-quantity-point.ensures.value) w.if-point-quantity.true
+    elim c.then-quantity-lowest.branch [
+      | then-quantity-lowest-via-then-quantity-lowest w ↦ below c.point-lowest.result many c.point-lowest.ensures.value w.if-quantity-lowest.true
+      | then-quantity-lowest-via-else-quantity-lowest+then-highest-quantity w ↦
+          above c.point-highest.result many
+          (subst (λ n. slice_get c.args.self.now (n - 1) ≡ Some c.point-highest.result) c.len-last.ensures.len c.point-highest.ensures.value) w.if-highest-quantity.true
     ]
 
 pub returns-clause-some : goal.returns-clause-some
@@ -38,6 +38,6 @@ returns-clause-on g c =
 
 pub returns-clause-inside : goal.returns-clause-inside
 returns-clause-inside g c =
-    not_past c.args.self.now c.args.quantity c.point.result c.point-else-quantity-point.result c.point.ensures.value
-    (subst (λ n. slice_get c.args.self.now (n - 1) ≡ Some c.point-else-quantity-point.result) c.len-last.ensures.len c.point-else-quantity-point.ensures.value)
-    c.if-quantity-point.false c.if-point-quantity.false
+    not_past c.args.self.now c.args.quantity c.point-lowest.result c.point-highest.result c.point-lowest.ensures.value
+    (subst (λ n. slice_get c.args.self.now (n - 1) ≡ Some c.point-highest.result) c.len-last.ensures.len c.point-highest.ensures.value)
+    c.if-quantity-lowest.false c.if-highest-quantity.false

@@ -1,4 +1,5 @@
 use Rattle.std.proofs.Common.{arith}
+use Rattle.std.specs.Rc.{rc_slice_items}
 use Rattle.nldm_lookup.specs.Axes.{empty, too_long, not_rising, no_memory}
 use Rattle.nldm_lookup.proofs.Gaps.{kept_axis}
 use Rattle.nldm_lookup.proofs.axis.Axis.new.Goals as goal
@@ -14,7 +15,7 @@ returns-in-Some-clause-refused c = not_rising c.in-Some.place c.if-points-gt-MOS
 
 pub invariant_of-result : goal.invariant_of-result
 invariant_of-result c =
-    kept_axis c.in-Ok.points.items c.args.points.now c.in-Ok.ensures (grind (arith, c.is_empty.ensures, c.if-is_empty.false)) c.if-points-gt-MOST_POINTS.false c.in_default.ensures.none c.requires.small
+    kept_axis (rc_slice_items c.in-Ok.points) c.args.points.now c.in-Ok.ensures (grind (arith, c.is_empty.ensures, c.if-is_empty.false)) c.if-points-gt-MOST_POINTS.false c.in_default.ensures.none c.requires.small
 
 pub returns-in-Err-clause-refused : goal.returns-in-Err-clause-refused
 returns-in-Err-clause-refused c = no_memory
