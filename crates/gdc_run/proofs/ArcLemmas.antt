@@ -10,12 +10,12 @@ use Rattle.delay_units.specs.declared.quantities.Atto.{Atto as AttoSeconds}
 use Rattle.nldm_lookup.specs.Interpolant.{IsInterpolant}
 use Rattle.nldm_lookup.specs.declared.faults.Outside.{Outside}
 use Rattle.nldm_lookup.specs.declared.grain.Grain.TheVariants.{Atto, Femto}
-use Rattle.timing_arcs.specs.Cells.{TimedCell, IsCell, HasDirection}
-use Rattle.timing_arcs.specs.declared.cell.Arc.{Arc}
-use Rattle.timing_arcs.specs.declared.cell.Direction.{Direction}
-use Rattle.timing_arcs.specs.declared.cell.Direction.TheVariants.{Input, Output}
-use Rattle.timing_arcs.specs.declared.cell.EdgeTables.{EdgeTables}
-use Rattle.timing_arcs.specs.declared.cell.Pin.{Pin}
+use Rattle.cell_models.specs.Cells.{TimedCell, IsCell, HasDirection}
+use Rattle.cell_models.specs.declared.cell.Arc.{Arc}
+use Rattle.cell_models.specs.declared.cell.Direction.{Direction}
+use Rattle.cell_models.specs.declared.cell.Direction.TheVariants.{Input, Output}
+use Rattle.cell_models.specs.declared.cell.EdgeTables.{EdgeTables}
+use Rattle.cell_models.specs.declared.cell.Pin.{Pin}
 use Rattle.verdict_phases.specs.Phases.{FollowsNoFile}
 use Rattle.verdict_phases.specs.declared.ends.NoFileEnd.{NoFileEnd}
 use Rattle.verdict_phases.specs.declared.ends.NoFileEnd.TheVariants as no_file

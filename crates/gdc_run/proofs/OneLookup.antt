@@ -20,12 +20,12 @@ use Rattle.nldm_lookup.specs.declared.grain.Grain.TheVariants.{Atto, Femto}
 use Rattle.nldm_lookup.specs.declared.faults.Outside.{Outside}
 use Rattle.nldm_lookup.specs.Tables.{TimingTable}
 use Rattle.nldm_lookup.proofs.OneValue.{one_interpolant_lem}
-use Rattle.timing_arcs.specs.Cells.{TimedCell}
-use Rattle.timing_arcs.specs.declared.cell.Arc.{Arc}
-use Rattle.timing_arcs.specs.declared.cell.EdgeTables.{EdgeTables}
-use Rattle.timing_arcs.specs.declared.cell.Pin.{Pin}
-use Rattle.timing_arcs.specs.declared.faults.CellFault.{CellFault}
-use Rattle.timing_arcs.specs.declared.faults.CellFault.TheVariants.{NoSuchCell, OutOfMemory}
+use Rattle.cell_models.specs.Cells.{TimedCell}
+use Rattle.cell_models.specs.declared.cell.Arc.{Arc}
+use Rattle.cell_models.specs.declared.cell.EdgeTables.{EdgeTables}
+use Rattle.cell_models.specs.declared.cell.Pin.{Pin}
+use Rattle.liberty_tables.specs.declared.faults.CellFault.{CellFault}
+use Rattle.liberty_tables.specs.declared.faults.CellFault.TheVariants.{NoSuchCell, OutOfMemory}
 use Rattle.timing_arcs.proofs.ModelTables.{AreTables, HasTables, model_tables}
 use Rattle.timing_arcs.proofs.OneAnswer.{one_fault_lem, no_fault_beside_lem}
 use Rattle.timing_arcs.proofs.OneModel.{one_model_lem}

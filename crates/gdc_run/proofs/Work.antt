@@ -22,7 +22,7 @@ use Rattle.gdc_run.specs.WireNets.{too_large, unreached, mesh, NetGives, no_driv
 use Rattle.gdc_run.specs.WireRows.{SectionsGive, faulty_section, of_nets}
 use Rattle.gdc_run.specs.NetRows.{most_steps}
 use Rattle.liberty_groups.specs.Groups.{Group}
-use Rattle.timing_arcs.specs.Cells.{TimedCell}
+use Rattle.cell_models.specs.Cells.{TimedCell}
 use Rattle.gdc_run.specs.ArcRows.{arc_edges}
 use Rattle.gdc_run.specs.LibraryPhases.{ParsesLibrary, ModelsCell}
 use Rattle.gdc_run.specs.Verdict.{ReadsSpef, ReadsLib}

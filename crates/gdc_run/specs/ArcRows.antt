@@ -6,10 +6,10 @@ use Rattle.nldm_lookup.specs.Interpolant.{IsInterpolant, IsOutside}
 use Rattle.nldm_lookup.specs.Tables.{TimingTable}
 use Rattle.nldm_lookup.specs.declared.faults.Outside.{Outside}
 use Rattle.nldm_lookup.specs.declared.grain.Grain.TheVariants.{Atto, Femto}
-use Rattle.timing_arcs.specs.Cells.{TimedCell}
-use Rattle.timing_arcs.specs.declared.cell.Arc.{Arc}
-use Rattle.timing_arcs.specs.declared.cell.EdgeTables.{EdgeTables}
-use Rattle.timing_arcs.specs.declared.cell.Pin.{Pin}
+use Rattle.cell_models.specs.Cells.{TimedCell}
+use Rattle.cell_models.specs.declared.cell.Arc.{Arc}
+use Rattle.cell_models.specs.declared.cell.EdgeTables.{EdgeTables}
+use Rattle.cell_models.specs.declared.cell.Pin.{Pin}
 use Rattle.gdc_run.specs.declared.arc_rows.ArcRow.{ArcRow}
 use Rattle.gdc_run.specs.declared.refusal.Edge.{Edge}
 use Rattle.gdc_run.specs.declared.refusal.Edge.TheVariants.{Rise, Fall}

@@ -6,9 +6,9 @@ use Rattle.liberty_groups.specs.Groups.{Group}
 use Rattle.liberty_groups.specs.declared.faults.SyntaxFault.{SyntaxFault}
 use Rattle.timing_arcs.specs.CellFaults.{IsCellFault}
 use Rattle.timing_arcs.specs.CellModel.{IsModel}
-use Rattle.timing_arcs.specs.Cells.{TimedCell}
-use Rattle.timing_arcs.specs.declared.faults.CellFault.{CellFault}
-use Rattle.timing_arcs.specs.declared.faults.CellFault.TheVariants.{NoSuchCell, OutOfMemory}
+use Rattle.cell_models.specs.Cells.{TimedCell}
+use Rattle.liberty_tables.specs.declared.faults.CellFault.{CellFault}
+use Rattle.liberty_tables.specs.declared.faults.CellFault.TheVariants.{NoSuchCell, OutOfMemory}
 use Rattle.gdc_run.specs.declared.refusal.Refusal.{Refusal}
 use Rattle.gdc_run.specs.declared.refusal.Refusal.TheVariants as refusal
 

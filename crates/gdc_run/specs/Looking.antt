@@ -2,9 +2,9 @@
 use Rattle.std.specs.Prelude.{◌≡◌, ℕ, List}
 use Rattle.nldm_lookup.specs.Interpolant.{IsInterpolant}
 use Rattle.nldm_lookup.specs.declared.grain.Grain.TheVariants.{Atto, Femto}
-use Rattle.timing_arcs.specs.declared.cell.Arc.{Arc}
-use Rattle.timing_arcs.specs.declared.cell.EdgeTables.{EdgeTables}
-use Rattle.timing_arcs.specs.declared.cell.Pin.{Pin}
+use Rattle.cell_models.specs.declared.cell.Arc.{Arc}
+use Rattle.cell_models.specs.declared.cell.EdgeTables.{EdgeTables}
+use Rattle.cell_models.specs.declared.cell.Pin.{Pin}
 use Rattle.gdc_run.specs.ArcRows.{IsNamed}
 use Rattle.gdc_run.specs.declared.arc_rows.ArcRow.{ArcRow}
 use Rattle.gdc_run.specs.declared.arc_rows.Looked.{Looked}

@@ -5,8 +5,8 @@ use Rattle.liberty_groups.specs.declared.faults.Cause.{Cause}
 use Rattle.liberty_groups.specs.declared.faults.Cause.TheVariants.{BadByte, OpenText, OpenComment, Unexpected, EndInside, TooDeep, NotLibrary}
 use Rattle.nldm_lookup.specs.declared.faults.Which.{Which}
 use Rattle.nldm_lookup.specs.declared.faults.Which.TheVariants.{Slew, Load}
-use Rattle.timing_arcs.specs.declared.faults.CellFault.{CellFault}
-use Rattle.timing_arcs.specs.declared.faults.CellFault.TheVariants as fault
+use Rattle.liberty_tables.specs.declared.faults.CellFault.{CellFault}
+use Rattle.liberty_tables.specs.declared.faults.CellFault.TheVariants as fault
 use Rattle.gdc_run.specs.declared.refusal.Edge.{Edge}
 use Rattle.gdc_run.specs.declared.refusal.Edge.TheVariants.{Rise, Fall}
 use Rattle.gdc_run.specs.declared.refusal.Part.{Part}

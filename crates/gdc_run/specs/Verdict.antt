@@ -27,7 +27,7 @@ use Rattle.spef_nets.specs.NetElements.{NetElements}
 use Rattle.gdc_run.specs.SpefPhases.{DesignNets, ParsesSpef, HeadsSpef, NetsSpef}
 use Rattle.gdc_words.specs.Decimals.{IsGrains}
 use Rattle.liberty_groups.specs.Groups.{Group}
-use Rattle.timing_arcs.specs.Cells.{TimedCell}
+use Rattle.cell_models.specs.Cells.{TimedCell}
 use Rattle.gdc_run.specs.ArcRows.{CellGives}
 use Rattle.gdc_run.specs.LibraryPhases.{ParsesLibrary, ModelsCell}
 use Rattle.gdc_run.specs.declared.arc_rows.ArcRow.{ArcRow}

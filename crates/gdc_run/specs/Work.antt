@@ -30,7 +30,7 @@ use Rattle.gdc_run.specs.declared.top.End.TheVariants as end
 use Rattle.gdc_run.specs.SpefPhases.{sole_corner, ParsesSpef, HeadsSpef}
 use Rattle.gdc_run.specs.Verdict.{ReadsSpef, ReadsLib}
 use Rattle.liberty_groups.specs.Groups.{Group}
-use Rattle.timing_arcs.specs.Cells.{TimedCell}
+use Rattle.cell_models.specs.Cells.{TimedCell}
 use Rattle.gdc_run.specs.ArcRows.{arc_edges}
 use Rattle.gdc_run.specs.LibraryPhases.{ParsesLibrary, ModelsCell}
 use Rattle.gdc_run.specs.NetRows.{most_steps}

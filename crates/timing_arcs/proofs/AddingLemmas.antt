@@ -4,16 +4,16 @@ use Rattle.std.specs.List.{slice_get, filter, flat_map, AllZip}
 use Rattle.std.proofs.lemmas.List.Elements.{All-nil, All-cons}
 use Rattle.std.proofs.lemmas.List.Concat.{flat_map-append}
 use Rattle.liberty_groups.specs.Groups.{Group, groups_of}
-use Rattle.timing_arcs.specs.declared.cell.ArcKind.{ArcKind}
-use Rattle.timing_arcs.specs.declared.cell.EdgeTables.{EdgeTables}
-use Rattle.timing_arcs.specs.declared.cell.Arc.{Arc}
-use Rattle.timing_arcs.specs.declared.faults.CellFault.{CellFault}
+use Rattle.cell_models.specs.declared.cell.ArcKind.{ArcKind}
+use Rattle.cell_models.specs.declared.cell.EdgeTables.{EdgeTables}
+use Rattle.cell_models.specs.declared.cell.Arc.{Arc}
+use Rattle.liberty_tables.specs.declared.faults.CellFault.{CellFault}
 use Rattle.timing_arcs.specs.PinModel.{PinEntry, is_output, direction_of}
 use Rattle.timing_arcs.specs.DelayGroups.{DelayGroup, delays_in, is_delay_group, related_names, is_input_in, ArcEntry, arcs_in, IsArc}
 use Rattle.timing_arcs.specs.RelatedPins.{IsAt, ArePlaces, IsUnrelated, unknown_name, no_places_memory}
 use Rattle.timing_arcs.specs.LibraryBasis.{IsTiming, arc_from, AddsArcs, AreAdded, arcs_from, questions_from, IsNoMemory}
 use Rattle.timing_arcs.specs.CellFaults.{Question, related_pins, rise_questions, fall_questions, delay_questions, IsSound, related, unrelated, IsRefusal, no_memory}
-use Rattle.timing_arcs.proofs.Fronts.{front_at, all_taken}
+use Rattle.liberty_tables.proofs.Fronts.{front_at, all_taken}
 use Rattle.timing_arcs.proofs.Refusals.{refused_at_once, refused_behind, sound_one, sound_part}
 
 pub zip_append : {A B : Type 0} (R : A → B → Type 0) (xs xs' : List A) (ys ys' : List B) → AllZip R xs ys → AllZip R xs' ys' → AllZip R (xs ++ xs') (ys ++ ys')

@@ -4,14 +4,14 @@ use Rattle.std.proofs.lemmas.List.{get_or-drop, length-drop}
 use Rattle.std.proofs.Math.ListN.{get_or-append}
 use Rattle.std.specs.List.{filter, flat_map, AllZip}
 use Rattle.liberty_groups.specs.Groups.{Group, groups_of}
-use Rattle.timing_arcs.specs.declared.cell.Arc.{Arc}
+use Rattle.cell_models.specs.declared.cell.Arc.{Arc}
 use Rattle.timing_arcs.specs.PinModel.{PinEntry, is_output, direction_of}
 use Rattle.timing_arcs.specs.DelayGroups.{DelayGroup, is_delay_group, delays_in, related_names, is_input_in, ArcEntry, arcs_in, IsArc}
 use Rattle.timing_arcs.specs.LibraryBasis.{AreAdded}
 use Rattle.timing_arcs.specs.CopiedArcs.{led_to, AreArcsTo}
 use Rattle.timing_arcs.specs.CellFaults.{delay_questions, IsSound}
 use Rattle.timing_arcs.proofs.AddingLemmas.{zip_append}
-use Rattle.timing_arcs.proofs.Fronts.{got_at, front_at}
+use Rattle.liberty_tables.proofs.Fronts.{got_at, front_at}
 
 abbrev pub named_to : List ℕ → ArcEntry → ArcEntry
 named_to name entry = record { from = entry.from; to = name; group = entry.group }

@@ -3,10 +3,10 @@ use Rattle.std.proofs.Common.{◌≡◌, ◌≢◌, ℕ, List, [], ◌∷◌, Al
 use Rattle.std.proofs.lemmas.List.Elements.{All-cons}
 use Rattle.delay_units.specs.declared.numbers.Unit.{Unit}
 use Rattle.liberty_groups.specs.Groups.{Group}
-use Rattle.timing_arcs.specs.declared.cell.Direction.{Direction}
-use Rattle.timing_arcs.specs.declared.cell.Direction.TheVariants.{Input, Output, Inout, Internal}
-use Rattle.timing_arcs.specs.declared.faults.CellFault.TheVariants.{BadNumber}
-use Rattle.timing_arcs.specs.LibraryUnits.{IsLoadUnit}
+use Rattle.cell_models.specs.declared.cell.Direction.{Direction}
+use Rattle.cell_models.specs.declared.cell.Direction.TheVariants.{Input, Output, Inout, Internal}
+use Rattle.liberty_tables.specs.declared.faults.CellFault.TheVariants.{BadNumber}
+use Rattle.liberty_tables.specs.LibraryUnits.{IsLoadUnit}
 use Rattle.timing_arcs.specs.PinModel.{direction_of, is_input, capacitance_texts, IsCapacitance, IsPinCapacitance}
 use Rattle.timing_arcs.specs.CellFaults.{direction, capacitance, pin_questions, IsSound, directed, measured, no_capacitance, IsRefusal}
 use Rattle.timing_arcs.proofs.Refusals.{refused_at_once, refused_behind, sound_one}

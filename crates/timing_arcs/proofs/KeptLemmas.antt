@@ -7,20 +7,21 @@ use Rattle.nldm_lookup.specs.Tables.{TimingTable}
 use Rattle.liberty_groups.specs.Groups.{Group, groups_of}
 use Rattle.liberty_groups.specs.Tables.{Tables}
 use Rattle.liberty_groups.specs.declared.rows.GroupId.{GroupId}
-use Rattle.timing_arcs.specs.declared.library_units.LibraryUnits.{LibraryUnits}
-use Rattle.timing_arcs.specs.declared.cell.Direction.{Direction}
-use Rattle.timing_arcs.specs.declared.cell.Direction.TheVariants.{Input, Output, Inout, Internal}
-use Rattle.timing_arcs.specs.declared.cell.Pin.{Pin}
-use Rattle.timing_arcs.specs.declared.cell.EdgeTables.{EdgeTables}
-use Rattle.timing_arcs.specs.declared.cell.Arc.{Arc}
-use Rattle.timing_arcs.specs.Cells.{HasDirection, IsSettled, IsArcOf, IsCell}
-use Rattle.timing_arcs.specs.Library.{is_named, first_group, value_in}
+use Rattle.liberty_tables.specs.declared.library_units.LibraryUnits.{LibraryUnits}
+use Rattle.cell_models.specs.declared.cell.Direction.{Direction}
+use Rattle.cell_models.specs.declared.cell.Direction.TheVariants.{Input, Output, Inout, Internal}
+use Rattle.cell_models.specs.declared.cell.Pin.{Pin}
+use Rattle.cell_models.specs.declared.cell.EdgeTables.{EdgeTables}
+use Rattle.cell_models.specs.declared.cell.Arc.{Arc}
+use Rattle.cell_models.specs.Cells.{HasDirection, IsSettled, IsArcOf, IsCell}
+use Rattle.liberty_tables.specs.Library.{is_named, first_group, value_in}
 use Rattle.timing_arcs.specs.PinModel.{PinEntry, is_pin_of, is_input, is_output, direction_of, IsPin}
 use Rattle.timing_arcs.specs.PinTable.{entries_in}
-use Rattle.timing_arcs.specs.TableModel.{TransitionMeans, settled}
+use Rattle.timing_arcs.specs.DelayTables.{delay_names}
+use Rattle.liberty_tables.specs.TableModel.{TransitionMeans, settled}
 use Rattle.timing_arcs.specs.DelayGroups.{DelayGroup, is_delay_type, is_delay_group, delays_in, related_names, is_input_in, ArcEntry, arcs_in, AreEdgeTables, no_edge, edge, IsArc}
 use Rattle.timing_arcs.specs.BuiltParts.{AreArcsOf}
-use Rattle.timing_arcs.proofs.Fronts.{some_is}
+use Rattle.liberty_tables.proofs.Fronts.{some_is}
 use Rattle.timing_arcs.proofs.PinLemmas.{names_of_entries, same_text}
 use Rattle.timing_arcs.proofs.PlaceLemmas.{way_in, place_is, pin_below, got_below}
 
@@ -115,7 +116,7 @@ some_table : (library : Group) (delay slew : Option Group) (tables : Option Edge
 some_table library delay slew tables no_edge e = absurd (true≢false (sym e))
 some_table library delay slew tables (edge known one two) e = λ none. cc
 
-settled_by : (library slew : Group) (units : LibraryUnits) (table : TimingTable) → TransitionMeans library slew units (Ok table) → All (λ value. pos 0 ≤ℤ value) table.values
+settled_by : (library slew : Group) (units : LibraryUnits) (table : TimingTable) → TransitionMeans delay_names library slew units (Ok table) → All (λ value. pos 0 ≤ℤ value) table.values
 settled_by library slew units table (settled made means are) = are
 
 settled_tables : (library : Group) (delay slew : Option Group) (tables : Option EdgeTables) → AreEdgeTables library delay slew tables → IfSome tables IsSettled

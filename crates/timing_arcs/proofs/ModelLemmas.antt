@@ -5,13 +5,13 @@ use Rattle.std.proofs.lemmas.List.Elements.{All-cons, All-append}
 use Rattle.liberty_groups.specs.Groups.{Group}
 use Rattle.liberty_groups.specs.Tables.{Tables}
 use Rattle.liberty_groups.specs.declared.rows.GroupId.{GroupId}
-use Rattle.timing_arcs.specs.declared.cell.Pin.{Pin}
-use Rattle.timing_arcs.specs.declared.cell.Arc.{Arc}
-use Rattle.timing_arcs.specs.declared.faults.CellFault.{CellFault}
-use Rattle.timing_arcs.specs.Cells.{TimedCell}
-use Rattle.timing_arcs.specs.Library.{cell_group, group_for}
-use Rattle.timing_arcs.specs.LibraryUnits.{AreUnits}
-use Rattle.timing_arcs.specs.declared.library_units.LibraryUnits.{LibraryUnits}
+use Rattle.cell_models.specs.declared.cell.Pin.{Pin}
+use Rattle.cell_models.specs.declared.cell.Arc.{Arc}
+use Rattle.liberty_tables.specs.declared.faults.CellFault.{CellFault}
+use Rattle.cell_models.specs.Cells.{TimedCell}
+use Rattle.liberty_tables.specs.Library.{cell_group, group_for}
+use Rattle.liberty_tables.specs.LibraryUnits.{AreUnits}
+use Rattle.liberty_tables.specs.declared.library_units.LibraryUnits.{LibraryUnits}
 use Rattle.timing_arcs.specs.PinModel.{PinEntry, pins_of, IsPin}
 use Rattle.timing_arcs.specs.PinTable.{entries_in, ArePins}
 use Rattle.timing_arcs.specs.DelayGroups.{delays_in, delays_of, arcs_in, arcs_of, IsArc}

@@ -9,13 +9,14 @@ use Rattle.nldm_lookup.specs.Axes.{most, IsAxis}
 use Rattle.nldm_lookup.specs.Tables.{TimingTable, IsTable, IsSmall}
 use Rattle.nldm_lookup.specs.declared.faults.Which.{Which}
 use Rattle.nldm_lookup.specs.declared.faults.Which.TheVariants.{Slew, Load}
-use Rattle.timing_arcs.specs.declared.cell.Arc.{Arc}
-use Rattle.timing_arcs.specs.declared.cell.EdgeTables.{EdgeTables}
-use Rattle.timing_arcs.specs.declared.library_units.LibraryUnits.{LibraryUnits}
+use Rattle.cell_models.specs.declared.cell.Arc.{Arc}
+use Rattle.cell_models.specs.declared.cell.EdgeTables.{EdgeTables}
+use Rattle.liberty_tables.specs.declared.library_units.LibraryUnits.{LibraryUnits}
 use Rattle.timing_arcs.specs.CellModel.{IsModel}
-use Rattle.timing_arcs.specs.Cells.{TimedCell}
+use Rattle.cell_models.specs.Cells.{TimedCell}
 use Rattle.timing_arcs.specs.DelayGroups.{ArcEntry, arcs_of, AreEdgeTables, no_edge, edge, IsArc}
-use Rattle.timing_arcs.specs.TableModel.{IsAxisOf, are_points, AxisMeans, of_readings, PointsMean, of_variable, of_none, ValuesMean, are_values, table_over, IsFull, TableMeans, is_table, TransitionMeans, settled}
+use Rattle.timing_arcs.specs.DelayTables.{delay_names}
+use Rattle.liberty_tables.specs.TableModel.{IsAxisOf, are_points, AxisMeans, of_readings, PointsMean, of_variable, of_none, ValuesMean, are_values, table_over, IsFull, TableMeans, is_table, TransitionMeans, settled}
 
 axis_of : (readings : List ℤ) (points : List ℕ) → IsAxisOf readings (Ok points) → IsAxis points
 axis_of readings points (are_points _ same is) = is
@@ -36,7 +37,7 @@ sole_axis = record {
     no_next before zero next other here = omega (arith, next)
     no_next before (suc place) next other here = cc
 
-points_axis : (units : LibraryUnits) (key : List ℕ) (table template : List Attribute) (variable : Option Which) (points : List ℕ) → PointsMean units key table template variable (Ok points) → IsAxis points
+points_axis : (units : LibraryUnits) (key : List ℕ) (table template : List Attribute) (variable : Option Which) (points : List ℕ) → PointsMean delay_names units key table template variable (Ok points) → IsAxis points
 points_axis units key table template _ points (of_variable which _ means) = index_axis _ _ points means
 points_axis units key table template _ _ of_none = sole_axis
 
@@ -49,14 +50,14 @@ over_axes (Some Load) first second values one other small is = record { slew = o
 over_axes (Some Slew) first second values one other small is = record { slew = one; load = other; count = is; small = small }
 over_axes None first second values one other small is = record { slew = one; load = other; count = is; small = small }
 
-made_is_table : (library table : Group) (units : LibraryUnits) (made : TimingTable) → TableMeans library table units (Ok made) → IsTable made
+made_is_table : (library table : Group) (units : LibraryUnits) (made : TimingTable) → TableMeans delay_names library table units (Ok made) → IsTable made
 made_is_table library table units _ (is_table template variables first second values axes means is) =
     over_axes variables.first first second values
     (points_axis _ _ _ _ variables.first first axes.begun.first_axis)
     (points_axis _ _ _ _ variables.second second axes.second_axis)
     (small_values _ _ values means) is
 
-transition_is_table : (library table : Group) (units : LibraryUnits) (made : TimingTable) → TransitionMeans library table units (Ok made) → IsTable made
+transition_is_table : (library table : Group) (units : LibraryUnits) (made : TimingTable) → TransitionMeans delay_names library table units (Ok made) → IsTable made
 transition_is_table library table units made (settled _ means all) = made_is_table library table units made means
 
 -- both tables of an edge

@@ -4,17 +4,18 @@ use Rattle.std.proofs.lemmas.List.Elements.{All-head, All-tail}
 use Rattle.delay_units.specs.declared.numbers.Unit.{Unit}
 use Rattle.liberty_groups.specs.Groups.{Group}
 use Rattle.nldm_lookup.specs.Tables.{TimingTable}
-use Rattle.timing_arcs.specs.declared.library_units.LibraryUnits.{LibraryUnits}
-use Rattle.timing_arcs.specs.declared.faults.CellFault.{CellFault}
-use Rattle.timing_arcs.specs.declared.faults.CellFault.TheVariants.{OutOfMemory}
+use Rattle.liberty_tables.specs.declared.library_units.LibraryUnits.{LibraryUnits}
+use Rattle.liberty_tables.specs.declared.faults.CellFault.{CellFault}
+use Rattle.liberty_tables.specs.declared.faults.CellFault.TheVariants.{OutOfMemory}
 use Rattle.timing_arcs.specs.PinModel.{capacitance_texts, IsCapacitance}
 use Rattle.timing_arcs.specs.DelayGroups.{is_pin_in}
-use Rattle.timing_arcs.specs.TableModel.{TableMeans, TransitionMeans}
+use Rattle.timing_arcs.specs.DelayTables.{delay_names}
+use Rattle.liberty_tables.specs.TableModel.{TableMeans, TransitionMeans}
 use Rattle.timing_arcs.specs.CellFaults.{Question, questions_of, IsSound, time_known, load_known, directed, measured, related, tabled, transition_known, IsFaulty, no_time_unit, no_load_unit, no_direction, no_capacitance, unrelated, bad_table, missing_transition, bad_transition, IsRefusal, first_fault, no_memory, no_such_cell, fault_of, no_cell_memory}
 use Rattle.timing_arcs.specs.OneAnswer.{NoFaultBeside, OneFault}
-use Rattle.timing_arcs.proofs.Fronts.{some_is}
-use Rattle.timing_arcs.proofs.OneTable.{one_table_lem, one_transition_lem}
-use Rattle.timing_arcs.proofs.OneUnits.{one_load, one_pair}
+use Rattle.liberty_tables.proofs.Fronts.{some_is}
+use Rattle.liberty_tables.proofs.OneTable.{one_table_lem, one_transition_lem}
+use Rattle.liberty_tables.proofs.OneUnits.{one_load, one_pair}
 
 ok_is_none : (made : TimingTable) → (let a : Result TimingTable CellFault = Ok made in let b : Result TimingTable CellFault = Err OutOfMemory in a ≢ b)
 ok_is_none made e = absurd cc
@@ -35,9 +36,9 @@ sound_or_faulty library _ _ (measured {pin} {unit} {grains} known is) (no_capaci
 sound_or_faulty library _ _ (related {pins = pins} known) (unrelated {name = name} among unknown) = λ n.
     true≢false (sym (subst (λ x. is_pin_in pins x ≡ true) among.2 (known among.0 name among.1)) ∙ unknown)
 sound_or_faulty library _ _ (tabled {group = g} {units = units} {made = made} known is) (bad_table {units = other} {fault = fault} others bad) = λ n.
-    ok_no_err made fault (one_table_lem library g other (Ok made) (Err fault) (subst (λ (u : LibraryUnits). TableMeans library g u (Ok made)) (one_pair library units other known others) is) bad (ok_is_none made) (λ e. n (err_is fault OutOfMemory e)))
+    ok_no_err made fault (one_table_lem delay_names library g other (Ok made) (Err fault) (subst (λ (u : LibraryUnits). TableMeans delay_names library g u (Ok made)) (one_pair library units other known others) is) bad (ok_is_none made) (λ e. n (err_is fault OutOfMemory e)))
 sound_or_faulty library _ _ (transition_known {group = g} {units = units} {made = made} known is) (bad_transition {units = other} {fault = fault} others bad) = λ n.
-    ok_no_err made fault (one_transition_lem library g other (Ok made) (Err fault) (subst (λ (u : LibraryUnits). TransitionMeans library g u (Ok made)) (one_pair library units other known others) is) bad (ok_is_none made) (λ e. n (err_is fault OutOfMemory e)))
+    ok_no_err made fault (one_transition_lem delay_names library g other (Ok made) (Err fault) (subst (λ (u : LibraryUnits). TransitionMeans delay_names library g u (Ok made)) (one_pair library units other known others) is) bad (ok_is_none made) (λ e. n (err_is fault OutOfMemory e)))
 
 -- two faults of one question are one
 one_of_question : (library : Group) (question : Question) (one other : CellFault) → IsFaulty library question one → IsFaulty library question other → one ≢ OutOfMemory → other ≢ OutOfMemory → one ≡ other
@@ -48,9 +49,9 @@ one_of_question library _ _ _ (no_capacitance k a) (no_capacitance l b) = λ n m
 one_of_question library _ _ _ (unrelated a b) (unrelated c d) = λ n m. refl
 one_of_question library _ _ _ missing_transition missing_transition = λ n m. refl
 one_of_question library _ _ _ (bad_table {group = g} {units = units} {fault = one} known is) (bad_table {units = other} {fault = two} others bad) = λ n m.
-    err_is one two (one_table_lem library g other (Err one) (Err two) (subst (λ (u : LibraryUnits). TableMeans library g u (Err one)) (one_pair library units other known others) is) bad (λ e. n (err_is one OutOfMemory e)) (λ e. m (err_is two OutOfMemory e)))
+    err_is one two (one_table_lem delay_names library g other (Err one) (Err two) (subst (λ (u : LibraryUnits). TableMeans delay_names library g u (Err one)) (one_pair library units other known others) is) bad (λ e. n (err_is one OutOfMemory e)) (λ e. m (err_is two OutOfMemory e)))
 one_of_question library _ _ _ (bad_transition {group = g} {units = units} {fault = one} known is) (bad_transition {units = other} {fault = two} others bad) = λ n m.
-    err_is one two (one_transition_lem library g other (Err one) (Err two) (subst (λ (u : LibraryUnits). TransitionMeans library g u (Err one)) (one_pair library units other known others) is) bad (λ e. n (err_is one OutOfMemory e)) (λ e. m (err_is two OutOfMemory e)))
+    err_is one two (one_transition_lem delay_names library g other (Err one) (Err two) (subst (λ (u : LibraryUnits). TransitionMeans delay_names library g u (Err one)) (one_pair library units other known others) is) bad (λ e. n (err_is one OutOfMemory e)) (λ e. m (err_is two OutOfMemory e)))
 
 -- ---- the first of several
 

@@ -9,22 +9,23 @@ use Rattle.delay_units.specs.declared.numbers.Unit.{Unit}
 use Rattle.delay_units.proofs.ReadingLemmas.{one_text_reading}
 use Rattle.edge_io.specs.Zipping.{one_zip}
 use Rattle.liberty_groups.specs.Groups.{Group}
-use Rattle.timing_arcs.specs.declared.cell.Arc.{Arc}
-use Rattle.timing_arcs.specs.declared.cell.Direction.{Direction}
-use Rattle.timing_arcs.specs.declared.cell.Direction.TheVariants.{Input, Output, Inout, Internal}
-use Rattle.timing_arcs.specs.declared.cell.EdgeTables.{EdgeTables}
-use Rattle.timing_arcs.specs.declared.cell.Pin.{Pin}
-use Rattle.timing_arcs.specs.declared.library_units.LibraryUnits.{LibraryUnits}
+use Rattle.cell_models.specs.declared.cell.Arc.{Arc}
+use Rattle.cell_models.specs.declared.cell.Direction.{Direction}
+use Rattle.cell_models.specs.declared.cell.Direction.TheVariants.{Input, Output, Inout, Internal}
+use Rattle.cell_models.specs.declared.cell.EdgeTables.{EdgeTables}
+use Rattle.cell_models.specs.declared.cell.Pin.{Pin}
+use Rattle.liberty_tables.specs.declared.library_units.LibraryUnits.{LibraryUnits}
 use Rattle.timing_arcs.specs.CellModel.{names_of}
-use Rattle.timing_arcs.specs.Cells.{TimedCell}
+use Rattle.cell_models.specs.Cells.{TimedCell}
 use Rattle.timing_arcs.specs.DelayGroups.{ArcEntry, arcs_of, AreEdgeTables, no_edge, edge, IsArc}
-use Rattle.timing_arcs.specs.Library.{first_group, groups_named}
+use Rattle.liberty_tables.specs.Library.{first_group, groups_named}
 use Rattle.timing_arcs.specs.OneAnswer.{OneModel}
 use Rattle.timing_arcs.specs.PinModel.{PinEntry, is_pin_of, with_entry, entries_of, pins_of, capacitance_texts, IsLargest, no_text, one_text, first_text, second_text, IsCapacitance, IsPinCapacitance, IsPin}
-use Rattle.timing_arcs.specs.TableModel.{TableMeans, TransitionMeans}
-use Rattle.timing_arcs.proofs.Fronts.{some_is}
-use Rattle.timing_arcs.proofs.OneTable.{one_made, one_transition_made}
-use Rattle.timing_arcs.proofs.OneUnits.{one_load, one_pair}
+use Rattle.timing_arcs.specs.DelayTables.{delay_names}
+use Rattle.liberty_tables.specs.TableModel.{TableMeans, TransitionMeans}
+use Rattle.liberty_tables.proofs.Fronts.{some_is}
+use Rattle.liberty_tables.proofs.OneTable.{one_made, one_transition_made}
+use Rattle.liberty_tables.proofs.OneUnits.{one_load, one_pair}
 use Rattle.timing_arcs.proofs.PinLemmas.{held_by_name, name_held}
 
 -- ---- the names of a cell's pins: each stands at one place
@@ -123,8 +124,8 @@ one_tables library _ _ _ _ (edge {delay = d} {slew = s} {tables = t} {units = u}
     let units : w ≡ u = one_pair library w u others known in
     ap Some
     (same_tables t more
-    (one_made library d u t.delay more.delay means (subst (λ (x : LibraryUnits). TableMeans library d x (Ok more.delay)) units also))
-    (one_transition_made library s u t.slew more.slew shows (subst (λ (x : LibraryUnits). TransitionMeans library s x (Ok more.slew)) units says)))
+    (one_made delay_names library d u t.delay more.delay means (subst (λ (x : LibraryUnits). TableMeans delay_names library d x (Ok more.delay)) units also))
+    (one_transition_made delay_names library s u t.slew more.slew shows (subst (λ (x : LibraryUnits). TransitionMeans delay_names library s x (Ok more.slew)) units says)))
 
 same_arc : (one other : Arc) → one.from ≡ other.from → one.to ≡ other.to → one.kind ≡ other.kind → one.rise ≡ other.rise → one.fall ≡ other.fall → one ≡ other
 same_arc one other from to kind rise fall = λ i. record { from = from i; to = to i; kind = kind i; rise = rise i; fall = fall i }

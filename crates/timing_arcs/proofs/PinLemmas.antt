@@ -9,10 +9,10 @@ use Rattle.std.proofs.lemmas.List.Sums.{fold-append}
 use Rattle.liberty_groups.specs.Groups.{Group, args_of}
 use Rattle.liberty_groups.specs.Tables.{Tables, group_at}
 use Rattle.liberty_groups.specs.declared.rows.GroupId.{GroupId}
-use Rattle.timing_arcs.specs.declared.cell.Pin.{Pin}
+use Rattle.cell_models.specs.declared.cell.Pin.{Pin}
 use Rattle.timing_arcs.specs.PinModel.{PinEntry, is_pin_of, entries_of, with_entry, IsPin}
 use Rattle.timing_arcs.specs.PinTable.{entry_at, entries_in}
-use Rattle.timing_arcs.proofs.Fronts.{some_is, rest_at}
+use Rattle.liberty_tables.proofs.Fronts.{some_is, rest_at}
 
 pub entries_push : (tree : Tables) (names : List (List ℕ)) (ids : List GroupId) (name : List ℕ) (id : GroupId) → length names ≡ length ids
     → entries_in tree (names ++ name ∷ []) (ids ++ id ∷ []) ≡ entries_in tree names ids ++ entry_at tree name id ∷ []

@@ -9,15 +9,15 @@ use Rattle.std.proofs.lemmas.Option.{slice_get_within}
 use Rattle.liberty_groups.specs.Groups.{Group}
 use Rattle.liberty_groups.specs.Tables.{Tables}
 use Rattle.liberty_groups.specs.declared.rows.GroupId.{GroupId}
-use Rattle.timing_arcs.specs.declared.cell.Direction.{Direction}
-use Rattle.timing_arcs.specs.declared.cell.Pin.{Pin}
-use Rattle.timing_arcs.specs.declared.faults.CellFault.{CellFault}
-use Rattle.timing_arcs.specs.declared.faults.CellFault.TheVariants.{UnknownRelatedPin}
+use Rattle.cell_models.specs.declared.cell.Direction.{Direction}
+use Rattle.cell_models.specs.declared.cell.Pin.{Pin}
+use Rattle.liberty_tables.specs.declared.faults.CellFault.{CellFault}
+use Rattle.liberty_tables.specs.declared.faults.CellFault.TheVariants.{UnknownRelatedPin}
 use Rattle.timing_arcs.specs.PinModel.{PinEntry, is_pin_of, direction_of, IsPin}
 use Rattle.timing_arcs.specs.PinTable.{entry_at, entries_in}
 use Rattle.timing_arcs.specs.DelayGroups.{is_pin_in, is_input_in}
 use Rattle.timing_arcs.specs.RelatedPins.{IsAt, IsPlaceOf, input_pin, other_pin, ArePlaces, IsUnrelated, unknown_name, no_places_memory}
-use Rattle.timing_arcs.proofs.Fronts.{some_is, zip_push}
+use Rattle.liberty_tables.proofs.Fronts.{some_is, zip_push}
 use Rattle.timing_arcs.proofs.PinLemmas.{held_by_name, names_of_entries, entries_length, name_held, name_absent}
 
 -- ---- a name that is looked up

@@ -5,8 +5,8 @@ use Rattle.std.specs.Result.{IsErrAnd}
 use Rattle.std.proofs.lemmas.List.Concat.{flat_map-append}
 use Rattle.std.proofs.lemmas.List.Elements.{All-nil, All-cons, All-append}
 use Rattle.liberty_groups.specs.Groups.{Group}
-use Rattle.timing_arcs.proofs.Fronts.{rest_at, front_at}
-use Rattle.timing_arcs.specs.declared.faults.CellFault.{CellFault}
+use Rattle.liberty_tables.proofs.Fronts.{rest_at, front_at}
+use Rattle.liberty_tables.specs.declared.faults.CellFault.{CellFault}
 use Rattle.timing_arcs.specs.CellFaults.{Question, IsSound, IsFaulty, IsRefusal, first_fault, no_memory}
 
 -- a fault of the first question

@@ -2,8 +2,8 @@
 use Rattle.std.specs.Prelude.{ℕ, List, All, flat_map}
 use Rattle.std.specs.List.{AllZip}
 use Rattle.liberty_groups.specs.Groups.{Group}
-use Rattle.timing_arcs.specs.declared.cell.Arc.{Arc}
-use Rattle.timing_arcs.specs.Cells.{TimedCell}
+use Rattle.cell_models.specs.declared.cell.Arc.{Arc}
+use Rattle.cell_models.specs.Cells.{TimedCell}
 use Rattle.timing_arcs.specs.PinModel.{PinEntry, pins_of, IsPin}
 use Rattle.timing_arcs.specs.DelayGroups.{delays_in, arcs_in, arcs_of, IsArc}
 use Rattle.timing_arcs.specs.CellFaults.{delay_questions, cell_questions, IsSound}

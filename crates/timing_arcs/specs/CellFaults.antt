@@ -3,15 +3,16 @@ use Rattle.std.specs.Prelude.{◌≡◌, ℕ, true, false, if◌then◌else◌, 
 use Rattle.delay_units.specs.declared.numbers.Unit.{Unit}
 use Rattle.liberty_groups.specs.Groups.{Group}
 use Rattle.nldm_lookup.specs.Tables.{TimingTable}
-use Rattle.timing_arcs.specs.declared.cell.Direction.{Direction}
-use Rattle.timing_arcs.specs.declared.faults.CellFault.{CellFault}
-use Rattle.timing_arcs.specs.declared.faults.CellFault.TheVariants.{NoSuchCell, BadUnit, BadDirection, BadNumber, UnknownRelatedPin, NoTransition, OutOfMemory}
-use Rattle.timing_arcs.specs.Library.{cell_group, first_group}
-use Rattle.timing_arcs.specs.LibraryUnits.{IsTimeUnit, IsLoadUnit, AreUnits}
+use Rattle.cell_models.specs.declared.cell.Direction.{Direction}
+use Rattle.liberty_tables.specs.declared.faults.CellFault.{CellFault}
+use Rattle.liberty_tables.specs.declared.faults.CellFault.TheVariants.{NoSuchCell, BadUnit, BadDirection, BadNumber, UnknownRelatedPin, NoTransition, OutOfMemory}
+use Rattle.liberty_tables.specs.Library.{cell_group, first_group}
+use Rattle.liberty_tables.specs.LibraryUnits.{IsTimeUnit, IsLoadUnit, AreUnits}
 use Rattle.timing_arcs.specs.PinModel.{PinEntry, pins_of, direction_of, is_input, capacitance_texts, IsCapacitance}
 use Rattle.timing_arcs.specs.DelayGroups.{DelayGroup, delays_of, related_names, is_pin_in}
-use Rattle.timing_arcs.specs.TableModel.{TableMeans, TransitionMeans}
-use Rattle.timing_arcs.specs.declared.library_units.LibraryUnits.{LibraryUnits}
+use Rattle.timing_arcs.specs.DelayTables.{delay_names}
+use Rattle.liberty_tables.specs.TableModel.{TableMeans, TransitionMeans}
+use Rattle.liberty_tables.specs.declared.library_units.LibraryUnits.{LibraryUnits}
 
 -- What is asked: the unit of times, that of loads; the direction of a `pin` group, its capacitance; whether the names in `related_pin` are
 -- pins, a delay table, whether a transition table stands beside it, and what that says.
@@ -65,10 +66,10 @@ pub data IsSound (library : Group) : Question → Type 0 where
       → IsSound library (capacitance pin)
   related : {pins : List PinEntry} {group : Group} → All (λ name. is_pin_in pins name ≡ true) (related_names group)
       → IsSound library (related_pins pins group)
-  tabled : {group : Group} {units : LibraryUnits} {made : TimingTable} → AreUnits library units → TableMeans library group units (Ok made)
-      → IsSound library (table group)
+  tabled : {group : Group} {units : LibraryUnits} {made : TimingTable} → AreUnits library units
+      → TableMeans delay_names library group units (Ok made) → IsSound library (table group)
   transition_known : {group : Group} {units : LibraryUnits} {made : TimingTable} → AreUnits library units
-      → TransitionMeans library group units (Ok made) → IsSound library (transition_table group)
+      → TransitionMeans delay_names library group units (Ok made) → IsSound library (transition_table group)
 
 -- a question has this fault
 pub data IsFaulty (library : Group) : Question → CellFault → Type 0 where
@@ -80,10 +81,10 @@ pub data IsFaulty (library : Group) : Question → CellFault → Type 0 where
   unrelated : {pins : List PinEntry} {group : Group} {name : List ℕ} → Contains (related_names group) name → is_pin_in pins name ≡ false
       → IsFaulty library (related_pins pins group) UnknownRelatedPin
   bad_table : {group : Group} {units : LibraryUnits} {fault : CellFault} → AreUnits library units
-      → TableMeans library group units (Err fault) → IsFaulty library (table group) fault
+      → TableMeans delay_names library group units (Err fault) → IsFaulty library (table group) fault
   missing_transition : IsFaulty library transition NoTransition
   bad_transition : {group : Group} {units : LibraryUnits} {fault : CellFault} → AreUnits library units
-      → TransitionMeans library group units (Err fault) → IsFaulty library (transition_table group) fault
+      → TransitionMeans delay_names library group units (Err fault) → IsFaulty library (transition_table group) fault
 
 -- the first question that has a fault has this one
 pub record IsFirstFault (library : Group) (questions : List Question) (fault : CellFault) : Type 0 where

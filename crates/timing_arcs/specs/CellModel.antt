@@ -2,8 +2,8 @@
 use Rattle.std.specs.Prelude.{◌≡◌, ℕ, List, map, All, Some}
 use Rattle.std.specs.List.{AllZip}
 use Rattle.liberty_groups.specs.Groups.{Group}
-use Rattle.timing_arcs.specs.Cells.{TimedCell}
-use Rattle.timing_arcs.specs.Library.{cell_group}
+use Rattle.cell_models.specs.Cells.{TimedCell}
+use Rattle.liberty_tables.specs.Library.{cell_group}
 use Rattle.timing_arcs.specs.PinModel.{PinEntry, pins_of, IsPin}
 use Rattle.timing_arcs.specs.DelayGroups.{arcs_of, IsArc}
 use Rattle.timing_arcs.specs.CellFaults.{questions_of, IsSound}

@@ -2,7 +2,7 @@
 use Rattle.std.specs.Prelude.{ℕ, List, All, flat_map}
 use Rattle.std.specs.List.{AllZip}
 use Rattle.liberty_groups.specs.Groups.{Group}
-use Rattle.timing_arcs.specs.declared.cell.Arc.{Arc}
+use Rattle.cell_models.specs.declared.cell.Arc.{Arc}
 use Rattle.timing_arcs.specs.PinModel.{PinEntry}
 use Rattle.timing_arcs.specs.DelayGroups.{delays_in, arcs_in, IsArc}
 use Rattle.timing_arcs.specs.LibraryBasis.{arc_from}

@@ -4,15 +4,16 @@ use Rattle.std.specs.List.{list_any}
 use Rattle.liberty_groups.specs.Groups.{Group, groups_of}
 use Rattle.token_texts.specs.Blanks.{is_blank}
 use Rattle.token_texts.specs.Pieces.{pieces_between}
-use Rattle.timing_arcs.specs.declared.cell.ArcKind.{ArcKind}
-use Rattle.timing_arcs.specs.declared.cell.ArcKind.TheVariants.{Positive, Negative, Both, RisingEdge, FallingEdge}
-use Rattle.timing_arcs.specs.declared.cell.EdgeTables.{EdgeTables}
-use Rattle.timing_arcs.specs.declared.cell.Arc.{Arc}
-use Rattle.timing_arcs.specs.Library.{is_named, first_group, value_in}
+use Rattle.cell_models.specs.declared.cell.ArcKind.{ArcKind}
+use Rattle.cell_models.specs.declared.cell.ArcKind.TheVariants.{Positive, Negative, Both, RisingEdge, FallingEdge}
+use Rattle.cell_models.specs.declared.cell.EdgeTables.{EdgeTables}
+use Rattle.cell_models.specs.declared.cell.Arc.{Arc}
+use Rattle.liberty_tables.specs.Library.{is_named, first_group, value_in}
 use Rattle.timing_arcs.specs.PinModel.{PinEntry, is_pin_of, is_input, is_output, direction_of, pins_of}
-use Rattle.timing_arcs.specs.LibraryUnits.{AreUnits}
-use Rattle.timing_arcs.specs.TableModel.{TableMeans, TransitionMeans}
-use Rattle.timing_arcs.specs.declared.library_units.LibraryUnits.{LibraryUnits}
+use Rattle.liberty_tables.specs.LibraryUnits.{AreUnits}
+use Rattle.timing_arcs.specs.DelayTables.{delay_names}
+use Rattle.liberty_tables.specs.TableModel.{TableMeans, TransitionMeans}
+use Rattle.liberty_tables.specs.declared.library_units.LibraryUnits.{LibraryUnits}
 
 -- a `timing` group of an output pin, with the name of the pin
 pub record DelayGroup : Type 0 where
@@ -85,7 +86,7 @@ arcs_of cell = flat_map (arcs_in (pins_of cell)) (delays_of cell)
 pub data AreEdgeTables (library : Group) : Option Group → Option Group → Option EdgeTables → Type 0 where
   no_edge : {slew : Option Group} → AreEdgeTables library None slew None
   edge : {delay slew : Group} {tables : EdgeTables} {units : LibraryUnits} → AreUnits library units
-      → TableMeans library delay units (Ok tables.delay) → TransitionMeans library slew units (Ok tables.slew)
+      → TableMeans delay_names library delay units (Ok tables.delay) → TransitionMeans delay_names library slew units (Ok tables.slew)
       → AreEdgeTables library (Some delay) (Some slew) (Some tables)
 
 -- the tables of a group's rise, and of its fall

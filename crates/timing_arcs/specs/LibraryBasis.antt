@@ -3,23 +3,24 @@ use Rattle.std.specs.Prelude.{◌≡◌, ℕ, List, [], ◌++◌, map, Option, A
 use Rattle.std.specs.List.{AllZip}
 use Rattle.liberty_groups.specs.Groups.{Group, groups_of}
 use Rattle.liberty_groups.specs.Tables.{Tables, tree_of}
-use Rattle.timing_arcs.specs.LibraryUnits.{AreUnits}
+use Rattle.liberty_tables.specs.LibraryUnits.{AreUnits}
 use Rattle.timing_arcs.specs.PinModel.{PinEntry}
 use Rattle.timing_arcs.specs.DelayGroups.{is_delay_group, kind_of, ArcEntry, arcs_in, IsRise, IsFall, IsArc}
 use Rattle.timing_arcs.specs.CellFaults.{Question, delay_questions, IsSound}
-use Rattle.timing_arcs.specs.TemplateIndex.{AreTemplates}
-use Rattle.timing_arcs.specs.declared.library_units.LibraryUnits.{LibraryUnits}
-use Rattle.timing_arcs.specs.declared.templates.Template.{Template}
-use Rattle.timing_arcs.specs.declared.cell.ArcKind.{ArcKind}
-use Rattle.timing_arcs.specs.declared.cell.EdgeTables.{EdgeTables}
-use Rattle.timing_arcs.specs.declared.cell.Arc.{Arc}
-use Rattle.timing_arcs.specs.declared.faults.CellFault.{CellFault}
-use Rattle.timing_arcs.specs.declared.faults.CellFault.TheVariants.{OutOfMemory}
+use Rattle.liberty_tables.specs.TemplateIndex.{AreTemplates}
+use Rattle.timing_arcs.specs.DelayTables.{delay_names}
+use Rattle.timing_arcs.specs.declared.delay_groups.LibraryBasis.{LibraryBasis}
+use Rattle.cell_models.specs.declared.cell.ArcKind.{ArcKind}
+use Rattle.cell_models.specs.declared.cell.EdgeTables.{EdgeTables}
+use Rattle.cell_models.specs.declared.cell.Arc.{Arc}
+use Rattle.liberty_tables.specs.declared.faults.CellFault.{CellFault}
+use Rattle.liberty_tables.specs.declared.faults.CellFault.TheVariants.{OutOfMemory}
 
 -- its units, and its templates by their names
-pub record IsBasis (tree : Tables) (units : LibraryUnits) (names : List (List ℕ)) (templates : List Template) : Type 0 where
-  pub known : AreUnits (tree_of tree) units
-  pub indexed : AreTemplates tree (groups_of (tree_of tree)) names templates
+pub record IsBasis (tree : Tables) (basis : LibraryBasis) : Type 0 where
+  pub known : AreUnits (tree_of tree) basis.units
+  pub named : basis.called ≡ delay_names
+  pub indexed : AreTemplates tree basis.called (groups_of (tree_of tree)) basis.templates.names basis.templates.read.items
 
 -- an arc of one kind and with the same tables from each place
 abbrev pub arc_from : ArcKind → Option EdgeTables → Option EdgeTables → ℕ → ℕ → Arc

@@ -1,11 +1,11 @@
 -- That a cell of a library has one answer: a model, or one fault.
 use Rattle.std.specs.Prelude.{◌≡◌, ◌≢◌, ℕ, List}
 use Rattle.liberty_groups.specs.Groups.{Group}
-use Rattle.timing_arcs.specs.Cells.{TimedCell}
+use Rattle.cell_models.specs.Cells.{TimedCell}
 use Rattle.timing_arcs.specs.CellFaults.{IsCellFault}
 use Rattle.timing_arcs.specs.CellModel.{IsModel}
-use Rattle.timing_arcs.specs.declared.faults.CellFault.{CellFault}
-use Rattle.timing_arcs.specs.declared.faults.CellFault.TheVariants.{OutOfMemory}
+use Rattle.liberty_tables.specs.declared.faults.CellFault.{CellFault}
+use Rattle.liberty_tables.specs.declared.faults.CellFault.TheVariants.{OutOfMemory}
 
 -- a cell that has a model has no fault, want of memory aside
 abbrev pub NoFaultBeside : Type 0

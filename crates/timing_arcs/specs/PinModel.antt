@@ -5,11 +5,11 @@ use Rattle.delay_units.specs.Reading.{ReadsAs}
 use Rattle.delay_units.specs.declared.numbers.Unit.{Unit}
 use Rattle.nldm_lookup.specs.Axes.{most}
 use Rattle.liberty_groups.specs.Groups.{Group, args_of}
-use Rattle.timing_arcs.specs.declared.cell.Direction.{Direction}
-use Rattle.timing_arcs.specs.declared.cell.Direction.TheVariants.{Input, Output, Inout, Internal}
-use Rattle.timing_arcs.specs.declared.cell.Pin.{Pin}
-use Rattle.timing_arcs.specs.Library.{groups_named, value_in}
-use Rattle.timing_arcs.specs.LibraryUnits.{IsLoadUnit}
+use Rattle.cell_models.specs.declared.cell.Direction.{Direction}
+use Rattle.cell_models.specs.declared.cell.Direction.TheVariants.{Input, Output, Inout, Internal}
+use Rattle.cell_models.specs.declared.cell.Pin.{Pin}
+use Rattle.liberty_tables.specs.Library.{groups_named, value_in}
+use Rattle.liberty_tables.specs.LibraryUnits.{IsLoadUnit}
 
 -- a pin: a name of a `pin` group, and the group
 pub record PinEntry : Type 0 where

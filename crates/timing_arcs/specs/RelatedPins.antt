@@ -1,8 +1,8 @@
 -- The names of related pins as they are looked up: the places of those that are input pins.
 use Rattle.std.specs.Prelude.{◌≡◌, ℕ, true, false, List, All, Contains, filter, slice_get, Option, Some, None}
 use Rattle.std.specs.List.{AllZip}
-use Rattle.timing_arcs.specs.declared.faults.CellFault.{CellFault}
-use Rattle.timing_arcs.specs.declared.faults.CellFault.TheVariants.{UnknownRelatedPin, OutOfMemory}
+use Rattle.liberty_tables.specs.declared.faults.CellFault.{CellFault}
+use Rattle.liberty_tables.specs.declared.faults.CellFault.TheVariants.{UnknownRelatedPin, OutOfMemory}
 use Rattle.timing_arcs.specs.PinModel.{PinEntry}
 use Rattle.timing_arcs.specs.DelayGroups.{is_pin_in, is_input_in}
 

@@ -5,36 +5,55 @@ ghost use Rattle.liberty_groups.specs.Tables.{tree_of, group_at, IsGroup};
 ghost use Rattle.timing_arcs.specs.PinModel.{IsPin};
 ghost use Rattle.timing_arcs.specs.PinTable.{entries_in};
 ghost use Rattle.timing_arcs.specs.DelayGroups.{delays_in};
+ghost use Rattle.timing_arcs.specs.DelayTables.{delay_names};
 ghost use Rattle.timing_arcs.specs.LibraryBasis.{IsBasis};
 ghost use Rattle.timing_arcs.specs.CellModel.{IsModel};
 ghost use Rattle.timing_arcs.specs.BuiltParts.{AreArcsOf, IsModelOf};
 ghost use Rattle.timing_arcs.specs.CellFaults.{unit_questions, delay_questions, cell_questions, IsRefusal, IsCellFault};
 
-use crate::cell::{Arc, Cell, Pin};
 use crate::copied_arcs::add_next_arcs;
 use crate::delay_groups::LibraryBasis;
-use crate::faults::CellFault;
-use crate::groups::group_for;
 use crate::pins::{PinTable, pin_table, read_pins};
-use crate::templates::Templates;
 use crate::units::library_units;
-use edge_io::Text;
+use cell_models::{Arc, Cell, Pin};
+use edge_io::{OutOfMemory, Text};
 use liberty_groups::{GroupId, GroupTree};
+use liberty_tables::{CellFault, TableNames, Templates, group_for};
 use std::alloc::Global;
+
+// What the variables of the tables of delays are called.
+fn delay_names(alloc: Global) -> Result<TableNames, OutOfMemory>
+    ensures { IfOk result (λ called. called ≡ delay_names) }
+{
+    let slew = Text::from_bytes(alloc, b"input_net_transition")?;
+    let other = Text::from_bytes(alloc, b"total_output_net_capacitance")?;
+    Ok(TableNames {
+        slew,
+        other,
+        other_is_time: false,
+    })
+}
 
 // The units and the templates of a library.
 #[tactic(auto, using(crate::specs::CellFaults::no_memory))]
 fn library_basis(alloc: Global, tree: &GroupTree) -> Result<LibraryBasis, CellFault>
     requires { 0 < length tree.now.rows }
-    ensures ok { IfOk result (λ basis. IsBasis tree.now basis.units basis.templates.names basis.templates.read.items) }
+    ensures ok { IfOk result (λ basis. IsBasis tree.now basis) }
     ensures refused { IfErr result (IsRefusal (tree_of tree.now) unit_questions) }
 {
     let units = match library_units(tree) {
         Ok(units) => units,
         Err(fault) => return Err(fault),
     };
-    match Templates::new(alloc, tree) {
-        Ok(templates) => Ok(LibraryBasis { units, templates }),
+    let Ok(called) = delay_names(alloc) else {
+        return Err(CellFault::OutOfMemory);
+    };
+    match Templates::new(alloc, tree, &called) {
+        Ok(templates) => Ok(LibraryBasis {
+            units,
+            called,
+            templates,
+        }),
         Err(_) => Err(CellFault::OutOfMemory),
     }
 }
@@ -47,7 +66,7 @@ fn read_arcs(
     table: &PinTable,
     pins: &[Pin],
 ) -> Result<Vec<Arc>, CellFault>
-    requires basis { IsBasis tree.now basis.now.units basis.now.templates.names basis.now.templates.read.items }
+    requires basis { IsBasis tree.now basis.now }
     requires even { length table.now.names ≡ length table.now.groups.items }
     requires within { All (λ id. IsGroup tree.now id.0) table.now.groups.items }
     requires pins { AllZip (IsPin (tree_of tree.now)) (entries_in tree.now table.now.names table.now.groups.items) pins.now }
@@ -80,7 +99,7 @@ fn build_group(
     group: GroupId,
 ) -> Result<Cell, CellFault>
     requires library { 0 < length tree.now.rows }
-    requires basis { IsBasis tree.now basis.now.units basis.now.templates.names basis.now.templates.read.items }
+    requires basis { IsBasis tree.now basis.now }
     requires group { IsGroup tree.now group.0 }
     ensures ok { IfOk result (IsModelOf (tree_of tree.now) (group_at tree.now group.0)) }
     ensures refused { IfErr result (IsRefusal (tree_of tree.now) (cell_questions (group_at tree.now group.0))) }

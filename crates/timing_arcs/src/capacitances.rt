@@ -5,9 +5,9 @@ ghost use Rattle.liberty_groups.specs.Tables.{tree_of, group_at, IsGroup};
 ghost use Rattle.timing_arcs.specs.PinModel.{capacitance_texts, default_texts, edges_texts, IsCapacitance};
 ghost use Rattle.timing_arcs.specs.Sizes.{larger_size, grains_within};
 
-use crate::groups::value_in;
 use delay_units::{Amount, Farads, Unit, read_amount};
 use liberty_groups::{GroupId, GroupTree};
+use liberty_tables::value_in;
 
 // The larger of two. A number that is not read counts as the larger, as one past the bound does.
 fn larger_amount(one: Amount, other: Amount) -> Amount

@@ -9,27 +9,25 @@ ghost use Rattle.timing_arcs.specs.LibraryBasis.{IsBasis, AreAdded, IsNoMemory};
 ghost use Rattle.timing_arcs.specs.CopiedArcs.{led_to, AreArcsTo};
 ghost use Rattle.timing_arcs.specs.CellFaults.{delay_questions, IsRefusal};
 
-use crate::cell::{Arc, Pin};
 use crate::delay_groups::{LibraryBasis, add_pin_arcs, copied};
-use crate::faults::CellFault;
 use crate::pins::PinTable;
+use cell_models::{Arc, Pin};
 use edge_io::OutOfMemory;
 use liberty_groups::GroupTree;
+use liberty_tables::CellFault;
 use std::alloc::Global;
 
-impl Arc {
-    /// The same arc, to another pin.
-    fn led_to(&self, to: usize) -> Result<Arc, OutOfMemory>
-        ensures { IfOk result (λ arc. arc ≡ led_to to self.now) }
-    {
-        Ok(Arc {
-            from: self.from,
-            to,
-            kind: self.kind,
-            rise: copied(&self.rise)?,
-            fall: copied(&self.fall)?,
-        })
-    }
+// The same arc, to another pin.
+fn led_to(arc: &Arc, to: usize) -> Result<Arc, OutOfMemory>
+    ensures { IfOk result (λ copy. copy ≡ led_to to arc.now) }
+{
+    Ok(Arc {
+        from: arc.from,
+        to,
+        kind: arc.kind,
+        rise: copied(&arc.rise)?,
+        fall: copied(&arc.fall)?,
+    })
 }
 
 // The arcs from a place on, once more, to another pin.
@@ -38,7 +36,7 @@ fn copy_arcs(start: usize, to: usize, arcs: &mut Vec<Arc>) -> Result<(), CellFau
     ensures memory { IfErr result IsNoMemory }
 {
     for place in start..arcs.len() {
-        let arc = arcs[place].led_to(to)?;
+        let arc = led_to(&arcs[place], to)?;
         if arcs.push(arc).is_err() {
             return Err(CellFault::OutOfMemory);
         }
@@ -59,7 +57,7 @@ pub(crate) fn add_next_arcs(
     start: usize,
     arcs: &mut Vec<Arc>,
 ) -> Result<(), CellFault>
-    requires basis { IsBasis tree.now basis.now.units basis.now.templates.names basis.now.templates.read.items }
+    requires basis { IsBasis tree.now basis.now }
     requires even { length table.now.names ≡ length table.now.groups.items }
     requires within { All (λ id. IsGroup tree.now id.0) table.now.groups.items }
     requires pins { AllZip (IsPin (tree_of tree.now)) (entries_in tree.now table.now.names table.now.groups.items) pins.now }

@@ -4,30 +4,75 @@ ghost use Rattle.std.specs.Option.{option_map};
 ghost use Rattle.std.specs.List.{AllZip};
 ghost use Rattle.liberty_groups.specs.Groups.{Group, groups_of};
 ghost use Rattle.liberty_groups.specs.Tables.{tree_of, group_at, IsGroup};
-ghost use Rattle.timing_arcs.specs.Library.{value_in, first_group};
+ghost use Rattle.liberty_tables.specs.Library.{value_in, first_group};
 ghost use Rattle.timing_arcs.specs.PinModel.{PinEntry, is_output, IsPin};
 ghost use Rattle.timing_arcs.specs.PinTable.{entry_at, entries_in};
 ghost use Rattle.timing_arcs.specs.DelayGroups.{is_delay_type, is_delay_group, delays_in, kind_by, kind_of, ArcEntry, arcs_in, AreEdgeTables, IsRise, IsFall, IsArc};
+ghost use Rattle.liberty_tables.specs.TableModel.{TableMeans, TransitionMeans};
+ghost use Rattle.timing_arcs.specs.DelayTables.{delay_names};
 ghost use Rattle.timing_arcs.specs.LibraryBasis.{IsBasis, IsTiming, AddsArcs, AreAdded, arcs_from, questions_from, IsNoMemory};
 ghost use Rattle.timing_arcs.specs.CellFaults.{edge_questions, rise_questions, fall_questions, delay_questions, IsSound, IsRefusal};
 
-use crate::cell::{Arc, ArcKind, Direction, EdgeTables, Pin};
-use crate::faults::CellFault;
-use crate::groups::{first_group, is_named, value_in};
-use crate::library_units::LibraryUnits;
 use crate::pins::PinTable;
 use crate::related_pins::related_places;
-use crate::tables::{build_table, build_transition};
-use crate::templates::Templates;
+use cell_models::{Arc, ArcKind, Direction, EdgeTables, Pin};
 use edge_io::OutOfMemory;
 use liberty_groups::{GroupId, GroupTree};
+use liberty_tables::{
+    CellFault, LibraryUnits, TableNames, Templates, build_table, build_transition, first_group,
+    is_named, value_in,
+};
+use nldm_lookup::Table;
 use std::alloc::Global;
 
-/// What the tables of all cells of a library stand on: its units and its templates.
+/// What the tables of all cells of a library stand on: its units, what the variables of its tables are called, and its templates.
 #[derive(Drop)]
 pub(crate) struct LibraryBasis {
     pub units: LibraryUnits,
+    pub called: TableNames,
     pub templates: Templates,
+}
+
+// The table of delays of a group.
+fn delay_table(
+    alloc: Global,
+    tree: &GroupTree,
+    basis: &LibraryBasis,
+    group: GroupId,
+) -> Result<Table, CellFault>
+    requires basis { IsBasis tree.now basis.now }
+    requires group { IsGroup tree.now group.0 }
+    ensures means { TableMeans delay_names (tree_of tree.now) (group_at tree.now group.0) basis.now.units result }
+{
+    build_table(
+        alloc,
+        tree,
+        group,
+        &basis.called,
+        &basis.templates,
+        &basis.units,
+    )
+}
+
+// The table of transitions of a group.
+fn transition_table(
+    alloc: Global,
+    tree: &GroupTree,
+    basis: &LibraryBasis,
+    group: GroupId,
+) -> Result<Table, CellFault>
+    requires basis { IsBasis tree.now basis.now }
+    requires group { IsGroup tree.now group.0 }
+    ensures means { TransitionMeans delay_names (tree_of tree.now) (group_at tree.now group.0) basis.now.units result }
+{
+    build_transition(
+        alloc,
+        tree,
+        group,
+        &basis.called,
+        &basis.templates,
+        &basis.units,
+    )
 }
 
 fn is_delay_type(text: &[u8]) -> bool
@@ -117,7 +162,7 @@ fn read_tables(
     delay: GroupId,
     slew: Option<GroupId>,
 ) -> Result<EdgeTables, CellFault>
-    requires basis { IsBasis tree.now basis.now.units basis.now.templates.names basis.now.templates.read.items }
+    requires basis { IsBasis tree.now basis.now }
     requires delay { IsGroup tree.now delay.0 }
     requires slew { IfSome slew (λ slew. IsGroup tree.now slew.0) }
     ensures ok { IfOk result (λ tables. AreEdgeTables (tree_of tree.now) (Some (group_at tree.now delay.0))
@@ -129,14 +174,14 @@ fn read_tables(
         (IsRefusal (tree_of tree.now)
         (edge_questions (Some (group_at tree.now delay.0)) (option_map (λ slew. group_at tree.now slew.0) slew))) }
 {
-    let table = match build_table(alloc, tree, delay, &basis.templates, &basis.units) {
+    let table = match delay_table(alloc, tree, basis, delay) {
         Ok(table) => table,
         Err(fault) => return Err(fault),
     };
     let Some(slew) = slew else {
         return Err(CellFault::NoTransition);
     };
-    match build_transition(alloc, tree, slew, &basis.templates, &basis.units) {
+    match transition_table(alloc, tree, basis, slew) {
         Ok(slew) => Ok(EdgeTables { delay: table, slew }),
         Err(fault) => Err(fault),
     }
@@ -151,7 +196,7 @@ fn read_edge(
     delay: Option<GroupId>,
     slew: Option<GroupId>,
 ) -> Result<Option<EdgeTables>, CellFault>
-    requires basis { IsBasis tree.now basis.now.units basis.now.templates.names basis.now.templates.read.items }
+    requires basis { IsBasis tree.now basis.now }
     requires delay { IfSome delay (λ delay. IsGroup tree.now delay.0) }
     requires slew { IfSome slew (λ slew. IsGroup tree.now slew.0) }
     ensures ok { IfOk result (AreEdgeTables (tree_of tree.now) (option_map (λ delay. group_at tree.now delay.0) delay)
@@ -179,7 +224,7 @@ fn read_rise(
     basis: &LibraryBasis,
     group: GroupId,
 ) -> Result<Option<EdgeTables>, CellFault>
-    requires basis { IsBasis tree.now basis.now.units basis.now.templates.names basis.now.templates.read.items }
+    requires basis { IsBasis tree.now basis.now }
     requires group { IsGroup tree.now group.0 }
     ensures ok { IfOk result (IsRise (tree_of tree.now) (group_at tree.now group.0)) }
     ensures sound { OnOk result (All (IsSound (tree_of tree.now)) (rise_questions (group_at tree.now group.0))) }
@@ -197,7 +242,7 @@ fn read_fall(
     basis: &LibraryBasis,
     group: GroupId,
 ) -> Result<Option<EdgeTables>, CellFault>
-    requires basis { IsBasis tree.now basis.now.units basis.now.templates.names basis.now.templates.read.items }
+    requires basis { IsBasis tree.now basis.now }
     requires group { IsGroup tree.now group.0 }
     ensures ok { IfOk result (IsFall (tree_of tree.now) (group_at tree.now group.0)) }
     ensures sound { OnOk result (All (IsSound (tree_of tree.now)) (fall_questions (group_at tree.now group.0))) }
@@ -206,18 +251,6 @@ fn read_fall(
     let delay = first_group(tree, group, b"cell_fall");
     let slew = first_group(tree, group, b"fall_transition");
     read_edge(alloc, tree, basis, delay, slew)
-}
-
-impl EdgeTables {
-    /// The same tables, which are shared.
-    fn copied(&self) -> Result<EdgeTables, OutOfMemory>
-        ensures { IfOk result (λ tables. tables ≡ self.now) }
-    {
-        Ok(EdgeTables {
-            delay: self.delay.copied()?,
-            slew: self.slew.copied()?,
-        })
-    }
 }
 
 pub(crate) fn copied(tables: &Option<EdgeTables>) -> Result<Option<EdgeTables>, OutOfMemory>
@@ -244,7 +277,7 @@ fn read_timing(
     basis: &LibraryBasis,
     group: GroupId,
 ) -> Result<Timing, CellFault>
-    requires basis { IsBasis tree.now basis.now.units basis.now.templates.names basis.now.templates.read.items }
+    requires basis { IsBasis tree.now basis.now }
     requires group { IsGroup tree.now group.0 }
     ensures ok { IfOk result (λ timing. IsTiming (tree_of tree.now) (group_at tree.now group.0) timing.kind timing.rise timing.fall) }
     ensures sound { OnOk result
@@ -302,7 +335,7 @@ fn add_arcs(
     group: GroupId,
     arcs: &mut Vec<Arc>,
 ) -> Result<(), CellFault>
-    requires basis { IsBasis tree.now basis.now.units basis.now.templates.names basis.now.templates.read.items }
+    requires basis { IsBasis tree.now basis.now }
     requires group { IsGroup tree.now group.0 }
     requires even { length table.now.names ≡ length table.now.groups.items }
     requires pins { AllZip (IsPin (tree_of tree.now)) (entries_in tree.now table.now.names table.now.groups.items) pins.now }
@@ -337,7 +370,7 @@ fn add_group(
     group: GroupId,
     arcs: &mut Vec<Arc>,
 ) -> Result<(), CellFault>
-    requires basis { IsBasis tree.now basis.now.units basis.now.templates.names basis.now.templates.read.items }
+    requires basis { IsBasis tree.now basis.now }
     requires group { IsGroup tree.now group.0 }
     requires even { length table.now.names ≡ length table.now.groups.items }
     requires pins { AllZip (IsPin (tree_of tree.now)) (entries_in tree.now table.now.names table.now.groups.items) pins.now }
@@ -366,7 +399,7 @@ fn add_groups(
     to: usize,
     arcs: &mut Vec<Arc>,
 ) -> Result<(), CellFault>
-    requires basis { IsBasis tree.now basis.now.units basis.now.templates.names basis.now.templates.read.items }
+    requires basis { IsBasis tree.now basis.now }
     requires even { length table.now.names ≡ length table.now.groups.items }
     requires within { All (λ id. IsGroup tree.now id.0) table.now.groups.items }
     requires pins { AllZip (IsPin (tree_of tree.now)) (entries_in tree.now table.now.names table.now.groups.items) pins.now }
@@ -410,7 +443,7 @@ pub(crate) fn add_pin_arcs(
     to: usize,
     arcs: &mut Vec<Arc>,
 ) -> Result<(), CellFault>
-    requires basis { IsBasis tree.now basis.now.units basis.now.templates.names basis.now.templates.read.items }
+    requires basis { IsBasis tree.now basis.now }
     requires even { length table.now.names ≡ length table.now.groups.items }
     requires within { All (λ id. IsGroup tree.now id.0) table.now.groups.items }
     requires pins { AllZip (IsPin (tree_of tree.now)) (entries_in tree.now table.now.names table.now.groups.items) pins.now }

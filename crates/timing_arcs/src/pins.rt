@@ -3,21 +3,20 @@ ghost use Rattle.std.specs.Prelude.{◌≡◌, ℕ, ◌++◌, ◌∷◌, [], ◌
 ghost use Rattle.std.specs.List.{AllZip};
 ghost use Rattle.name_table.specs.Names.{AreDistinct};
 ghost use Rattle.liberty_groups.specs.Tables.{Tables, tree_of, group_at, IsGroup};
-ghost use Rattle.timing_arcs.specs.declared.faults.CellFault.TheVariants.{BadNumber};
-ghost use Rattle.timing_arcs.specs.Library.{is_named};
-ghost use Rattle.timing_arcs.specs.LibraryUnits.{IsLoadUnit};
+ghost use Rattle.liberty_tables.specs.declared.faults.CellFault.TheVariants.{BadNumber};
+ghost use Rattle.liberty_tables.specs.Library.{is_named};
+ghost use Rattle.liberty_tables.specs.LibraryUnits.{IsLoadUnit};
 ghost use Rattle.timing_arcs.specs.PinModel.{PinEntry, direction_named, direction_of, entries_of, with_entry, pins_of, IsPin, IsPinCapacitance, default_texts, IsCapacitance};
 ghost use Rattle.timing_arcs.specs.PinTable.{entry_at, entries_in, ArePins};
 ghost use Rattle.timing_arcs.specs.PinReadings.{IsReadingOf};
 ghost use Rattle.timing_arcs.specs.CellFaults.{pin_questions, IsSound, IsRefusal};
 
 use crate::capacitances::{capacitance_of, default_capacitance};
-use crate::cell::{Direction, Pin};
-use crate::faults::CellFault;
-use crate::groups::{is_named, value_in};
+use cell_models::{Direction, Pin};
 use delay_units::{Farads, Unit};
 use edge_io::{OutOfMemory, Text};
 use liberty_groups::{GroupId, GroupTree};
+use liberty_tables::{CellFault, is_named, value_in};
 use name_table::{NameId, Names};
 use std::alloc::Global;
 

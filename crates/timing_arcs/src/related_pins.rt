@@ -9,11 +9,10 @@ ghost use Rattle.token_texts.specs.Pieces.{pieces_between};
 ghost use Rattle.timing_arcs.specs.DelayGroups.{related_names};
 ghost use Rattle.timing_arcs.specs.RelatedPins.{IsPlaceOf, ArePlaces, IsUnrelated};
 
-use crate::cell::{Direction, Pin};
-use crate::faults::CellFault;
-use crate::groups::value_in;
 use crate::pins::PinTable;
+use cell_models::{Direction, Pin};
 use liberty_groups::{GroupId, GroupTree};
+use liberty_tables::{CellFault, value_in};
 use std::alloc::Global;
 use token_texts::{Blank, first_piece};
 

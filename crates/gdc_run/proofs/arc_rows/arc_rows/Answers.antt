@@ -1,6 +1,6 @@
 -- Arc after arc.
 use Rattle.std.proofs.Common.{◌≡◌, List, length, unsigned_abs, ap, arith}
-use Rattle.timing_arcs.specs.declared.cell.Arc.{Arc}
+use Rattle.cell_models.specs.declared.cell.Arc.{Arc}
 use Rattle.gdc_run.specs.ArcRows.{edges_of, arc_edges, IsFirstOutside}
 use Rattle.gdc_run.proofs.ArcLemmas.{refusal_passes, outside_in, count_within, count_more, adds_more, gives_all}
 use Rattle.gdc_run.proofs.arc_rows.arc_rows.Goals as goal

@@ -12,7 +12,7 @@ use Rattle.timing_arcs.proofs.PlaceLemmas.{zip_length, got_below}
 use Rattle.timing_arcs.proofs.AddingLemmas.{nothing_added, added_part, added_all, parts_in_parts}
 use Rattle.timing_arcs.proofs.ModelLemmas.{arcs_of_all}
 use Rattle.timing_arcs.proofs.CopiedLemmas.{arcs_behind}
-use Rattle.timing_arcs.proofs.Fronts.{some_is}
+use Rattle.liberty_tables.proofs.Fronts.{some_is}
 use Rattle.timing_arcs.proofs.building.read_arcs.Goals as goal
 
 pub loop-to-init : goal.loop-to-init

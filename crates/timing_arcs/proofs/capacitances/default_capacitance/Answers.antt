@@ -1,6 +1,6 @@
 use Rattle.std.proofs.Common.{◌≡◌, ℕ, List, [], option_to_list, codes, ap, ◌∙◌, subst}
 use Rattle.liberty_groups.specs.Tables.{tree_of}
-use Rattle.timing_arcs.specs.Library.{value_in}
+use Rattle.liberty_tables.specs.Library.{value_in}
 use Rattle.timing_arcs.specs.PinModel.{IsCapacitance, default_texts}
 use Rattle.timing_arcs.proofs.SizeLemmas.{nothing_given}
 use Rattle.timing_arcs.proofs.capacitances.default_capacitance.Goals as goal

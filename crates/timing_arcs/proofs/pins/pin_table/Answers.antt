@@ -2,7 +2,7 @@ use Rattle.std.proofs.Common.{rules, ◌+◌, drop, sym, ap, ◌∙◌, codes}
 use Rattle.std.specs.List.{fold, filter, flat_map}
 use Rattle.liberty_groups.specs.Groups.{groups_of}
 use Rattle.liberty_groups.specs.Tables.{group_at}
-use Rattle.timing_arcs.specs.Library.{is_named, groups_named}
+use Rattle.liberty_tables.specs.Library.{is_named, groups_named}
 use Rattle.timing_arcs.specs.PinModel.{entries_of, with_entry, pins_of}
 use Rattle.timing_arcs.specs.PinTable.{entries_in}
 use Rattle.timing_arcs.proofs.PinLemmas.{groups_at}

@@ -5,7 +5,7 @@ use Rattle.timing_arcs.specs.PinModel.{IsPin}
 use Rattle.timing_arcs.specs.PinReadings.{IsReadingOf}
 use Rattle.timing_arcs.specs.PinTable.{entries_in, entry_at}
 use Rattle.timing_arcs.specs.CellFaults.{pin_questions, IsSound, IsRefusal}
-use Rattle.timing_arcs.proofs.Fronts.{zip_at, all_taken}
+use Rattle.liberty_tables.proofs.Fronts.{zip_at, all_taken}
 use Rattle.timing_arcs.proofs.PinLemmas.{entry_here, entries_length}
 use Rattle.timing_arcs.proofs.Refusals.{refused_part, sound_part, handed_on}
 use Rattle.timing_arcs.proofs.pins.read_pins.Goals as goal

@@ -1,0 +1,3 @@
+pub mod CornerLemmas
+pub mod OneFault
+pub mod ShapeLemmas

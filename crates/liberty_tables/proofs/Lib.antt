@@ -1,0 +1,11 @@
+pub mod AttributeLemmas
+pub mod AxisLemmas
+pub mod Fronts
+pub mod HandingOn
+pub mod OneTable
+pub mod OneUnits
+pub mod ReadingLemmas
+pub mod TableLemmas
+pub mod TemplateLemmas
+pub mod TextLemmas
+pub mod UnitLemmas

@@ -1,0 +1,10 @@
+pub mod Attributes
+pub mod FullTables
+pub mod Kept
+pub mod Library
+pub mod LibraryUnits
+pub mod NumberLists
+pub mod OneMeaning
+pub mod TableModel
+pub mod TemplateIndex
+pub mod Templates

@@ -1,0 +1,11 @@
+use Rattle.std.proofs.Common.{subst}
+use Rattle.liberty_groups.specs.Tables.{tree_of, group_at}
+use Rattle.liberty_tables.specs.TableModel.{TableMeans}
+use Rattle.timing_arcs.proofs.delay_groups.delay_table.Goals as goal
+
+pub returns : goal.returns
+returns c =
+    record {
+      means = subst (λ called. TableMeans called (tree_of c.args.tree.now) (group_at c.args.tree.now c.args.group.0) c.args.basis.now.units c.build_table.result)
+          c.requires.basis.named c.build_table.ensures.means;
+    }

@@ -1,5 +1,0 @@
-use Rattle.timing_arcs.proofs.ReadingLemmas.{none_kept}
-use Rattle.timing_arcs.proofs.number_lists.Readings.new.Goals as goal
-
-pub returns : goal.returns
-returns c = λ unit. none_kept unit c.new.result.items c.new.ensures.items

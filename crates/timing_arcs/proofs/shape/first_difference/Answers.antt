@@ -1,7 +1,0 @@
-use Rattle.std.proofs.Common.{arith}
-use Rattle.timing_arcs.proofs.ShapeLemmas.{same_before}
-use Rattle.timing_arcs.proofs.shape.first_difference.Goals as goal
-
--- src/shape.rt
-pub returns-clause-none : goal.returns-clause-none
-returns-clause-none c = same_before _ _ c.loop-place.place (omega arith) (omega arith) c.loop-place.invariant
