@@ -2,21 +2,22 @@
 //! token that cannot stand where it stands, with its line and the cause.
 #![tactic(auto)]
 
-pub mod builder;
-pub mod events;
-pub mod faults;
+mod builder;
+mod events;
+mod faults;
 mod filling;
-pub mod flat;
-pub mod laws;
-pub mod modes;
+mod flat;
+mod laws;
+mod modes;
 mod parsing;
-pub mod reader;
-pub mod rows;
-pub mod scan;
+mod reader;
+mod rows;
+mod scan;
 mod texts;
-pub mod tree;
+mod tree;
 
 pub use faults::{Cause, ParseEnd, SyntaxFault};
+pub use laws::{one_fault, one_parting, one_tree};
 pub use parsing::parse;
 pub use rows::{AttrId, GroupId};
 pub use tree::GroupTree;
