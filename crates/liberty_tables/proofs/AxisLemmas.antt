@@ -1,5 +1,5 @@
 -- Readings as the points of an axis.
-use Rattle.std.proofs.Common.{◌≡◌, ℕ, ◌<◌, ◌≤◌, zero, suc, true, false, List, [], ◌∷◌, length, map, get_or, ℤ, pos, ◌≤ℤ◌, Option, Some, None, Result, Ok, Err, refl, sym, ap, subst, arith}
+use Rattle.std.proofs.Common.{◌≡◌, ℕ, ◌<◌, ◌≤◌, zero, suc, true, false, List, [], ◌∷◌, length, map, get_or, ℤ, pos, ◌≤ℤ◌, Option, Some, None, Result, Ok, Err, unwrap_or, refl, sym, ap, subst, arith}
 use Rattle.std.specs.Prelude.{All}
 use Rattle.std.proofs.lemmas.Int.{ints}
 use Rattle.std.proofs.lemmas.List.{get_or-map}
@@ -8,9 +8,10 @@ use Rattle.delay_units.specs.declared.numbers.Unit.{Unit}
 use Rattle.nldm_lookup.specs.Axes.{most, FallsAt, IsAxis, IsFaultless, IsAxisFault, empty, too_long, not_rising, no_memory}
 use Rattle.nldm_lookup.specs.Tables.{IsSmall}
 use Rattle.nldm_lookup.specs.declared.faults.AxisFault.{AxisFault}
-use Rattle.liberty_tables.specs.Kept.{refusal_of, AreKept, all_within, one_past, IsListFault, unread_piece}
+use Rattle.liberty_tables.specs.Kept.{refusal_of, IsCopy, is_same, no_count, AreKept, all_within, one_past, IsListFault, unread_piece}
 use Rattle.liberty_tables.specs.Kept as kept
 use Rattle.liberty_tables.specs.NumberLists.{pieces_of}
+use Rattle.liberty_tables.specs.Attributes.{values_of}
 use Rattle.liberty_tables.specs.declared.library_units.LibraryUnits.{LibraryUnits}
 use Rattle.liberty_tables.specs.declared.table_names.TableNames.{TableNames}
 use Rattle.liberty_groups.specs.Groups.{Attribute}
@@ -126,3 +127,12 @@ pub variable_axis : (called : TableNames) (units : LibraryUnits) (key : List ℕ
 variable_axis called units key table template variable which unit texts answer some_is unit_is texts_are axis =
     subst (λ v. PointsMean called units key table template v answer) (sym some_is)
     (of_variable which answer (subst (λ u. AxisMeans u (pieces_of (index_of key table template)) answer) unit_is (subst (λ ts. AxisMeans unit (pieces_of ts) answer) texts_are axis)))
+
+-- the axis that a template has, where the table has no index of its own
+pub template_axis : (called : TableNames) (units : LibraryUnits) (key : List ℕ) (table template : List Attribute) (variable : Option Which) (answer copy : Result (List ℕ) CellFault) → values_of key table ≡ None
+    → PointsMean called units key [] template variable answer → IsCopy answer copy → PointsMean called units key table template variable copy
+template_axis called units key table template variable answer _ none points no_count = no_points_memory variable
+template_axis called units key table template _ answer _ none (of_variable which _ axis) is_same =
+    of_variable which answer (subst (λ texts. AxisMeans (unit_of called units which) (pieces_of texts) answer) (ap (λ values. unwrap_or values (unwrap_or (values_of key template) [])) (sym none)) axis)
+template_axis called units key table template _ _ _ none of_none is_same = of_none
+template_axis called units key table template _ _ _ none (no_points_memory _) is_same = no_points_memory _

@@ -2,6 +2,7 @@ pub mod AttributeLemmas
 pub mod AxisLemmas
 pub mod Fronts
 pub mod HandingOn
+pub mod IndexLemmas
 pub mod OneTable
 pub mod OneUnits
 pub mod ReadingLemmas

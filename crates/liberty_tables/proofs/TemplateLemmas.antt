@@ -1,137 +1,74 @@
--- The templates among some groups, and one group more.
-use Rattle.std.proofs.Common.{◌≡◌, ℕ, zero, suc, ◌+◌, ◌<◌, ◌⊎◌, inl, inr, Bool, true, false, cond, List, [], ◌∷◌, ◌++◌, length, take, Some, None, Contains, slice_index_or, length-append, refl, sym, ap, subst, ◌∙◌, arith}
-use Rattle.std.specs.Prelude.{slice_get, codes, if◌then◌else◌, Option, IfSome}
-use Rattle.std.specs.List.{find}
+-- What the template that a table names says.
+use Rattle.std.proofs.Common.{◌≡◌, ℕ, zero, suc, Bool, List, [], ◌∷◌, Option, Some, None, Contains, refl, sym, ap, ◌∙◌, subst, false}
+use Rattle.std.specs.Prelude.{slice_get, codes, if◌then◌else◌, IfSome}
+use Rattle.std.specs.List.{AllZip}
 use Rattle.std.specs.Option.{option_map, option_and_then}
 use Rattle.std.specs.Str.{bytes_eq}
-use Rattle.std.proofs.lemmas.List.Elements.{Contains-append_left, Contains-push}
-use Rattle.std.proofs.lemmas.Slice.Eq.{bytes_eq-Decides}
-use Rattle.liberty_groups.specs.Groups.{Group, attributes_of, args_of, groups_of}
-use Rattle.liberty_groups.specs.Tables.{Tables, tree_of}
-use Rattle.liberty_tables.specs.Templates.{name_of_template, is_text, is_template, template_in, template_named}
-use Rattle.liberty_tables.specs.TemplateIndex.{IsReadOf, IsTemplateOf, AreTemplates, IsNamedBy, IsUnder, Adds, is_held, is_added}
+use Rattle.liberty_groups.specs.Groups.{Group, attributes_of, args_of}
+use Rattle.liberty_groups.specs.Tables.{Tables, tree_of, group_at}
+use Rattle.liberty_tables.specs.Library.{group_for}
+use Rattle.liberty_tables.specs.Templates.{template_of, template_named, variables_of}
+use Rattle.liberty_tables.specs.TableModel.{PointsMean, HasVariables}
+use Rattle.liberty_tables.specs.TemplateIndex.{IsReadOf, IsReadAt, AreTemplates, IsNamedBy, IsUnder}
+use Rattle.liberty_tables.specs.declared.library_units.LibraryUnits.{LibraryUnits}
 use Rattle.liberty_tables.specs.declared.table_names.TableNames.{TableNames}
 use Rattle.liberty_tables.specs.declared.templates.Template.{Template}
+use Rattle.liberty_tables.specs.declared.templates.Templates.{Templates}
+use Rattle.liberty_tables.proofs.Fronts.{some_is}
+use Rattle.liberty_tables.proofs.IndexLemmas.{found_first, absent_first}
 
-stays : {X : Type 0} (p : X → Bool) (xs ys : List X) (x : X) → find p xs ≡ Some x → find p (xs ++ ys) ≡ Some x
-stays p [] ys x e = absurd (cc)
-stays p (y ∷ xs) ys x e = by (p y) (stays p xs ys x) e
-  where
-    by : (here : Bool) → (find p xs ≡ Some x → find p (xs ++ ys) ≡ Some x) → cond here (Some y) (find p xs) ≡ Some x → cond here (Some y) (find p (xs ++ ys)) ≡ Some x
-    by true rest e = e
-    by false rest e = rest e
-
-pushed : {X : Type 0} (p : X → Bool) (xs : List X) (y : X) → find p xs ≡ None → find p (xs ++ y ∷ []) ≡ cond (p y) (Some y) None
-pushed p [] y e = refl
-pushed p (x ∷ xs) y e = by (p x) (pushed p xs y) e
-  where
-    by : (here : Bool) → (find p xs ≡ None → find p (xs ++ y ∷ []) ≡ cond (p y) (Some y) None) → cond here (Some x) (find p xs) ≡ None → cond here (Some x) (find p (xs ++ y ∷ [])) ≡ cond (p y) (Some y) None
-    by true rest e = absurd (cc)
-    by false rest e = rest e
-
-got_push : {X : Type 0} (xs : List X) (x y : X) (k : ℕ) → slice_get (xs ++ x ∷ []) k ≡ Some y → (slice_get xs k ≡ Some y) ⊎ ((k ≡ length xs) × (x ≡ y))
-got_push [] x y zero e = inr (refl, cc)
-got_push [] x y (suc k) e = absurd (cc)
-got_push (z ∷ xs) x y zero e = inl e
-got_push (z ∷ xs) x y (suc k) e = elim (got_push xs x y k e) [ inl got ↦ inl got | inr end ↦ inr (let l = end.0 in omega (arith, l), end.1) ]
-
-got_within : {X : Type 0} (xs : List X) (x : X) (k : ℕ) → slice_get xs k ≡ Some x → k < length xs
-got_within [] x k e = absurd (cc)
-got_within (y ∷ xs) x zero e = omega arith
-got_within (y ∷ xs) x (suc k) e = let h = got_within xs x k e in omega (arith, h)
-
-contains_got : {X : Type 0} (xs : List X) (x : X) (k : ℕ) → slice_get xs k ≡ Some x → Contains xs x
-contains_got xs x k e = (k, got_within xs x k e, index_is xs x k e)
-  where
-    index_is : {X : Type 0} (xs : List X) (x : X) (k : ℕ) → slice_get xs k ≡ Some x → slice_index_or xs k x ≡ x
-    index_is [] x k e = refl
-    index_is (y ∷ xs) x zero e = cc
-    index_is (y ∷ xs) x (suc k) e = index_is xs x k e
-
-more_template : (tree : Tables) (called : TableNames) (groups : List Group) (last : Group) (name : List ℕ) (template : Template) → IsTemplateOf tree called groups name template → IsTemplateOf tree called (groups ++ last ∷ []) name template
-more_template tree called groups last name template is = record { group = is.group; first = stays (is_template name) groups (last ∷ []) is.group is.first; read = is.read }
-
-other_name : (name other : List ℕ) (last : Group) → name_of_template last ≡ Some other → (other ≡ name → ⊥) → is_template name last ≡ false
-other_name name other last named differs = ap (is_text name) named ∙ otherwise (bytes_eq other name) (λ same. differs ((bytes_eq-Decides other name).0 same))
-  where
-    otherwise : (b : Bool) → (b ≡ true → ⊥) → b ≡ false
-    otherwise true differs = absurd (differs refl)
-    otherwise false differs = refl
-
-none_more : (groups : List Group) (last : Group) (name : List ℕ) → template_in groups name ≡ None → is_template name last ≡ false → template_in (groups ++ last ∷ []) name ≡ None
-none_more groups last name none other = pushed (is_template name) groups last none ∙ ap (λ b. cond b (Some last) None) other
-
--- no group yet
-pub no_templates : (tree : Tables) (called : TableNames) (names : List (List ℕ)) (templates : List Template) → names ≡ [] → templates ≡ [] → AreTemplates tree called [] names templates
-no_templates tree called names templates no_name no_template = record {
-  even = ap length no_template ∙ sym (ap length no_name);
-  held = λ place name template at here. absurd (cc);
-  absent = λ name none. refl;
-}
-
--- a group that is no template with a name
-pub passed_over : (tree : Tables) (called : TableNames) (groups : List Group) (names : List (List ℕ)) (templates : List Template) (last : Group) → AreTemplates tree called groups names templates → name_of_template last ≡ None → AreTemplates tree called (groups ++ last ∷ []) names templates
-passed_over tree called groups names templates last so_far none = record {
-  even = so_far.even;
-  held = λ place name template at here. more_template tree called groups last name template (so_far.held place name template at here);
-  absent = λ name out. none_more groups last name (so_far.absent name out) (ap (is_text name) none);
-}
-
--- a template that is added
-pub added : (tree : Tables) (called : TableNames) (groups : List Group) (last : Group) (names : List (List ℕ)) (templates : List Template) (name : List ℕ) (template : Template) (names' : List (List ℕ)) (templates' : List Template)
-    → IsReadOf tree called (attributes_of last) template → name_of_template last ≡ Some name → AreTemplates tree called groups names templates → Adds name template names templates names' templates' → AreTemplates tree called (groups ++ last ∷ []) names' templates'
-added tree called groups last names templates name template names' templates' read named so_far (is_held held same_names same_templates) =
-    subst (λ ns. AreTemplates tree called (groups ++ last ∷ []) ns templates') (sym same_names) (subst (AreTemplates tree called (groups ++ last ∷ []) names) (sym same_templates) record {
-      even = so_far.even;
-      held = λ place other of at here. more_template tree called groups last other of (so_far.held place other of at here);
-      absent = λ other out. none_more groups last other (so_far.absent other out) (other_name other name last named (λ same. out (subst (Contains names) same held)));
-    })
-added tree called groups last names templates name template names' templates' read named so_far (is_added out more_names more_templates) =
-    subst (λ ns. AreTemplates tree called (groups ++ last ∷ []) ns templates') (sym more_names) (subst (AreTemplates tree called (groups ++ last ∷ []) (names ++ name ∷ [])) (sym more_templates) record {
-      even = length-append templates (template ∷ []) ∙ ap (λ (n : ℕ). n + 1) so_far.even ∙ sym (length-append names (name ∷ []));
-      held = λ place other of at here. elim (got_push names name other place at) [
-        | inl old ↦ elim (got_push templates template of place here) [
-          | inl before ↦ more_template tree called groups last other of (so_far.held place other of old before)
-          | inr end ↦ (let below = got_within names other place old in let even = so_far.even in let l = end.0 in absurd (omega (arith, below, even, l)))
-        ]
-        | inr end ↦ elim (got_push templates template of place here) [
-          | inl before ↦ (let below = got_within templates of place before in let even = so_far.even in let l = end.0 in absurd (omega (arith, below, even, l)))
-          | inr also ↦ subst (λ n. IsTemplateOf tree called (groups ++ last ∷ []) n of) end.1 (subst (IsTemplateOf tree called (groups ++ last ∷ []) name) also.1 (newest))
-        ]
-      ];
-      absent = λ other none. none_more groups last other (so_far.absent other (λ among. none (Contains-append_left names (name ∷ []) other among)))
-          (other_name other name last named (λ same. none (subst (Contains (names ++ name ∷ [])) same (Contains-push names name))));
-    })
-  where
-    newest : IsTemplateOf tree called (groups ++ last ∷ []) name template
-    newest = record { group = last; first = pushed (is_template name) groups last (so_far.absent name out) ∙ ap (λ b. cond b (Some last) None) (ap (is_text name) named ∙ (bytes_eq-Decides name name).1 refl); read = read }
+-- the element of a pair of lists that belongs to one of the other
+paired : {A B : Type 0} (R : A → B → Type 0) (xs : List A) (ys : List B) (k : ℕ) (y : B) → AllZip R xs ys → slice_get ys k ≡ Some y → (x : A) × ((slice_get xs k ≡ Some x) × R x y)
+paired R [] [] k y all at = absurd (cc)
+paired R [] (b ∷ ys) k y all at = absurd all
+paired R (a ∷ xs) [] k y all at = absurd all
+paired R (a ∷ xs) (b ∷ ys) zero y all at = (a, (refl, subst (R a) (some_is b y at) all.0))
+paired R (a ∷ xs) (b ∷ ys) (suc k) y all at = paired R xs ys k y all.1 at
 
 -- a table that names the built-in template
-pub named_scalar : (tree : Tables) (called : TableNames) (table : Group) (template : Template) → slice_get (args_of table) 0 ≡ Some (codes "scalar") → IsReadOf tree called [] template → IsNamedBy tree called table template
-named_scalar tree called table template at read = record { attributes = []; named = ap (option_and_then (template_named (tree_of tree))) at; read = read }
+pub named_scalar : (tree : Tables) (called : TableNames) (units : LibraryUnits) (table : Group) (template : Option Template) → slice_get (args_of table) 0 ≡ Some (codes "scalar") → IsReadOf called units [] template
+    → IsNamedBy called units (tree_of tree) table template
+named_scalar tree called units table template at read = record { attributes = []; named = ap (option_and_then (template_named (tree_of tree))) at; read = read }
 
--- a table that names another, which stands among those of the library
-pub named_other : (tree : Tables) (called : TableNames) (table : Group) (names : List (List ℕ)) (templates : List Template) (name : List ℕ) (found : Option Template)
-    → AreTemplates tree called (groups_of (tree_of tree)) names templates → slice_get (args_of table) 0 ≡ Some name → bytes_eq name (codes "scalar") ≡ false
-    → IfSome found (IsUnder names templates name) → IfSome found (IsNamedBy tree called table)
-named_other tree called table names templates name None are at other under = tt
-named_other tree called table names templates name (Some template) are at other under =
-    let of = are.held under.place name template under.named under.here in
+-- what a name stands for that is not built in
+named_other : (library table : Group) (name : List ℕ) → slice_get (args_of table) 0 ≡ Some name → bytes_eq name (codes "scalar") ≡ false
+    → template_of library table ≡ option_map attributes_of (group_for (codes "lu_table_template") name library)
+named_other library table name at other =
+    ap (option_and_then (template_named library)) at
+    ∙ ap (λ (b : Bool). if b then Some [] else option_map attributes_of (group_for (codes "lu_table_template") name library)) other
+
+-- a table that names one of the library
+pub named_held : (tree : Tables) (called : TableNames) (units : LibraryUnits) (templates : Templates) (table : Group) (name : List ℕ) (template : Option Template)
+    → AreTemplates tree called units templates → slice_get (args_of table) 0 ≡ Some name → bytes_eq name (codes "scalar") ≡ false
+    → IsUnder templates.index.args templates.read.items name template → IsNamedBy called units (tree_of tree) table template
+named_held tree called units templates table name template are at other under =
+    let of = paired (IsReadAt tree called units) templates.index.groups.items templates.read.items under.place template are.read under.here in
     record {
-      attributes = attributes_of of.group;
-      named = ap (option_and_then (template_named (tree_of tree))) at
-          ∙ ap (λ (b : Bool). if b then Some [] else option_map attributes_of (template_in (groups_of (tree_of tree)) name)) other
-          ∙ ap (option_map attributes_of) of.first;
-      read = of.read;
+      attributes = attributes_of (group_at tree of.0.0);
+      named = named_other (tree_of tree) table name at other
+          ∙ ap (option_map attributes_of) (found_first tree (codes "lu_table_template") (tree_of tree) templates.index.args templates.index.groups.items under.place name of.0 are.indexed under.named of.1.0);
+      read = of.1.1;
     }
 
--- the same of one group after another
-pub taken : (tree : Tables) (called : TableNames) (groups : List Group) (place : ℕ) (last : Group) (names : List (List ℕ)) (templates : List Template) → slice_get groups place ≡ Some last → AreTemplates tree called (take place groups ++ last ∷ []) names templates → AreTemplates tree called (take (place + 1) groups) names templates
-taken tree called groups place last names templates at are =
-    let next : suc place ≡ place + 1 = omega arith in
-    subst (λ (n : ℕ). AreTemplates tree called (take n groups) names templates) next (subst (λ gs. AreTemplates tree called gs names templates) (sym (take_suc groups place last at)) are)
-  where
-    take_suc : {X : Type 0} (xs : List X) (k : ℕ) (x : X) → slice_get xs k ≡ Some x → take (suc k) xs ≡ take k xs ++ x ∷ []
-    take_suc [] k x e = absurd (cc)
-    take_suc (y ∷ xs) zero x e = let same : y ≡ x = cc in ap (λ z. z ∷ []) same
-    take_suc (y ∷ xs) (suc k) x e = ap (λ zs. y ∷ zs) (take_suc xs k x e)
+-- and one that names none
+pub named_none : (tree : Tables) (called : TableNames) (units : LibraryUnits) (templates : Templates) (table : Group) (name : List ℕ)
+    → AreTemplates tree called units templates → slice_get (args_of table) 0 ≡ Some name → bytes_eq name (codes "scalar") ≡ false
+    → ¬ Contains templates.index.args name → template_of (tree_of tree) table ≡ None
+named_none tree called units templates table name are at other out =
+    named_other (tree_of tree) table name at other
+    ∙ ap (option_map attributes_of) (absent_first tree (codes "lu_table_template") (tree_of tree) templates.index.args templates.index.groups.items name are.indexed out)
+
+-- ---- what it says, where its variables are known, and where not
+
+module _ (called : TableNames) (units : LibraryUnits) (library table : Group) (read : Option Template) (by : IsNamedBy called units library table read) where
+  pub no_known : read ≡ None → variables_of called by.attributes ≡ None
+  no_known is = sym by.read.variables ∙ ap (option_map (λ (t : Template). t.variables)) is
+
+  pub laid_out : (template : Template) → read ≡ Some template → HasVariables called library table by.attributes template.variables
+  laid_out template is = record { named = by.named; known = sym by.read.variables ∙ ap (option_map (λ (t : Template). t.variables)) is }
+
+  pub first_of : (template : Template) → read ≡ Some template → PointsMean called units (codes "index_1") [] by.attributes template.variables.first template.first
+  first_of template is = subst (λ r. IfSome r (λ (t : Template). PointsMean called units (codes "index_1") [] by.attributes t.variables.first t.first)) is by.read.first
+
+  pub second_of : (template : Template) → read ≡ Some template → PointsMean called units (codes "index_2") [] by.attributes template.variables.second template.second
+  second_of template is = subst (λ r. IfSome r (λ (t : Template). PointsMean called units (codes "index_2") [] by.attributes t.variables.second t.second)) is by.read.second

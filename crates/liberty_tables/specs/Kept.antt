@@ -1,5 +1,5 @@
 -- What is kept of the pieces of a list that have been read.
-use Rattle.std.specs.Prelude.{ℕ, Bool, true, false, ℤ, List, [], ◌++◌, All, Option, unwrap_or}
+use Rattle.std.specs.Prelude.{ℕ, Bool, true, false, ℤ, List, [], ◌++◌, All, Option, unwrap_or, Result, Err}
 use Rattle.std.specs.Option.{option_map}
 use Rattle.delay_units.specs.declared.numbers.Unit.{Unit}
 use Rattle.liberty_groups.specs.Tables.{Tables, attribute_at}
@@ -45,3 +45,8 @@ refusal_of NoMemory = OutOfMemory
 abbrev pub table_refusal : TableFault → CellFault
 table_refusal (ValueCount want got) = BadTable
 table_refusal NoRoom = OutOfMemory
+
+-- an answer that is handed out once more, which may take a count that there is not
+pub data IsCopy (answer : Result (List ℕ) CellFault) : Result (List ℕ) CellFault → Type 0 where
+  is_same : IsCopy answer answer
+  no_count : IsCopy answer (Err OutOfMemory)

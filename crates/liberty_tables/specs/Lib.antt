@@ -1,5 +1,6 @@
 pub mod Attributes
 pub mod FullTables
+pub mod GroupIndex
 pub mod Kept
 pub mod Library
 pub mod LibraryUnits

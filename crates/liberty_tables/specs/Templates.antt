@@ -1,35 +1,19 @@
 -- The templates of a library (Liberty, lu_table_template), and the variables of a table's axes.
-use Rattle.std.specs.Prelude.{ℕ, Bool, false, List, [], Option, Some, None, codes, slice_get, find, if◌then◌else◌}
+use Rattle.std.specs.Prelude.{ℕ, List, [], Option, Some, None, codes, slice_get, if◌then◌else◌}
 use Rattle.std.specs.Str.{bytes_eq}
 use Rattle.std.specs.Option.{option_map, option_and_then}
-use Rattle.liberty_groups.specs.Groups.{Attribute, Group, name_of, args_of, attributes_of, groups_of}
+use Rattle.liberty_groups.specs.Groups.{Attribute, Group, args_of, attributes_of}
 use Rattle.nldm_lookup.specs.declared.faults.Which.{Which}
 use Rattle.nldm_lookup.specs.declared.faults.Which.TheVariants.{Slew, Load}
 use Rattle.liberty_tables.specs.Attributes.{simple_of}
+use Rattle.liberty_tables.specs.Library.{group_for}
 use Rattle.liberty_tables.specs.declared.table_names.TableNames.{TableNames}
 use Rattle.liberty_tables.specs.declared.templates.Variables.{Variables}
 
--- the name of a template, which is its first argument; no other group has one
-abbrev pub name_of_template : Group → Option (List ℕ)
-name_of_template some = if bytes_eq (name_of some) (codes "lu_table_template") then slice_get (args_of some) 0 else None
-
--- a text that stands, and is this one
-abbrev pub is_text : List ℕ → Option (List ℕ) → Bool
-is_text name None = false
-is_text name (Some text) = bytes_eq text name
-
--- a template of this name
-abbrev pub is_template : List ℕ → Group → Bool
-is_template name some = is_text name (name_of_template some)
-
--- the first template of a name among some groups
-abbrev pub template_in : List Group → List ℕ → Option Group
-template_in groups name = find (is_template name) groups
-
 -- the attributes of the template of a name in a library: of the first one, and none of `scalar`, which is built in
 abbrev pub template_named : Group → List ℕ → Option (List Attribute)
-template_named library name = if bytes_eq name (codes "scalar") then Some [] else option_map attributes_of
-    (template_in (groups_of library) name)
+template_named library name =
+    if bytes_eq name (codes "scalar") then Some [] else option_map attributes_of (group_for (codes "lu_table_template") name library)
 
 -- the attributes of the template that a table names by its first argument
 abbrev pub template_of : Group → Group → Option (List Attribute)

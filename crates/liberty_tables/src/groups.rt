@@ -35,7 +35,8 @@ pub fn is_named(tree: &GroupTree, group: GroupId, name: &[u8]) -> bool
     tree.name(group).bytes() == name
 }
 
-fn first_arg<'a>(tree: &'a GroupTree, group: GroupId) -> Option<&'a [u8]>
+/// The first argument of a group.
+pub(crate) fn first_arg<'a>(tree: &'a GroupTree, group: GroupId) -> Option<&'a [u8]>
     requires { IsGroup tree.now group.0 }
     ensures { option_copied result ≡ first_arg (group_at tree.now group.0) }
 {

@@ -4,6 +4,7 @@
 
 mod attribute_texts;
 mod faults;
+mod group_index;
 mod groups;
 mod laws;
 mod library_units;
@@ -15,6 +16,7 @@ mod templates;
 mod units;
 
 pub use faults::CellFault;
+pub use group_index::GroupIndex;
 pub use groups::{first_group, group_for, is_named, value_in};
 pub use laws::one_table;
 pub use library_units::LibraryUnits;

@@ -1,13 +1,11 @@
 //! The axes of tables (Liberty, `index_1` and `index_2`).
-ghost use Rattle.std.specs.Prelude.{◌≡◌, ◌↔◌, ℤ, pos, ◌≤ℤ◌, List, All, IsTrue, IfSome, unwrap_or};
+ghost use Rattle.std.specs.Prelude.{◌≡◌, ◌↔◌, ℕ, ℤ, pos, ◌≤ℤ◌, List, [], All, IsTrue, IfSome};
 ghost use Rattle.liberty_groups.specs.Groups.{Attribute, attributes_of};
 ghost use Rattle.liberty_groups.specs.Tables.{group_at, IsGroup, IsAttribute};
 ghost use Rattle.nldm_lookup.specs.Tables.{IsSmall};
-ghost use Rattle.liberty_tables.specs.Attributes.{values_of};
-ghost use Rattle.liberty_tables.specs.Kept.{texts_of, refusal_of};
+ghost use Rattle.liberty_tables.specs.Kept.{texts_of, refusal_of, IsCopy};
 ghost use Rattle.liberty_tables.specs.NumberLists.{pieces_of};
-ghost use Rattle.liberty_tables.specs.TableModel.{IsAxisOf, AxisMeans, PointsMean, unit_of};
-ghost use Rattle.liberty_tables.specs.TemplateIndex.{IsIndexOf};
+ghost use Rattle.liberty_tables.specs.TableModel.{IsAxisOf, AxisMeans, PointsMean, unit_of, index_of};
 
 use crate::attribute_texts::last_of;
 use crate::faults::CellFault;
@@ -68,25 +66,6 @@ fn read_axis(
     }
 }
 
-// The index of a table: its own in place of the template's, which is then not read.
-fn index_of(
-    tree: &GroupTree,
-    table: GroupId,
-    key: &[u8],
-    of_template: Option<AttrId>,
-) -> Option<AttrId>
-    requires table { IsGroup tree.now table.0 }
-    requires template { IfSome of_template (λ a. IsAttribute tree.now a.0) }
-    ensures texts { texts_of tree.now result
-        ≡ unwrap_or (values_of key.now (attributes_of (group_at tree.now table.0))) (texts_of tree.now of_template) }
-    ensures within { IfSome result (λ a. IsAttribute tree.now a.0) }
-{
-    match last_of(tree, table, key) {
-        Some(index) => Some(index),
-        None => of_template,
-    }
-}
-
 impl LibraryUnits {
     // The unit of an axis.
     fn of(&self, called: &TableNames, which: Which) -> &Unit
@@ -105,27 +84,55 @@ impl LibraryUnits {
     }
 }
 
-/// The axis of a variable of a table, by its index, or where it has none of its own by that of its template; and the axis of the one point
-/// 0,
-/// where there is no variable.
+/// The axis of a variable by an index, if that stands; and the axis of the one point 0, where there is no variable.
+pub(crate) fn axis_at(
+    alloc: Global,
+    tree: &GroupTree,
+    index: Option<AttrId>,
+    called: &TableNames,
+    units: &LibraryUnits,
+    variable: Option<Which>,
+) -> Result<Axis, CellFault>
+    requires { IfSome index (λ a. IsAttribute tree.now a.0) }
+    ensures { (key : List ℕ) (table template : List Attribute) → texts_of tree.now index ≡ index_of key table template
+        → PointsMean called.now units.now key table template variable result }
+{
+    let Some(which) = variable else {
+        return axis_of(alloc, &[0]);
+    };
+    read_axis(alloc, tree, index, units.of(called, which))
+}
+
+// The same axis, which is shared, or the same fault.
+fn copied(axis: &Result<Axis, CellFault>) -> Result<Axis, CellFault>
+    ensures { IsCopy axis.now result }
+{
+    match axis {
+        Ok(axis) => match axis.copied() {
+            Ok(copy) => Ok(copy),
+            Err(_) => Err(CellFault::OutOfMemory),
+        },
+        Err(fault) => Err(*fault),
+    }
+}
+
+/// The axis of a variable of a table, by its own index, or where it has none by that of its template, which has been read.
 pub(crate) fn axis_of_variable(
     alloc: Global,
     tree: &GroupTree,
     table: GroupId,
     key: &[u8],
-    of_template: Option<AttrId>,
+    of_template: &Result<Axis, CellFault>,
     called: &TableNames,
     units: &LibraryUnits,
     variable: Option<Which>,
 ) -> Result<Axis, CellFault>
-    requires table { IsGroup tree.now table.0 }
-    requires template { IfSome of_template (λ a. IsAttribute tree.now a.0) }
-    ensures { (template : List Attribute) → IsIndexOf tree.now key.now template of_template
+    requires { IsGroup tree.now table.0 }
+    ensures { (template : List Attribute) → PointsMean called.now units.now key.now [] template variable of_template.now
         → PointsMean called.now units.now key.now (attributes_of (group_at tree.now table.0)) template variable result }
 {
-    let Some(which) = variable else {
-        return axis_of(alloc, &[0]);
-    };
-    let index = index_of(tree, table, key, of_template);
-    read_axis(alloc, tree, index, units.of(called, which))
+    match last_of(tree, table, key) {
+        Some(index) => axis_at(alloc, tree, Some(index), called, units, variable),
+        None => copied(of_template),
+    }
 }

@@ -1,6 +1,5 @@
 //! The tables of a library (Liberty, `cell_rise`, `rise_transition` and the like).
 ghost use Rattle.std.specs.Prelude.{◌≡◌, ◌↔◌, ℤ, pos, ◌≤ℤ◌, All, IsTrue, IfOk, IfErr};
-ghost use Rattle.liberty_groups.specs.Groups.{groups_of};
 ghost use Rattle.liberty_groups.specs.Tables.{tree_of, group_at, IsGroup};
 ghost use Rattle.nldm_lookup.specs.Tables.{IsSmall};
 ghost use Rattle.liberty_tables.specs.Kept.{table_refusal};
@@ -104,15 +103,15 @@ fn build(
     units: &LibraryUnits,
 ) -> Result<Built, CellFault>
     requires group { IsGroup tree.now group.0 }
-    requires templates { AreTemplates tree.now called.now (groups_of (tree_of tree.now)) templates.now.names templates.now.read.items }
+    requires templates { AreTemplates tree.now called.now units.now templates.now }
     ensures table { IfOk result (λ built. TableMeans called.now (tree_of tree.now) (group_at tree.now group.0) units.now (Ok built.table)) }
     ensures settled { IfOk result (λ built. IsTrue built.is_settled ↔ All (λ value. pos 0 ≤ℤ value) built.table.values) }
     ensures fault { IfErr result (λ fault. TableMeans called.now (tree_of tree.now) (group_at tree.now group.0) units.now (Err fault)) }
 {
-    let Some(template) = templates.of_table(tree, called, group) else {
+    let Some(read) = templates.of_table(tree, group) else {
         return Err(CellFault::UnknownTemplate);
     };
-    let Some(variables) = template.variables else {
+    let Some(template) = read else {
         return Err(CellFault::UnknownVariable);
     };
     let first = axis_of_variable(
@@ -120,23 +119,29 @@ fn build(
         tree,
         group,
         b"index_1",
-        template.first_index,
+        &template.first,
         called,
         units,
-        variables.first,
+        template.variables.first,
     )?;
     let second = axis_of_variable(
         alloc,
         tree,
         group,
         b"index_2",
-        template.second_index,
+        &template.second,
         called,
         units,
-        variables.second,
+        template.variables.second,
     )?;
     let values = read_values(alloc, tree, group, &units.time)?;
-    let table = table_over(alloc, variables.first, first, second, values.as_slice())?;
+    let table = table_over(
+        alloc,
+        template.variables.first,
+        first,
+        second,
+        values.as_slice(),
+    )?;
     let is_settled = none_below_zero(values.as_slice());
     Ok(Built { table, is_settled })
 }
@@ -153,7 +158,7 @@ pub fn build_table(
     units: &LibraryUnits,
 ) -> Result<Table, CellFault>
     requires group { IsGroup tree.now group.0 }
-    requires templates { AreTemplates tree.now called.now (groups_of (tree_of tree.now)) templates.now.names templates.now.read.items }
+    requires templates { AreTemplates tree.now called.now units.now templates.now }
     ensures means { TableMeans called.now (tree_of tree.now) (group_at tree.now group.0) units.now result }
 {
     match build(alloc, tree, group, called, templates, units) {
@@ -172,7 +177,7 @@ pub fn build_transition(
     units: &LibraryUnits,
 ) -> Result<Table, CellFault>
     requires group { IsGroup tree.now group.0 }
-    requires templates { AreTemplates tree.now called.now (groups_of (tree_of tree.now)) templates.now.names templates.now.read.items }
+    requires templates { AreTemplates tree.now called.now units.now templates.now }
     ensures means { TransitionMeans called.now (tree_of tree.now) (group_at tree.now group.0) units.now result }
 {
     let built = build(alloc, tree, group, called, templates, units)?;

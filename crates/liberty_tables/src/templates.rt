@@ -1,22 +1,25 @@
 //! The templates of a library (Liberty, `lu_table_template`).
-ghost use Rattle.std.specs.Prelude.{◌≡◌, ◌<◌, ◌++◌, ◌∷◌, [], List, None, length, IfOk, OnOk, IfSome, IfNone, Contains};
+ghost use Rattle.std.specs.Prelude.{◌≡◌, ◌<◌, [], None, length, All, codes, IfOk, IfSome, IfNone, Contains};
 ghost use Rattle.std.specs.Option.{option_copied};
-ghost use Rattle.liberty_groups.specs.Groups.{Group, groups_of, attributes_of};
-ghost use Rattle.liberty_groups.specs.Tables.{Tables, tree_of, group_at, IsGroup};
-ghost use Rattle.liberty_tables.specs.Templates.{axis_of, both, variables_by, variables_of, template_of, name_of_template};
+ghost use Rattle.std.specs.List.{AllZip};
+ghost use Rattle.liberty_groups.specs.Groups.{attributes_of};
+ghost use Rattle.liberty_groups.specs.Tables.{tree_of, group_at, IsGroup};
+ghost use Rattle.liberty_tables.specs.declared.library_units.LibraryUnits.{LibraryUnits};
 ghost use Rattle.liberty_tables.specs.declared.table_names.TableNames.{TableNames};
-ghost use Rattle.liberty_tables.specs.TemplateIndex.{AreTemplates, IsReadOf, IsNamedBy, IsIndexOf, Adds, IsUnder};
+ghost use Rattle.liberty_tables.specs.TableModel.{PointsMean};
+ghost use Rattle.liberty_tables.specs.Templates.{axis_of, both, variables_by, variables_of, template_of};
+ghost use Rattle.liberty_tables.specs.TemplateIndex.{AreTemplates, IsReadOf, IsReadAt, IsNamedBy, IsUnder};
 
 use crate::attribute_texts::{last_of, simple};
+use crate::faults::CellFault;
+use crate::group_index::GroupIndex;
+use crate::library_units::LibraryUnits;
+use crate::table_axes::axis_at;
 use crate::table_names::TableNames;
 use edge_io::OutOfMemory;
-use liberty_groups::{AttrId, GroupId, GroupTree};
-use name_table::Names;
-use nldm_lookup::Which;
+use liberty_groups::{GroupId, GroupTree};
+use nldm_lookup::{Axis, Which};
 use std::alloc::Global;
-
-/// A table of names has room for so many. More templates take more memory than there is.
-const MOST_TEMPLATES: usize = 1 << 30;
 
 /// The variables of a template, which have the axes of its tables, in order.
 #[derive(Clone, Copy, Debug)]
@@ -89,157 +92,199 @@ fn variables_of(tree: &GroupTree, called: &TableNames, group: GroupId) -> Option
     )
 }
 
-// The last attribute of a name in a group that is a template.
-fn index_of(tree: &GroupTree, group: GroupId, key: &[u8]) -> Option<AttrId>
-    requires { IsGroup tree.now group.0 }
-    ensures { IsIndexOf tree.now key.now (attributes_of (group_at tree.now group.0)) result }
-{
-    last_of(tree, group, key)
-}
-
-/// What the tables that name a template ask of it: its variables, if they are known ones, and the last attribute of each index. It is read
-/// off the template's group once, however many tables name it.
-#[derive(Clone, Copy, Debug)]
+/// What a template with known variables says to a table that has no index of its own: its variables, and the axis of each, or its fault. It
+/// is read once, however many tables name it.
+#[derive(Drop)]
 pub struct Template {
-    pub variables: Option<Variables>,
-    pub first_index: Option<AttrId>,
-    pub second_index: Option<AttrId>,
+    pub variables: Variables,
+    pub first: Result<Axis, CellFault>,
+    pub second: Result<Axis, CellFault>,
 }
 
-impl Template {
-    // The built-in one, which has no axis.
-    fn built_in() -> Template
-        ensures { (tree : Tables) (called : TableNames) → IsReadOf tree called [] result }
-    {
-        Template {
-            variables: Some(Variables {
-                first: None,
-                second: None,
-            }),
-            first_index: None,
-            second_index: None,
-        }
-    }
-
-    // That of a group.
-    fn of_group(tree: &GroupTree, called: &TableNames, group: GroupId) -> Template
-        requires { IsGroup tree.now group.0 }
-        ensures { IsReadOf tree.now called.now (attributes_of (group_at tree.now group.0)) result }
-    {
-        Template {
-            variables: variables_of(tree, called, group),
-            first_index: index_of(tree, group, b"index_1"),
-            second_index: index_of(tree, group, b"index_2"),
-        }
+// An axis or its fault, but for want of memory.
+fn kept(axis: Result<Axis, CellFault>) -> Result<Result<Axis, CellFault>, OutOfMemory>
+    ensures { IfOk result (λ kept. kept ≡ axis) }
+{
+    match axis {
+        Ok(axis) => Ok(Ok(axis)),
+        Err(CellFault::OutOfMemory) => Err(OutOfMemory),
+        Err(fault) => Ok(Err(fault)),
     }
 }
 
-/// The first template of each name in a library.
+// The axis of a variable by the index of a group that is a template.
+fn index_axis(
+    alloc: Global,
+    tree: &GroupTree,
+    group: GroupId,
+    key: &[u8],
+    called: &TableNames,
+    units: &LibraryUnits,
+    variable: Option<Which>,
+) -> Result<Result<Axis, CellFault>, OutOfMemory>
+    requires { IsGroup tree.now group.0 }
+    ensures { IfOk result (PointsMean called.now units.now key.now [] (attributes_of (group_at tree.now group.0)) variable) }
+{
+    kept(axis_at(
+        alloc,
+        tree,
+        last_of(tree, group, key),
+        called,
+        units,
+        variable,
+    ))
+}
+
+// The axis of no variable.
+fn point_axis(
+    alloc: Global,
+    tree: &GroupTree,
+    called: &TableNames,
+    units: &LibraryUnits,
+) -> Result<Result<Axis, CellFault>, OutOfMemory>
+    ensures first { IfOk result (PointsMean called.now units.now (codes "index_1") [] [] None) }
+    ensures second { IfOk result (PointsMean called.now units.now (codes "index_2") [] [] None) }
+{
+    kept(axis_at(alloc, tree, None, called, units, None))
+}
+
+// What a group that is a template says.
+fn read_template(
+    alloc: Global,
+    tree: &GroupTree,
+    group: GroupId,
+    called: &TableNames,
+    units: &LibraryUnits,
+) -> Result<Option<Template>, OutOfMemory>
+    requires { IsGroup tree.now group.0 }
+    ensures { IfOk result (IsReadAt tree.now called.now units.now group) }
+{
+    let Some(variables) = variables_of(tree, called, group) else {
+        return Ok(None);
+    };
+    let first = index_axis(
+        alloc,
+        tree,
+        group,
+        b"index_1",
+        called,
+        units,
+        variables.first,
+    )?;
+    let second = index_axis(
+        alloc,
+        tree,
+        group,
+        b"index_2",
+        called,
+        units,
+        variables.second,
+    )?;
+    Ok(Some(Template {
+        variables,
+        first,
+        second,
+    }))
+}
+
+// What the built-in template says, which has no axis.
+fn read_built_in(
+    alloc: Global,
+    tree: &GroupTree,
+    called: &TableNames,
+    units: &LibraryUnits,
+) -> Result<Option<Template>, OutOfMemory>
+    ensures { IfOk result (IsReadOf called.now units.now []) }
+{
+    let first = point_axis(alloc, tree, called, units)?;
+    let second = point_axis(alloc, tree, called, units)?;
+    let variables = Variables {
+        first: None,
+        second: None,
+    };
+    Ok(Some(Template {
+        variables,
+        first,
+        second,
+    }))
+}
+
+// What the groups of an index say.
+fn read_all(
+    alloc: Global,
+    tree: &GroupTree,
+    index: &GroupIndex,
+    called: &TableNames,
+    units: &LibraryUnits,
+) -> Result<Vec<Option<Template>>, OutOfMemory>
+    requires { All (λ id. IsGroup tree.now id.0) index.now.groups.items }
+    ensures { IfOk result (λ read. AllZip (IsReadAt tree.now called.now units.now) index.now.groups.items read.items) }
+{
+    let mut read = Vec::new(alloc);
+    for place in 0..index.groups.len() {
+        let template = read_template(alloc, tree, index.group(place), called, units)?;
+        if read.push(template).is_err() {
+            return Err(OutOfMemory);
+        }
+    }
+    Ok(read)
+}
+
+/// The templates of a library: the first of each name, and the built-in one.
 #[derive(Drop)]
 pub struct Templates {
-    pub names: Names,
-    pub read: Vec<Template>,
-}
-
-// The name of a group that is a template with a name.
-fn template_name(tree: &GroupTree, group: GroupId) -> Option<&[u8]>
-    requires { IsGroup tree.now group.0 }
-    ensures { option_copied result ≡ name_of_template (group_at tree.now group.0) }
-{
-    if tree.name(group).bytes() != b"lu_table_template".as_slice() || tree.arg_count(group) == 0 {
-        return None;
-    }
-    Some(tree.arg(group, 0).bytes())
+    pub index: GroupIndex,
+    pub read: Vec<Option<Template>>,
+    pub built_in: Option<Template>,
 }
 
 impl Templates {
-    /// The templates of the library that is the root of a tree. It takes one pass over the groups in it, and a few over the attributes of
-    /// each
-    /// template.
+    /// The templates of the library that is the root of a tree, read in its units. It takes one pass over the groups in it, and a few over
+    /// the attributes of each template.
     pub fn new(
         alloc: Global,
         tree: &GroupTree,
         called: &TableNames,
+        units: &LibraryUnits,
     ) -> Result<Templates, OutOfMemory>
         requires { 0 < length tree.now.rows }
-        ensures { IfOk result (λ templates. AreTemplates tree.now called.now (groups_of (tree_of tree.now)) templates.names templates.read.items) }
+        ensures { IfOk result (AreTemplates tree.now called.now units.now) }
     {
-        let library = tree.root();
-        let mut templates = Templates {
-            names: Names::new(alloc),
-            read: Vec::new(alloc),
-        };
-        for place in 0..tree.child_count(library) {
-            templates.add_group(tree, called, tree.child(library, place))?;
-        }
-        Ok(templates)
+        let index = GroupIndex::new(alloc, tree, tree.root(), b"lu_table_template")?;
+        let read = read_all(alloc, tree, &index, called, units)?;
+        let built_in = read_built_in(alloc, tree, called, units)?;
+        Ok(Templates {
+            index,
+            read,
+            built_in,
+        })
     }
 
-    // Adds a group, if it is a template, and none of its name came before.
-    fn add_group(
-        &mut self,
-        tree: &GroupTree,
-        called: &TableNames,
-        group: GroupId,
-    ) -> Result<(), OutOfMemory>
-        requires { IsGroup tree.now group.0 }
-        ensures { OnOk result ((groups : List Group) → AreTemplates tree.now called.now groups self.old.names self.old.read.items
-            → AreTemplates tree.now called.now (groups ++ group_at tree.now group.0 ∷ []) self.new.names self.new.read.items) }
+    // What the first template of a name in the library says.
+    fn find(&self, name: &[u8]) -> Option<&Option<Template>>
+        requires { length self.now.read.items ≡ length self.now.index.args }
+        ensures found { IfSome result (λ template. IsUnder self.now.index.args self.now.read.items name.now template.now) }
+        ensures absent { IfNone result (¬ Contains self.now.index.args name.now) }
     {
-        let Some(name) = template_name(tree, group) else {
-            return Ok(());
-        };
-        self.add(name, Template::of_group(tree, called, group))?;
-        Ok(())
+        let place = self.index.place_of(name)?;
+        Some(&self.read[place])
     }
 
-    // Adds a template, unless one of its name came before.
-    fn add(&mut self, name: &[u8], template: Template) -> Result<(), OutOfMemory>
-        ensures { OnOk result (Adds name.now template self.old.names self.old.read.items self.new.names self.new.read.items) }
-    {
-        if self.names.find(name).is_some() {
-            return Ok(());
-        }
-        if self.names.len() >= MOST_TEMPLATES {
-            return Err(OutOfMemory);
-        }
-        match self.read.push(template) {
-            Ok(_) => {}
-            Err(_) => return Err(OutOfMemory),
-        }
-        let _id = self.names.intern(name)?;
-        Ok(())
-    }
-
-    // The first template of a name in the library.
-    fn find(&self, name: &[u8]) -> Option<Template>
-        requires { length self.now.read.items ≡ length self.now.names }
-        ensures found { IfSome result (IsUnder self.now.names self.now.read.items name.now) }
-        ensures absent { IfNone result (¬ Contains self.now.names name.now) }
-    {
-        let place = self.names.find(name)?;
-        Some(self.read[place.0 as usize])
-    }
-
-    /// The template that a table names by its first argument. It is one look-up.
-    #[tactic(auto, using(crate::proofs::TemplateLemmas::named_scalar, crate::proofs::TemplateLemmas::named_other))]
-    pub fn of_table(
-        &self,
-        tree: &GroupTree,
-        called: &TableNames,
-        table: GroupId,
-    ) -> Option<Template>
-        requires templates { AreTemplates tree.now called.now (groups_of (tree_of tree.now)) self.now.names self.now.read.items }
+    /// What the template says that a table names by its first argument. It is one look-up.
+    pub fn of_table(&self, tree: &GroupTree, table: GroupId) -> Option<&Option<Template>>
+        requires even { length self.now.read.items ≡ length self.now.index.args }
         requires table { IsGroup tree.now table.0 }
-        ensures named { IfSome result (IsNamedBy tree.now called.now (group_at tree.now table.0)) }
-        ensures absent { IfNone result (template_of (tree_of tree.now) (group_at tree.now table.0) ≡ None) }
+        ensures named { (called : TableNames) (units : LibraryUnits) → AreTemplates tree.now called units self.now
+            → IfSome result (λ template. IsNamedBy called units (tree_of tree.now) (group_at tree.now table.0) template.now) }
+        ensures absent { (called : TableNames) (units : LibraryUnits) → AreTemplates tree.now called units self.now
+            → IfNone result (template_of (tree_of tree.now) (group_at tree.now table.0) ≡ None) }
     {
         if tree.arg_count(table) == 0 {
             return None;
         }
         let name = tree.arg(table, 0).bytes();
         if name == b"scalar".as_slice() {
-            return Some(Template::built_in());
+            return Some(&self.built_in);
         }
         self.find(name)
     }

@@ -1,5 +1,5 @@
 -- The questions of an edge.
-use Rattle.std.proofs.Common.{◌≡◌, [], ◌∷◌, All, Option, Some, None, Result, Ok, Err, OnOk, IfErr, subst}
+use Rattle.std.proofs.Common.{◌≡◌, [], ◌∷◌, All, Option, Some, None, Result, Ok, Err, OnOk, IfOk, IfErr, subst}
 use Rattle.std.proofs.lemmas.List.Elements.{All-nil, All-cons}
 use Rattle.nldm_lookup.specs.Tables.{TimingTable}
 use Rattle.liberty_groups.specs.Groups.{Group}
@@ -37,6 +37,9 @@ pub none_sound : (library : Group) (slew : Option Group) → All (IsSound librar
 none_sound library slew = All-nil (IsSound library)
 
 -- the same of the groups that are found
+pub ok_found : (r : Result (Option EdgeTables) CellFault) (library : Group) {d d' s s' : Option Group} → d ≡ d' → s ≡ s' → IfOk r (AreEdgeTables library d s) → IfOk r (AreEdgeTables library d' s')
+ok_found r library {d} {d'} {s} {s'} e f is = subst (λ x. IfOk r (AreEdgeTables library x s')) e (subst (λ x. IfOk r (AreEdgeTables library d x)) f is)
+
 pub sound_found : {T : Type 0} (r : Result T CellFault) (library : Group) {d d' s s' : Option Group} → d ≡ d' → s ≡ s' → OnOk r (All (IsSound library) (edge_questions d s)) → OnOk r (All (IsSound library) (edge_questions d' s'))
 sound_found r library {d} {d'} {s} {s'} e f is = subst (λ x. OnOk r (All (IsSound library) (edge_questions x s'))) e (subst (λ x. OnOk r (All (IsSound library) (edge_questions d x))) f is)
 

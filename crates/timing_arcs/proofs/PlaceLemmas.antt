@@ -17,7 +17,7 @@ use Rattle.timing_arcs.specs.PinModel.{PinEntry, is_pin_of, direction_of, IsPin}
 use Rattle.timing_arcs.specs.PinTable.{entry_at, entries_in}
 use Rattle.timing_arcs.specs.DelayGroups.{is_pin_in, is_input_in}
 use Rattle.timing_arcs.specs.RelatedPins.{IsAt, IsPlaceOf, input_pin, other_pin, ArePlaces, IsUnrelated, unknown_name, no_places_memory}
-use Rattle.liberty_tables.proofs.Fronts.{some_is, zip_push}
+use Rattle.liberty_tables.proofs.Fronts.{some_is, zip_push, zip_length}
 use Rattle.timing_arcs.proofs.PinLemmas.{held_by_name, names_of_entries, entries_length, name_held, name_absent}
 
 -- ---- a name that is looked up
@@ -102,12 +102,6 @@ place_is test library tree names ids pins name k pin apart even all e f =
     let below = slice_get_within names k name e in
     let id = got_below ids k (omega (arith, below, even)) in
     way_at test tree names ids name k id.0 apart e id.1 ∙ ap test (pin_at library tree names ids pins k id.0 pin name all e id.1 f)
-
-pub zip_length : {A B : Type 0} (R : A → B → Type 0) (xs : List A) (ys : List B) → AllZip R xs ys → length xs ≡ length ys
-zip_length R [] [] all = refl
-zip_length R [] (y ∷ ys) all = absurd all
-zip_length R (x ∷ xs) [] all = absurd all
-zip_length R (x ∷ xs) (y ∷ ys) all = ap suc (zip_length R xs ys all.1)
 
 -- a name that stands at a place has a pin there
 pub pin_below : (library : Group) (tree : Tables) (names : List (List ℕ)) (ids : List GroupId) (pins : List Pin) (name : List ℕ) (k : ℕ) → length names ≡ length ids → AllZip (IsPin library) (entries_in tree names ids) pins

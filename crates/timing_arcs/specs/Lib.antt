@@ -5,6 +5,7 @@ pub mod CopiedArcs
 pub mod DelayGroups
 pub mod DelayTables
 pub mod LibraryBasis
+pub mod LibraryIndex
 pub mod OneAnswer
 pub mod PinModel
 pub mod PinReadings

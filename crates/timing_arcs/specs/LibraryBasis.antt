@@ -1,26 +1,28 @@
 -- What the tables of all cells of a library stand on.
-use Rattle.std.specs.Prelude.{◌≡◌, ℕ, List, [], ◌++◌, map, Option, All, if◌then◌else◌}
+use Rattle.std.specs.Prelude.{◌≡◌, ℕ, List, [], ◌++◌, map, Option, IfSome, IfNone, All, if◌then◌else◌}
 use Rattle.std.specs.List.{AllZip}
-use Rattle.liberty_groups.specs.Groups.{Group, groups_of}
+use Rattle.liberty_groups.specs.Groups.{Group}
 use Rattle.liberty_groups.specs.Tables.{Tables, tree_of}
 use Rattle.liberty_tables.specs.LibraryUnits.{AreUnits}
-use Rattle.timing_arcs.specs.PinModel.{PinEntry}
+use Rattle.timing_arcs.specs.PinModel.{PinEntry, IsCapacitance, default_texts}
 use Rattle.timing_arcs.specs.DelayGroups.{is_delay_group, kind_of, ArcEntry, arcs_in, IsRise, IsFall, IsArc}
 use Rattle.timing_arcs.specs.CellFaults.{Question, delay_questions, IsSound}
 use Rattle.liberty_tables.specs.TemplateIndex.{AreTemplates}
 use Rattle.timing_arcs.specs.DelayTables.{delay_names}
-use Rattle.timing_arcs.specs.declared.delay_groups.LibraryBasis.{LibraryBasis}
+use Rattle.timing_arcs.specs.declared.library_basis.LibraryBasis.{LibraryBasis}
 use Rattle.cell_models.specs.declared.cell.ArcKind.{ArcKind}
 use Rattle.cell_models.specs.declared.cell.EdgeTables.{EdgeTables}
 use Rattle.cell_models.specs.declared.cell.Arc.{Arc}
 use Rattle.liberty_tables.specs.declared.faults.CellFault.{CellFault}
 use Rattle.liberty_tables.specs.declared.faults.CellFault.TheVariants.{OutOfMemory}
 
--- its units, and its templates by their names
+-- its units, its templates by their names, and the capacitance of an input pin that has none of its own
 pub record IsBasis (tree : Tables) (basis : LibraryBasis) : Type 0 where
   pub known : AreUnits (tree_of tree) basis.units
   pub named : basis.called ≡ delay_names
-  pub indexed : AreTemplates tree basis.called (groups_of (tree_of tree)) basis.templates.names basis.templates.read.items
+  pub indexed : AreTemplates tree basis.called basis.units basis.templates
+  pub some : IfSome basis.default_cap (IsCapacitance basis.units.load (default_texts (tree_of tree)))
+  pub none : IfNone basis.default_cap ((grains : ℕ) → ¬ IsCapacitance basis.units.load (default_texts (tree_of tree)) grains)
 
 -- an arc of one kind and with the same tables from each place
 abbrev pub arc_from : ArcKind → Option EdgeTables → Option EdgeTables → ℕ → ℕ → Arc

@@ -9,7 +9,8 @@ ghost use Rattle.timing_arcs.specs.LibraryBasis.{IsBasis, AreAdded, IsNoMemory};
 ghost use Rattle.timing_arcs.specs.CopiedArcs.{led_to, AreArcsTo};
 ghost use Rattle.timing_arcs.specs.CellFaults.{delay_questions, IsRefusal};
 
-use crate::delay_groups::{LibraryBasis, add_pin_arcs, copied};
+use crate::delay_groups::{add_pin_arcs, copied};
+use crate::library_basis::LibraryBasis;
 use crate::pins::PinTable;
 use cell_models::{Arc, Pin};
 use edge_io::OutOfMemory;

@@ -8,72 +8,17 @@ ghost use Rattle.liberty_tables.specs.Library.{value_in, first_group};
 ghost use Rattle.timing_arcs.specs.PinModel.{PinEntry, is_output, IsPin};
 ghost use Rattle.timing_arcs.specs.PinTable.{entry_at, entries_in};
 ghost use Rattle.timing_arcs.specs.DelayGroups.{is_delay_type, is_delay_group, delays_in, kind_by, kind_of, ArcEntry, arcs_in, AreEdgeTables, IsRise, IsFall, IsArc};
-ghost use Rattle.liberty_tables.specs.TableModel.{TableMeans, TransitionMeans};
-ghost use Rattle.timing_arcs.specs.DelayTables.{delay_names};
 ghost use Rattle.timing_arcs.specs.LibraryBasis.{IsBasis, IsTiming, AddsArcs, AreAdded, arcs_from, questions_from, IsNoMemory};
 ghost use Rattle.timing_arcs.specs.CellFaults.{edge_questions, rise_questions, fall_questions, delay_questions, IsSound, IsRefusal};
 
+use crate::library_basis::{LibraryBasis, delay_table, transition_table};
 use crate::pins::PinTable;
 use crate::related_pins::related_places;
 use cell_models::{Arc, ArcKind, Direction, EdgeTables, Pin};
 use edge_io::OutOfMemory;
 use liberty_groups::{GroupId, GroupTree};
-use liberty_tables::{
-    CellFault, LibraryUnits, TableNames, Templates, build_table, build_transition, first_group,
-    is_named, value_in,
-};
-use nldm_lookup::Table;
+use liberty_tables::{CellFault, first_group, is_named, value_in};
 use std::alloc::Global;
-
-/// What the tables of all cells of a library stand on: its units, what the variables of its tables are called, and its templates.
-#[derive(Drop)]
-pub(crate) struct LibraryBasis {
-    pub units: LibraryUnits,
-    pub called: TableNames,
-    pub templates: Templates,
-}
-
-// The table of delays of a group.
-fn delay_table(
-    alloc: Global,
-    tree: &GroupTree,
-    basis: &LibraryBasis,
-    group: GroupId,
-) -> Result<Table, CellFault>
-    requires basis { IsBasis tree.now basis.now }
-    requires group { IsGroup tree.now group.0 }
-    ensures means { TableMeans delay_names (tree_of tree.now) (group_at tree.now group.0) basis.now.units result }
-{
-    build_table(
-        alloc,
-        tree,
-        group,
-        &basis.called,
-        &basis.templates,
-        &basis.units,
-    )
-}
-
-// The table of transitions of a group.
-fn transition_table(
-    alloc: Global,
-    tree: &GroupTree,
-    basis: &LibraryBasis,
-    group: GroupId,
-) -> Result<Table, CellFault>
-    requires basis { IsBasis tree.now basis.now }
-    requires group { IsGroup tree.now group.0 }
-    ensures means { TransitionMeans delay_names (tree_of tree.now) (group_at tree.now group.0) basis.now.units result }
-{
-    build_transition(
-        alloc,
-        tree,
-        group,
-        &basis.called,
-        &basis.templates,
-        &basis.units,
-    )
-}
 
 fn is_delay_type(text: &[u8]) -> bool
     ensures { result ≡ is_delay_type (Some text.now) }

@@ -7,14 +7,16 @@ mod capacitances;
 mod copied_arcs;
 mod delay_groups;
 mod laws;
+mod library_basis;
+mod library_index;
 mod pins;
 mod related_pins;
 mod units;
 
-pub use building::build_cell;
 pub use cell_models::{
     Arc, ArcKind, Cell, CellList, CellSet, CellSets, Direction, EdgeTables, Entry, JoinEnd, Pin,
     ShapeFault, join_corners, one_shape_fault,
 };
 pub use laws::one_cell_answer;
 pub use liberty_tables::{CellFault, one_table};
+pub use library_index::{LibraryIndex, build_cell};

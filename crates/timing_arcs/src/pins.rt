@@ -11,7 +11,7 @@ ghost use Rattle.timing_arcs.specs.PinTable.{entry_at, entries_in, ArePins};
 ghost use Rattle.timing_arcs.specs.PinReadings.{IsReadingOf};
 ghost use Rattle.timing_arcs.specs.CellFaults.{pin_questions, IsSound, IsRefusal};
 
-use crate::capacitances::{capacitance_of, default_capacitance};
+use crate::capacitances::capacitance_of;
 use cell_models::{Direction, Pin};
 use delay_units::{Farads, Unit};
 use edge_io::{OutOfMemory, Text};
@@ -299,10 +299,13 @@ pub(crate) fn read_pins(
     alloc: Global,
     tree: &GroupTree,
     unit: &Unit,
+    default: Option<u64>,
     table: &PinTable,
 ) -> Result<Vec<Pin>, CellFault>
     requires library { 0 < length tree.now.rows }
     requires unit { IsLoadUnit (tree_of tree.now) unit.now }
+    requires some { IfSome default (IsCapacitance unit.now (default_texts (tree_of tree.now))) }
+    requires none { IfNone default ((grains : ℕ) → ¬ IsCapacitance unit.now (default_texts (tree_of tree.now)) grains) }
     requires even { length table.now.names ≡ length table.now.groups.items }
     requires within { All (λ id. IsGroup tree.now id.0) table.now.groups.items }
     ensures ok { IfOk result (λ pins. AllZip (IsPin (tree_of tree.now))
@@ -312,7 +315,6 @@ pub(crate) fn read_pins(
     ensures refused { IfErr result
         (IsRefusal (tree_of tree.now) (flat_map pin_questions (entries_in tree.now table.now.names table.now.groups.items))) }
 {
-    let default = default_capacitance(tree, unit);
     let mut pins = Vec::new(alloc);
     let mut last = None;
     for place in 0..table.groups.len() {

@@ -1,8 +1,10 @@
 //! Models of cells that stand in small libraries.
+ghost use Rattle.std.specs.Prelude.{◌<◌, length};
+
 use edge_io::Text;
-use liberty_groups::parse;
+use liberty_groups::{GroupTree, parse};
 use std::alloc::{AllocError, Global};
-use timing_arcs::{Cell, CellFault, build_cell};
+use timing_arcs::{Cell, CellFault, LibraryIndex, build_cell};
 
 /// What is built for a cell of a library, or nothing where that is no library, or there is no memory.
 pub fn built(alloc: Global, library: &[u8], cell: &[u8]) -> Option<Result<Cell, CellFault>> {
@@ -12,6 +14,39 @@ pub fn built(alloc: Global, library: &[u8], cell: &[u8]) -> Option<Result<Cell, 
     let tree = parse(alloc, library).ok()?;
     let name = Text::from_bytes(alloc, cell).ok()?;
     Some(build_cell(alloc, &tree, &name))
+}
+
+// What is built for two cells of the library of a tree by one index of it.
+fn built_both(
+    alloc: Global,
+    tree: &GroupTree,
+    one: &Text,
+    other: &Text,
+) -> Option<(Result<Cell, CellFault>, Result<Cell, CellFault>)>
+    requires { 0 < length tree.now.rows }
+{
+    let Ok(index) = LibraryIndex::new(alloc, tree) else {
+        return None;
+    };
+    let first = index.build_cell(alloc, tree, one);
+    let second = index.build_cell(alloc, tree, other);
+    Some((first, second))
+}
+
+/// What is built for two cells of a library by one index of it.
+pub fn built_by_index(
+    alloc: Global,
+    library: &[u8],
+    one: &[u8],
+    other: &[u8],
+) -> Option<(Result<Cell, CellFault>, Result<Cell, CellFault>)> {
+    if library.len() >= 1 << 20 {
+        return None;
+    }
+    let one = Text::from_bytes(alloc, one).ok()?;
+    let other = Text::from_bytes(alloc, other).ok()?;
+    let tree = parse(alloc, library).ok()?;
+    built_both(alloc, &tree, &one, &other)
 }
 
 /// Texts one behind another.

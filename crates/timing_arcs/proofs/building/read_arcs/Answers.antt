@@ -8,11 +8,11 @@ use Rattle.timing_arcs.specs.CellFaults.{delay_questions, IsRefusal}
 use Rattle.timing_arcs.specs.LibraryBasis.{AreAdded}
 use Rattle.timing_arcs.specs.CopiedArcs.{AreArcsTo}
 use Rattle.timing_arcs.proofs.Refusals.{refused_part}
-use Rattle.timing_arcs.proofs.PlaceLemmas.{zip_length, got_below}
+use Rattle.timing_arcs.proofs.PlaceLemmas.{got_below}
 use Rattle.timing_arcs.proofs.AddingLemmas.{nothing_added, added_part, added_all, parts_in_parts}
 use Rattle.timing_arcs.proofs.ModelLemmas.{arcs_of_all}
 use Rattle.timing_arcs.proofs.CopiedLemmas.{arcs_behind}
-use Rattle.liberty_tables.proofs.Fronts.{some_is}
+use Rattle.liberty_tables.proofs.Fronts.{some_is, zip_length}
 use Rattle.timing_arcs.proofs.building.read_arcs.Goals as goal
 
 pub loop-to-init : goal.loop-to-init

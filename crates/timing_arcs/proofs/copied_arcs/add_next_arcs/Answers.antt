@@ -6,7 +6,8 @@ use Rattle.timing_arcs.specs.PinTable.{entries_in}
 use Rattle.timing_arcs.specs.DelayGroups.{delays_in}
 use Rattle.timing_arcs.specs.CellFaults.{delay_questions}
 use Rattle.timing_arcs.proofs.PinLemmas.{entries_length, entry_name, entry_group}
-use Rattle.timing_arcs.proofs.PlaceLemmas.{zip_length, got_below}
+use Rattle.timing_arcs.proofs.PlaceLemmas.{got_below}
+use Rattle.liberty_tables.proofs.Fronts.{zip_length}
 use Rattle.timing_arcs.proofs.AddingLemmas.{refused_pushing}
 use Rattle.timing_arcs.proofs.CopiedLemmas.{copies_on_ok}
 use Rattle.timing_arcs.proofs.copied_arcs.add_next_arcs.Goals as goal

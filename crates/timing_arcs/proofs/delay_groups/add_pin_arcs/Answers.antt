@@ -5,7 +5,7 @@ use Rattle.liberty_groups.specs.Tables.{tree_of}
 use Rattle.timing_arcs.specs.PinModel.{IsPin, is_output}
 use Rattle.timing_arcs.specs.PinTable.{entries_in}
 use Rattle.timing_arcs.proofs.PinLemmas.{entries_length, entry_pin}
-use Rattle.timing_arcs.proofs.PlaceLemmas.{zip_length}
+use Rattle.liberty_tables.proofs.Fronts.{zip_length}
 use Rattle.timing_arcs.proofs.AddingLemmas.{added_output, refused_output, added_other}
 use Rattle.timing_arcs.proofs.delay_groups.add_pin_arcs.Goals as goal
 

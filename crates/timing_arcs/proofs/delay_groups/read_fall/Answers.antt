@@ -1,6 +1,9 @@
 use Rattle.liberty_groups.specs.Tables.{tree_of}
-use Rattle.timing_arcs.proofs.EdgeLemmas.{sound_found, refused_found}
+use Rattle.timing_arcs.proofs.EdgeLemmas.{ok_found, sound_found, refused_found}
 use Rattle.timing_arcs.proofs.delay_groups.read_fall.Goals as goal
+
+pub returns-clause-ok : goal.returns-clause-ok
+returns-clause-ok c = ok_found c.read_edge.result (tree_of c.args.tree.now) c.first_group-delay.ensures.first c.first_group-slew.ensures.first c.read_edge.ensures.ok
 
 pub returns-clause-sound : goal.returns-clause-sound
 returns-clause-sound c = sound_found c.read_edge.result (tree_of c.args.tree.now) c.first_group-delay.ensures.first c.first_group-slew.ensures.first c.read_edge.ensures.sound

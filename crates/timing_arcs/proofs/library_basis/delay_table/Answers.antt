@@ -1,7 +1,7 @@
 use Rattle.std.proofs.Common.{subst}
 use Rattle.liberty_groups.specs.Tables.{tree_of, group_at}
 use Rattle.liberty_tables.specs.TableModel.{TableMeans}
-use Rattle.timing_arcs.proofs.delay_groups.delay_table.Goals as goal
+use Rattle.timing_arcs.proofs.library_basis.delay_table.Goals as goal
 
 pub returns : goal.returns
 returns c =

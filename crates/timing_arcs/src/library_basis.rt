@@ -1,0 +1,122 @@
+//! What the pins and the tables of all cells of a library stand on, read once.
+ghost use Rattle.std.specs.Prelude.{◌≡◌, ◌<◌, length, IfOk, IfErr};
+ghost use Rattle.liberty_groups.specs.Tables.{tree_of, group_at, IsGroup};
+ghost use Rattle.liberty_tables.specs.LibraryUnits.{AreUnits};
+ghost use Rattle.liberty_tables.specs.TableModel.{TableMeans, TransitionMeans};
+ghost use Rattle.timing_arcs.specs.CellFaults.{unit_questions, IsRefusal};
+ghost use Rattle.timing_arcs.specs.DelayTables.{delay_names};
+ghost use Rattle.timing_arcs.specs.LibraryBasis.{IsBasis};
+
+use crate::capacitances::default_capacitance;
+use crate::units::library_units;
+use edge_io::{OutOfMemory, Text};
+use liberty_groups::{GroupId, GroupTree};
+use liberty_tables::{
+    CellFault, LibraryUnits, TableNames, Templates, build_table, build_transition,
+};
+use nldm_lookup::Table;
+use std::alloc::Global;
+
+/// What the pins and the tables of all cells of a library stand on: its units, what the variables of its tables are called, its templates,
+/// and the capacitance of an input pin that has none of its own, unless that is no capacitance.
+#[derive(Drop)]
+pub(crate) struct LibraryBasis {
+    pub units: LibraryUnits,
+    pub called: TableNames,
+    pub templates: Templates,
+    pub default_cap: Option<u64>,
+}
+
+// What the variables of the tables of delays are called.
+fn delay_names(alloc: Global) -> Result<TableNames, OutOfMemory>
+    ensures { IfOk result (λ called. called ≡ delay_names) }
+{
+    let slew = Text::from_bytes(alloc, b"input_net_transition")?;
+    let other = Text::from_bytes(alloc, b"total_output_net_capacitance")?;
+    Ok(TableNames {
+        slew,
+        other,
+        other_is_time: false,
+    })
+}
+
+// The same of a library with these units.
+fn with_units(
+    alloc: Global,
+    tree: &GroupTree,
+    units: LibraryUnits,
+) -> Result<LibraryBasis, OutOfMemory>
+    requires library { 0 < length tree.now.rows }
+    requires units { AreUnits (tree_of tree.now) units }
+    ensures { IfOk result (IsBasis tree.now) }
+{
+    let called = delay_names(alloc)?;
+    let templates = Templates::new(alloc, tree, &called, &units)?;
+    let default_cap = default_capacitance(tree, &units.load);
+    Ok(LibraryBasis {
+        units,
+        called,
+        templates,
+        default_cap,
+    })
+}
+
+/// What the cells of a library stand on, or why none has a model.
+pub(crate) fn library_basis(
+    alloc: Global,
+    tree: &GroupTree,
+) -> Result<Result<LibraryBasis, CellFault>, OutOfMemory>
+    requires { 0 < length tree.now.rows }
+    ensures ok { IfOk result (λ basis. IfOk basis (IsBasis tree.now)) }
+    ensures refused { IfOk result (λ basis. IfErr basis (IsRefusal (tree_of tree.now) unit_questions)) }
+{
+    match library_units(tree) {
+        Ok(units) => {
+            let basis = with_units(alloc, tree, units)?;
+            Ok(Ok(basis))
+        }
+        Err(fault) => Ok(Err(fault)),
+    }
+}
+
+/// The table of delays of a group.
+pub(crate) fn delay_table(
+    alloc: Global,
+    tree: &GroupTree,
+    basis: &LibraryBasis,
+    group: GroupId,
+) -> Result<Table, CellFault>
+    requires basis { IsBasis tree.now basis.now }
+    requires group { IsGroup tree.now group.0 }
+    ensures means { TableMeans delay_names (tree_of tree.now) (group_at tree.now group.0) basis.now.units result }
+{
+    build_table(
+        alloc,
+        tree,
+        group,
+        &basis.called,
+        &basis.templates,
+        &basis.units,
+    )
+}
+
+/// The table of transitions of a group.
+pub(crate) fn transition_table(
+    alloc: Global,
+    tree: &GroupTree,
+    basis: &LibraryBasis,
+    group: GroupId,
+) -> Result<Table, CellFault>
+    requires basis { IsBasis tree.now basis.now }
+    requires group { IsGroup tree.now group.0 }
+    ensures means { TransitionMeans delay_names (tree_of tree.now) (group_at tree.now group.0) basis.now.units result }
+{
+    build_transition(
+        alloc,
+        tree,
+        group,
+        &basis.called,
+        &basis.templates,
+        &basis.units,
+    )
+}
