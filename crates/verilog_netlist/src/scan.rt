@@ -1,9 +1,11 @@
 //! Parts a file's bytes into tokens.
-ghost use Rattle.std.specs.Prelude.{◌≡◌, ◌+◌, ◌^◌, ◌<◌, ◌≤◌, ◌∷◌, length};
+ghost use Rattle.std.specs.Prelude.{◌≡◌, ℕ, ◌+◌, ◌^◌, ◌<◌, ◌≤◌, ◌∷◌, List, length, IfSome, IfNone};
 ghost use Rattle.verilog_netlist.specs.Tokens.{is_digit, begins_name, goes_on_name, is_visible, is_constant_digit, is_sign, is_base, based_length, signed_length, and_before, constant_length, bound_of, word_cut, number_cut, ends_escaped, escaped_cut, comment_cut, slash_cut, paren_cut, mark_kind, cut_at};
 ghost use Rattle.verilog_netlist.specs.Cuts.{IsWithin};
 ghost use Rattle.verilog_netlist.specs.Ranges.{constant_width};
 ghost use Rattle.token_texts.specs.Comments.{pair_place};
+ghost use Rattle.verilog_netlist.specs.declared.kinds.Kind.TheVariants.{Bad};
+ghost use Rattle.verilog_netlist.specs.declared.scan.Cut.TheVariants.{Take};
 
 use crate::kinds::Kind;
 use crate::words::word_kind;
@@ -268,22 +270,23 @@ fn paren_cut(rest: &[u8]) -> Cut
     }
 }
 
-/// What a mark is, or a byte that begins no token.
+/// What a mark is. No mark begins another token.
 #[inline]
-fn mark_kind(byte: u8) -> Kind
-    ensures { result ≡ mark_kind byte }
+fn mark(byte: u8) -> Option<Kind>
+    ensures some { IfSome result (λ kind. (rest : List ℕ) → cut_at byte rest ≡ Take 1 kind) }
+    ensures none { IfNone result (mark_kind byte ≡ Bad) }
 {
     match byte {
-        b',' => Kind::Comma,
-        b')' => Kind::RightParen,
-        b'.' => Kind::Dot,
-        b';' => Kind::Semicolon,
-        b'[' => Kind::LeftBracket,
-        b']' => Kind::RightBracket,
-        b'{' => Kind::LeftBrace,
-        b'}' => Kind::RightBrace,
-        b':' => Kind::Colon,
-        _ => Kind::Bad,
+        b',' => Some(Kind::Comma),
+        b')' => Some(Kind::RightParen),
+        b'.' => Some(Kind::Dot),
+        b';' => Some(Kind::Semicolon),
+        b'[' => Some(Kind::LeftBracket),
+        b']' => Some(Kind::RightBracket),
+        b'{' => Some(Kind::LeftBrace),
+        b'}' => Some(Kind::RightBrace),
+        b':' => Some(Kind::Colon),
+        _ => None,
     }
 }
 
@@ -295,7 +298,13 @@ pub(crate) fn cut_at(bytes: &[u8], first: u8, rest: &[u8]) -> Cut
     ensures value { result ≡ cut_at first rest.now }
     ensures within { IsWithin (length bytes.now) result }
 {
-    if is_blank(first) {
+    // Most tokens are marks.
+    if let Some(kind) = mark(first) {
+        return Cut::Take(1, kind);
+    }
+    if first == b'(' {
+        paren_cut(rest)
+    } else if is_blank(first) {
         Cut::Skip(1)
     } else if begins_name(first) {
         word_cut(bytes)
@@ -307,9 +316,7 @@ pub(crate) fn cut_at(bytes: &[u8], first: u8, rest: &[u8]) -> Cut
         Cut::Skip(line_length(rest))
     } else if first == b'/' {
         slash_cut(rest)
-    } else if first == b'(' {
-        paren_cut(rest)
     } else {
-        Cut::Take(1, mark_kind(first))
+        Cut::Take(1, Kind::Bad)
     }
 }

@@ -45,8 +45,8 @@ returns-then-first-eq40-clause-value c = c.paren_cut.ensures ∙ sym (cut_paren 
 pub returns-then-first-eq40-clause-within : goal.returns-then-first-eq40-clause-within
 returns-then-first-eq40-clause-within c = within_of c.args.first c.args.rest.now _ _ c.requires.parts (returns-then-first-eq40-clause-value c)
 
-pub returns-else-first-eq40-clause-value : goal.returns-else-first-eq40-clause-value
-returns-else-first-eq40-clause-value c =
-    ap (λ k. Take 1 k) c.mark_kind.ensures
-    ∙ sym (cut_mark c.args.first c.args.rest.now (sym c.is_blank.ensures ∙ c.if-is_blank.false) (sym c.begins_name.ensures ∙ c.if-begins_name.false) (sym c.is_digit.ensures ∙ c.if-is_digit.false)
-    (not_byte _ 92 c.if-first-eq92.false) (not_byte _ 96 c.if-first-eq96.false) (not_byte _ 47 c.if-first-eq47.false) (not_byte _ 40 c.if-first-eq40.false))
+pub returns-else-first-eq47-clause-value : goal.returns-else-first-eq47-clause-value
+returns-else-first-eq47-clause-value c =
+    sym (cut_mark c.args.first c.args.rest.now (sym c.is_blank.ensures ∙ c.if-is_blank.false) (sym c.begins_name.ensures ∙ c.if-begins_name.false) (sym c.is_digit.ensures ∙ c.if-is_digit.false)
+    (not_byte _ 92 c.if-first-eq92.false) (not_byte _ 96 c.if-first-eq96.false) (not_byte _ 47 c.if-first-eq47.false) (not_byte _ 40 c.if-first-eq40.false)
+    ∙ ap (λ k. Take 1 k) c.in_default.ensures.none)
