@@ -3,7 +3,9 @@ use Rattle.std.proofs.Common.{subst, ◌≡◌, ℕ, ◌+◌, ◌<◌, ◌≤◌
 use Rattle.std.proofs.Math.Nat.{le-max_left, le-max_right}
 use Rattle.std.proofs.lemmas.Bool.{lt-ltb, le-ltb}
 use Rattle.std.proofs.lemmas.List.{drop_all}
+use Rattle.std.specs.Map.{lookup}
 use Rattle.std.specs.Str.{bytes_eq}
+use Rattle.indexmap.specs.IndexMap.{insert_entry}
 use Rattle.token_texts.specs.Spans.{text_at}
 use Rattle.verilog_netlist.specs.Ranges.{most_bits, and_more, bits_of, joined_width, is_bad_entry, declares, or_first, first_declared, module_at, declared_by, IsBadRange, declared_range, is_bad_declaration, is_bad_bit, is_bad_part, whole_width}
 use Rattle.verilog_netlist.specs.NameKeys.{Key, key_in, same_key}
@@ -33,6 +35,24 @@ row_behind (row ∷ rows) key declaration other = by (same_key other (key_in row
 -- a key without a row gets one
 pub adds_new : (old new : Rows) (key : NameKey) (declaration : Declaration) → new ≡ old ++ (key, declaration) ∷ [] → AddsRow old new (key_in key) declaration
 adds_new old new key declaration is other = ap (λ (rows : Rows). row_at rows other) is ∙ row_behind old key declaration other
+
+-- a row that is put back
+module _ (eq : NameKey → NameKey → Bool) (key : NameKey) (declaration first : Declaration) where
+  pub put_back : (rows : Rows) → lookup (eq key) rows ≡ Some first → insert_entry eq (insert_entry eq rows key declaration) key first ≡ rows
+  put_back [] h = absurd (cc)
+  put_back (row ∷ rows) h = by (eq key row.0) refl (put_back rows)
+    where
+      by : (b : Bool) → eq key row.0 ≡ b → (lookup (eq key) rows ≡ Some first → insert_entry eq (insert_entry eq rows key declaration) key first ≡ rows)
+          → insert_entry eq (insert_entry eq (row ∷ rows) key declaration) key first ≡ row ∷ rows
+      by true e rest =
+          ap (λ (t : Bool). insert_entry eq (if t then (row.0, declaration) ∷ rows else row ∷ insert_entry eq rows key declaration) key first) e
+          ∙ ap (λ (t : Bool). if t then (row.0, first) ∷ rows else (row.0, declaration) ∷ insert_entry eq rows key first) e
+          ∙ ap (λ (d : Declaration). (row.0, d) ∷ rows)
+          (let found : Some row.1 ≡ Some first = sym (ap (λ (t : Bool). cond t (Some row.1) (lookup (eq key) rows)) e) ∙ h in let same : first ≡ row.1 = cc in same)
+      by false e rest =
+          ap (λ (t : Bool). insert_entry eq (if t then (row.0, declaration) ∷ rows else row ∷ insert_entry eq rows key declaration) key first) e
+          ∙ ap (λ (t : Bool). if t then (row.0, first) ∷ insert_entry eq rows key declaration else row ∷ insert_entry eq (insert_entry eq rows key declaration) key first) e
+          ∙ ap (λ (l : Rows). row ∷ l) (rest (sym (ap (λ (t : Bool). cond t (Some row.1) (lookup (eq key) rows)) e) ∙ h))
 
 -- a key with a row keeps it
 pub adds_none : (rows : Rows) (key : Key) (there declaration : Declaration) → row_at rows key ≡ Some there → AddsRow rows rows key declaration

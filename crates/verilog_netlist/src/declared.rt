@@ -61,10 +61,14 @@ impl<'a> DeclaredNames<'a> {
         ensures widest { self.new.widest ≡ self.old.widest }
     {
         let key = declared_key(scope, name);
-        if self.rows.get(&key).is_some() {
+        let Ok(before) = self.rows.insert(key, declaration) else {
+            return Err(OutOfMemory);
+        };
+        // Few names are declared twice. Of one that is the first declaration goes back.
+        let Some(first) = before else {
             return Ok(());
-        }
-        match self.rows.insert(key, declaration) {
+        };
+        match self.rows.insert(key, first) {
             Ok(_) => Ok(()),
             Err(_) => Err(OutOfMemory),
         }
