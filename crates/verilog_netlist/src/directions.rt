@@ -1,28 +1,31 @@
 //! Looks for a name of a header without a direction, and for a name with a direction that the header lacks.
 ghost use Rattle.std.specs.Prelude.{◌≡◌, ◌^◌, ◌<◌, length, IfOk};
+ghost use Rattle.token_texts.specs.Spans.{text_at};
+ghost use Rattle.verilog_netlist.specs.Namespaces.{name_of};
 ghost use Rattle.verilog_netlist.specs.Directions.{IsFirstUnpaired};
-ghost use Rattle.verilog_netlist.specs.NameKeys.{keys_in, is_lacking, HoldsNames};
+ghost use Rattle.verilog_netlist.specs.NameKeys.{keys_in, needed_names, is_lacking, HoldsNames};
 
 use crate::entries::Entry;
 use crate::name_text::NameText;
-use crate::namespaces::Names;
 use crate::repeats::{NameKey, NameTable, Scopes, code_of, collect_names};
 use edge_io::OutOfMemory;
 use std::alloc::Global;
 
 impl NameTable<'_> {
-    /// Whether a name is needed among these names and is not there.
+    /// Whether the name of an entry needs a pair, and has none.
     #[inline]
-    fn lacks(&self, among: Option<Names>, scopes: Scopes, name: &[u8]) -> bool
-        ensures { result ≡ is_lacking among scopes name.now (keys_in self.now.keys.keys) }
+    fn lacks(&self, bytes: &[u8], entry: Entry, scopes: Scopes) -> bool
+        ensures { result ≡ is_lacking (needed_names entry) scopes (text_at bytes.now (name_of entry)) (keys_in self.now.keys.keys) }
     {
-        match among {
+        match entry.needed_names() {
             None => false,
             Some(among) => {
                 let key = NameKey {
                     code: code_of(among),
                     scope: scopes.of(among),
-                    name: NameText { bytes: name },
+                    name: NameText {
+                        bytes: entry.name().of(bytes),
+                    },
                 };
                 !self.keys.contains(&key)
             }
@@ -38,8 +41,7 @@ impl NameTable<'_> {
         let mut scopes = Scopes::new();
         for (place, entry) in entries.iter().enumerate() {
             scopes = scopes.from(*entry);
-            let name = entry.name().of(bytes);
-            let is_unpaired = self.lacks(entry.needed_names(), scopes, name);
+            let is_unpaired = self.lacks(bytes, *entry, scopes);
             if is_unpaired {
                 return Some(place);
             }

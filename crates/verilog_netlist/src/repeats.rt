@@ -1,6 +1,7 @@
 //! Collects the names that must differ, and looks for one that stands twice.
 ghost use Rattle.std.specs.Prelude.{◌≡◌, ◌+◌, ◌^◌, ◌<◌, length, IfOk, OnOk};
-ghost use Rattle.verilog_netlist.specs.Namespaces.{IsFirstRepeated, begins_module, begins_instance};
+ghost use Rattle.token_texts.specs.Spans.{text_at};
+ghost use Rattle.verilog_netlist.specs.Namespaces.{name_of, IsFirstRepeated, begins_module, begins_instance};
 ghost use Rattle.verilog_netlist.specs.Firsts.{first_or};
 ghost use Rattle.verilog_netlist.specs.NameKeys.{Key, code_of, keys_in, key_of, scope_in, holds, is_ports, keeps, ports_from, with_key, is_held, with_name, counted, HoldsNames};
 
@@ -136,22 +137,25 @@ impl<'a> NamesSoFar<'a> {
         }
     }
 
-    /// Adds a name, if it is among names that must differ, and tells whether it was there.
+    /// Adds the name of an entry, if it is among names that must differ, and tells whether it was there.
     #[inline(always)]
     fn add(
         &mut self,
+        bytes: &'a [u8],
+        entry: Entry,
         among: Option<Names>,
         scopes: Scopes,
-        name: &'a [u8],
     ) -> Result<bool, OutOfMemory>
-        ensures held { IfOk result (λ held. held
-            ≡ is_held among scopes name.now (keeps scopes.instances (keys_in self.old.keys.keys) self.old.ports)) }
+        ensures held { IfOk result (λ held. held ≡ is_held among scopes (text_at bytes.now (name_of entry))
+            (keeps scopes.instances (keys_in self.old.keys.keys) self.old.ports)) }
         ensures names { OnOk result ((key : Key) → keeps scopes.instances (keys_in self.new.keys.keys) self.new.ports key
-            ≡ with_name among scopes name.now (keeps scopes.instances (keys_in self.old.keys.keys) self.old.ports) key) }
+            ≡ with_name among scopes (text_at bytes.now (name_of entry))
+            (keeps scopes.instances (keys_in self.old.keys.keys) self.old.ports) key) }
     {
         let Some(among) = among else {
             return Ok(false);
         };
+        let name = entry.name().of(bytes);
         if is_ports(among) {
             let is_held = self.ports.add(name)?;
             return Ok(is_held);
@@ -211,9 +215,8 @@ pub(crate) fn collect_names<'a>(
     for (place, entry) in entries.iter().enumerate() {
         scopes = scopes.from(*entry);
         names.come_to(alloc, *entry);
-        let name = entry.name().of(bytes);
-        let in_header = names.add(entry.header_names(), scopes, name)?;
-        let by_own = names.add(entry.own_names(), scopes, name)?;
+        let in_header = names.add(bytes, *entry, entry.header_names(), scopes)?;
+        let by_own = names.add(bytes, *entry, entry.own_names(), scopes)?;
         repeated = first_or(repeated, place, in_header || by_own);
     }
     Ok(NameTable {

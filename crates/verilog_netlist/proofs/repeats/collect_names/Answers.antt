@@ -1,6 +1,5 @@
 -- One name more, and whether it was there.
-use Rattle.std.proofs.Common.{◌≡◌, ℕ, List, get_or, sym, ap, ap₂, ◌∙◌, subst, ◌+◌, ◌||◌, Bool, Option, length, arith}
-use Rattle.token_texts.specs.Spans.{text_at}
+use Rattle.std.proofs.Common.{◌≡◌, refl, ℕ, List, get_or, sym, ap, ap₂, ◌∙◌, subst, ◌+◌, ◌||◌, Bool, Option, length, arith}
 use Rattle.verilog_netlist.specs.Namespaces.{IsRepeated}
 use Rattle.verilog_netlist.specs.Firsts.{first_or}
 use Rattle.verilog_netlist.specs.NameKeys.{Key, keys_in, counted, keeps, ports_from, HoldsNames}
@@ -29,16 +28,15 @@ loop-place-preserved c =
     let here = itself_at entries place c.loop-place-test.true in
     let in_header : Bool = c.in_ok-in_header.in_header in
     let by_own : Bool = c.in_ok-by_own.by_own in
-    let name = c.of-name.ensures ∙ ap (text_at bytes) c.name.ensures in
     let same : scopes ≡ counted c.loop-place.scopes e = c.from-scopes.ensures in
     let first = holds_alike bytes entries place (has scopes turned) (has (counted c.loop-place.scopes e) turned) (counted c.loop-place.scopes e) (λ key. ap (λ (s : Scopes). has s turned key) same)
     (holds_alike bytes entries place (has (counted c.loop-place.scopes e) turned) (keeps (counted c.loop-place.scopes e).instances (keys_in before.keys.keys) (ports_from e before.ports)) (counted c.loop-place.scopes e)
     (λ key. ap₂ (λ (k : List NameKey) (p : List (List ℕ)). keeps (counted c.loop-place.scopes e).instances (keys_in k) p key) (ap (λ k. k.keys) c.come_to.ensures.keys) c.come_to.ensures.ports)
     (come_to bytes entries place (keys_in before.keys.keys) before.ports c.loop-place.scopes c.loop-place.invariant.0 e)) in
-    let header = held_so c.header_names.ensures same name (has scopes turned) in_header c.in_ok-in_header.ensures.held in
-    let two = with_so c.header_names.ensures same name (has scopes turned) (has scopes between) c.in_ok-in_header.ensures.names in
-    let own = held_so c.own_names.ensures same name (has scopes between) by_own c.in_ok-by_own.ensures.held in
-    let three = with_so c.own_names.ensures same name (has scopes between) (has scopes after) c.in_ok-by_own.ensures.names in
+    let header = held_so c.header_names.ensures same refl (has scopes turned) in_header c.in_ok-in_header.ensures.held in
+    let two = with_so c.header_names.ensures same refl (has scopes turned) (has scopes between) c.in_ok-in_header.ensures.names in
+    let own = held_so c.own_names.ensures same refl (has scopes between) by_own c.in_ok-by_own.ensures.held in
+    let three = with_so c.own_names.ensures same refl (has scopes between) (has scopes after) c.in_ok-by_own.ensures.names in
     let seen = goes_on bytes entries place c.loop-place.scopes c.loop-place.invariant.0.counts e stands c.loop-place-test.true here (has scopes turned) first (has scopes between) (has scopes after) in_header by_own header two own three in
     let tells = decides_repeated bytes entries place c.loop-place.scopes c.loop-place.invariant.0.counts e stands c.loop-place-test.true here (has scopes turned) first (has scopes between) (has scopes after) in_header by_own header two own three in
     let either : c.if-in_header.first_or ≡ (in_header || by_own) = elim c.if-in_header.branch [

@@ -1,6 +1,5 @@
 -- One name more, and whether it lacks its pair.
-use Rattle.std.proofs.Common.{ℕ, ◌+◌, List, get_or, sym, ap, ◌∙◌, subst, true≢false, arith}
-use Rattle.token_texts.specs.Spans.{text_at}
+use Rattle.std.proofs.Common.{ℕ, ◌+◌, List, get_or, refl, sym, ◌∙◌, subst, true≢false, arith}
 use Rattle.verilog_netlist.specs.Directions.{IsUnpaired}
 use Rattle.verilog_netlist.specs.NameKeys.{Key, keys_in}
 use Rattle.verilog_netlist.specs.declared.entries.Entry.{Entry}
@@ -17,8 +16,7 @@ returns-then-is_unpaired c =
     let place : ℕ = c.loop-place.place in
     let keys : List Key = keys_in c.args.self.now.keys.keys in
     let e : Entry = get_or entries place no_entry in
-    let name = c.of-name.ensures ∙ ap (text_at bytes) c.name.ensures in
-    let lacks = lacks_as c.needed_names.ensures c.from-scopes.ensures name keys c.lacks-is_unpaired.result c.lacks-is_unpaired.ensures in
+    let lacks = lacks_as refl c.from-scopes.ensures refl keys c.lacks-is_unpaired.result c.lacks-is_unpaired.ensures in
     let tells = decides_unpaired bytes entries place keys c.loop-place.scopes c.loop-place.invariant.0 c.requires.keys e (stands_at entries place c.loop-place-test.true) c.loop-place-test.true (itself_at entries place c.loop-place-test.true) in
     (tells.0 (sym lacks ∙ c.if-is_unpaired.true), c.loop-place.invariant.1)
 
@@ -30,8 +28,7 @@ loop-place-preserved c =
     let keys : List Key = keys_in c.args.self.now.keys.keys in
     let e : Entry = get_or entries place no_entry in
     let here = itself_at entries place c.loop-place-test.true in
-    let name = c.of-name.ensures ∙ ap (text_at bytes) c.name.ensures in
-    let lacks = lacks_as c.needed_names.ensures c.from-scopes.ensures name keys c.lacks-is_unpaired.result c.lacks-is_unpaired.ensures in
+    let lacks = lacks_as refl c.from-scopes.ensures refl keys c.lacks-is_unpaired.result c.lacks-is_unpaired.ensures in
     let tells = decides_unpaired bytes entries place keys c.loop-place.scopes c.loop-place.invariant.0 c.requires.keys e (stands_at entries place c.loop-place-test.true) c.loop-place-test.true here in (
       subst (λ (s : Scopes). Counts entries (place + 1) s) (sym c.from-scopes.ensures) (count_on entries place c.loop-place.scopes c.loop-place.invariant.0 e c.loop-place-test.true here),
       not_here_too (IsUnpaired bytes entries) place c.loop-place.invariant.1 (λ p. true≢false (sym (tells.1 p) ∙ sym lacks ∙ c.if-is_unpaired.false)),
