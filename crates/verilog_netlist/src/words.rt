@@ -1,7 +1,7 @@
 //! Reserved words.
 ghost use Rattle.std.specs.Prelude.{◌≡◌, map};
 ghost use Rattle.verilog_netlist.specs.Words.{look_up, word_kind};
-ghost use Rattle.verilog_netlist.specs.WordFilter.{may_be_reserved};
+ghost use Rattle.verilog_netlist.specs.WordFilter.{may_begin, may_be_reserved};
 
 use crate::kinds::Kind;
 
@@ -124,15 +124,34 @@ fn look_up(table: &[(&[u8], Kind)], word: &[u8]) -> Kind
     Kind::Name
 }
 
-/// Whether a word may be reserved: reserved words begin with two small letters, and have at most twelve bytes. Most names of a
-/// netlist do not, so the table is looked through for few.
+/// The second letters of reserved words, by their first letter.
+const SECOND_LETTERS: [&[u8]; 26] = [
+    b"lnsu", b"eu", b"am", b"ei", b"lnv", b"ou", b"e", b"", b"fn", b"o", b"", b"o", b"eo", b"aemo",
+    b"ru", b"amoru", b"", b"cenpt", b"cimptu", b"air", b"", b"e", b"aehio", b"no", b"", b"",
+];
+
+/// Whether a reserved word begins with this small letter and that one.
+#[inline]
+fn may_begin(table: &[&[u8]], first: u8, second: u8) -> bool
+    ensures { result ≡ may_begin (map (λ k. k.now) table.now) first second }
+{
+    match table.get(usize::from(first.saturating_sub(b'a'))) {
+        Some(letters) => letters.contains(&second),
+        None => false,
+    }
+}
+
+/// Whether a word may be reserved, by its first two letters and its length: a reserved word has at most twelve bytes. Most names of a
+/// netlist may not, so the table is looked through for few.
 #[inline]
 fn may_be_reserved(word: &[u8]) -> bool
     ensures { result ≡ may_be_reserved word.now }
 {
     match word {
         [first, second, rest @ ..] => {
-            matches!(*first, b'a'..=b'z') && matches!(*second, b'a'..=b'z') && rest.len() <= 10
+            matches!(*first, b'a'..=b'z')
+                && may_begin(&SECOND_LETTERS, *first, *second)
+                && rest.len() <= 10
         }
         _ => false,
     }
