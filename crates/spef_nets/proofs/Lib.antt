@@ -22,3 +22,4 @@ pub mod NodeNameLemmas
 pub mod FewLemmas
 pub mod FewKeys
 pub mod EveryNode
+pub mod TableLemmas

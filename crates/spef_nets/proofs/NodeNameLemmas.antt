@@ -7,11 +7,7 @@ use Rattle.name_table.specs.declared.spef_names.NodeName.{NodeName}
 use Rattle.spef_text.specs.SpefFiles.{SpefText}
 use Rattle.spef_text.specs.Heads.{HeadText}
 use Rattle.spef_nets.specs.Nodes.{node_at, nodes_at}
-use Rattle.spef_nets.specs.NodeNames.{AreSpelled}
-
--- a token that names a node
-abbrev pub NamesOne : SpefText → ℕ → Type 0
-NamesOne file token = (node : NodeName) × (node_at file token ≡ Some node)
+use Rattle.spef_nets.specs.NodeNames.{SpelledNodes, NamesOne, NameNodes, AreSpelled}
 
 names_later : (file : SpefText) (token : ℕ) (tokens : List ℕ) → All (NamesOne file) (token ∷ tokens) → All (NamesOne file) tokens
 names_later file token tokens all k d within = all (suc k) d (omega (arith, within))
@@ -58,3 +54,14 @@ pub token_named : (file : SpefText) (tokens : List ℕ) (i token other : ℕ) (n
 token_named file [] i token other node named at = absurd (cc)
 token_named file (first ∷ tokens) zero token other node named at = let is : node_at file first ≡ Some node = cc in ap (node_at file) at ∙ is
 token_named file (first ∷ tokens) (suc i) token other node named at = token_named file tokens i token other node named at
+
+-- nodes that the tokens name, by an equal record
+pub same_tokens : (file : SpefText) (nodes : List NodeName) (spelled : SpelledNodes) (tokens : List ℕ) → spelled ≡ record { file = file; nodes = nodes } → NameNodes spelled.file tokens → NameNodes file tokens
+same_tokens file nodes spelled tokens is named = subst (λ (s : SpelledNodes). NameNodes s.file tokens) is named
+
+pub same_nodes : (file : SpefText) (nodes : List NodeName) (spelled : SpelledNodes) (tokens : List ℕ) → spelled ≡ record { file = file; nodes = nodes } → nodes_at spelled.file tokens ≡ spelled.nodes → nodes_at file tokens ≡ nodes
+same_nodes file nodes spelled tokens is are = subst (λ (s : SpelledNodes). nodes_at s.file tokens ≡ s.nodes) is are
+
+-- a number of a node is below the count of the tokens
+pub token_within : (file : SpefText) (tokens : List ℕ) (node : ℕ) → NameNodes file tokens → node < length (nodes_at file tokens) → node < length tokens
+token_within file tokens node named within = subst (λ (many : ℕ). node < many) (as_many_names file tokens named) within

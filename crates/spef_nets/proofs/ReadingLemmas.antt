@@ -1,28 +1,31 @@
 -- The sections of a file are read one after another.
 use Rattle.std.proofs.Common.{◌≡◌, ℕ, ◌+◌, ◌<◌, List, [], ◌∷◌, ◌++◌, length, map, take, ◌⊎◌, inl, inr, ⊎_elim, refl, sym, ap, ◌∙◌, subst, arith, add-one, length-append}
-use Rattle.std.specs.Prelude.{Option, Some, None, slice_get, Contains, Result, Ok, Err, IfErr}
-use Rattle.corner_set.specs.declared.pick.Pick.{Pick}
+use Rattle.std.specs.Prelude.{Option, Some, None, slice_get, Contains}
 use Rattle.std.specs.Option.{option_map}
 use Rattle.std.specs.List.{flat_map}
 use Rattle.std.proofs.lemmas.Bool.{cases_eq}
 use Rattle.std.proofs.lemmas.Option.{slice_get-map, slice_get-get_or, slice_get_within, get_or_from_slice_get}
-use Rattle.std.proofs.lemmas.List.{map_push, length-map}
+use Rattle.std.proofs.lemmas.List.{map_push}
 use Rattle.spef_text.specs.Entries.{Section, section_at, no_section}
-use Rattle.spef_text.specs.SpefFiles.{SpefText, IsFormed}
-use Rattle.spef_text.proofs.SectionOrder.{sections_in_order}
-use Rattle.spef_nets.proofs.FaultOrder.{least_end}
+use Rattle.spef_text.specs.SpefFiles.{SpefText}
 use Rattle.spef_text.specs.Heads.{HeadText, IsHeadOf}
 use Rattle.spef_nets.specs.Nodes.{net_at}
-use Rattle.spef_nets.specs.NetElements.{NetElements, net_names}
-use Rattle.spef_nets.specs.Reading.{Reading, IsReading, AreFaultlessBefore, next_section, with_net}
+use Rattle.spef_nets.specs.NetElements.{NetElements}
+use Rattle.spef_nets.specs.Reading.{IsReading, AreFaultlessBefore}
+use Rattle.spef_nets.specs.Rows.{no_rows}
+use Rattle.spef_nets.specs.RowsOf.{rows_of}
+use Rattle.spef_nets.specs.Tables.{start}
+use Rattle.spef_nets.specs.TablesOf.{nets_in, HoldNets}
+use Rattle.spef_nets.specs.declared.tables.Tables.{Tables}
 use Rattle.spef_nets.specs.Sections.{Corners, IsNet, AreNets}
-use Rattle.spef_nets.specs.Faults.{Point, reference, naming, IsUnknownAt, nets_before, IsGood, IsFirstFault, conn_points, cap_points, res_points, points_of, IsFaultless, AreFaultless, IsFirstOfAll, IsSectionEnd, IsLeastFault}
+use Rattle.spef_nets.specs.Faults.{Point, reference, naming, IsUnknownAt, nets_before, IsGood, IsFirstFault, conn_points, cap_points, res_points, points_of, IsFaultless, AreFaultless, IsFirstOfAll, IsSectionEnd}
 use Rattle.spef_nets.specs.Drafts.{IsStop, IsUnless}
 use Rattle.spef_nets.specs.declared.ends.SectionEnd.{SectionEnd}
 use Rattle.spef_nets.specs.declared.ends.SectionEnd.TheVariants.{UnknownIndex, BadNumber, ValueTooLarge, RepeatedNet, ForeignCoupling, OutOfMemory}
 use Rattle.spef_nets.proofs.Lists.{get_push, take_push, map_at}
 use Rattle.spef_nets.proofs.PointLemmas.{Upto, step, stop}
 use Rattle.spef_nets.proofs.ResStepping.{good_net}
+use Rattle.spef_nets.proofs.TableLemmas.{none_tabled, as_many_nets}
 
 some_is : {X : Type 0} (a b : X) → Some a ≡ Some b → a ≡ b
 some_is a b e = cc
@@ -46,15 +49,15 @@ pub section_stands : (sections : List Section) (place : ℕ) → place < length 
 section_stands sections place below = slice_get-get_or sections place no_section below
 
 -- no section has been read
-pub none_read : (reading : Reading) → IsHeadOf reading.file reading.head → reading.nets ≡ [] → IsReading reading
-none_read reading of_file none = record {
+pub none_read : (file : SpefText) (head : HeadText) (nets : List (List ℕ)) → IsHeadOf file head → nets ≡ [] → IsReading file head nets
+none_read file head nets of_file none = record {
   of_file = of_file;
-  named = ap (map Some) none ∙ ap (λ (l : List (List ℕ)). nets_before reading.file (length l)) (sym none);
-  faultless = λ other section below at. (let e : length reading.nets ≡ 0 = ap length none in absurd (omega (arith, below, e)));
+  named = ap (map Some) none ∙ ap (λ (l : List (List ℕ)). nets_before file (length l)) (sym none);
+  faultless = λ other section below at. (let e : length nets ≡ 0 = ap length none in absurd (omega (arith, below, e)));
 }
 
 -- the section at a place is the next one
-module _ {I : Type 0} (corners : Corners I) (file : SpefText) (head : HeadText) (pick : Pick) (nets : List (List ℕ)) (is : IsReading (record { file = file; head = head; pick = pick; nets = nets })) (place : ℕ) (next : place ≡ length nets)
+module _ {I : Type 0} (corners : Corners I) (file : SpefText) (head : HeadText) (nets : List (List ℕ)) (is : IsReading file head nets) (place : ℕ) (next : place ≡ length nets)
     (left : length nets < length file.reading.sections) where
   abbrev section : Section
   section = section_at file.reading.sections place
@@ -119,8 +122,8 @@ module _ {I : Type 0} (corners : Corners I) (file : SpefText) (head : HeadText) 
     one_longer = length-append nets (net ∷ []) ∙ ap (λ n. n + 1) (sym next)
 
     -- one more section
-    pub read_more : (after : List (List ℕ)) → IsFaultless file head place section → after ≡ nets ++ net ∷ [] → IsReading (record { file = file; head = head; pick = pick; nets = after })
-    read_more after good put = subst (λ (l : List (List ℕ)). IsReading (record { file = file; head = head; pick = pick; nets = l })) (sym put) (record {
+    pub read_more : (after : List (List ℕ)) → IsFaultless file head place section → after ≡ nets ++ net ∷ [] → IsReading file head after
+    read_more after good put = subst (λ (l : List (List ℕ)). IsReading file head l) (sym put) (record {
       of_file = is.of_file;
       named = map_push Some nets net ∙ (λ i. before i ++ sym named i ∷ [])
           ∙ sym (map_push (λ (s : Section). net_at file s.net) (take place file.reading.sections) section)
@@ -135,58 +138,51 @@ module _ {I : Type 0} (corners : Corners I) (file : SpefText) (head : HeadText) 
             subst (λ (s : Section). IsFaultless file head other s) equal (subst (λ (n : ℕ). IsFaultless file head n section) (sym same) good)
         by other its less there (inr differ) = good_before other its (omega (arith, less, differ)) there
 
--- these nets have been read
-pub record AreRead {I : Type 0} (corners : Pick → Corners I) (file : SpefText) (head : HeadText) (pick : Pick) (reading : Reading) (nets : List NetElements) (many : ℕ) : Type 0 where
-  pub is : reading ≡ record { file = file; head = head; pick = pick; nets = net_names nets }
+-- the sections in front of this place have been read, and the tables hold their nets
+pub record AreRead {I : Type 0} (corners : Corners I) (file : SpefText) (head : HeadText) (nets : List (List ℕ)) (tables : Tables) (many : ℕ) : Type 0 where
+  pub reading : IsReading file head nets
+  pub held : HoldNets file head corners.count nets tables
   pub count : length nets ≡ many
-  pub each : (place : ℕ) (net : NetElements) → slice_get nets place ≡ Some net → IsNet (corners pick) file head (section_at file.reading.sections place) net
+  pub each : (place : ℕ) (net : NetElements) → slice_get (nets_in file corners.count nets tables) place ≡ Some net → IsNet corners file head (section_at file.reading.sections place) net
 
-module _ {I : Type 0} (corners : Pick → Corners I) (file : SpefText) (head : HeadText) (pick : Pick) where
-  pub no_nets : (reading : Reading) → reading ≡ record { file = file; head = head; pick = pick; nets = [] } → AreRead corners file head pick reading [] 0
-  no_nets reading is = record { is = is; count = refl; each = λ place net at. absurd (cc) }
+module _ {I : Type 0} (corners : Corners I) (file : SpefText) (head : HeadText) where
+  pub no_nets : IsHeadOf file head → (nets : List (List ℕ)) (tables : Tables) → nets ≡ [] → tables.nodes.items ≡ [] → rows_of tables.elements ≡ no_rows → tables.ends.items ≡ []
+      → AreRead corners file head nets tables 0
+  no_nets of_file nets tables none no_nodes empty no_ends =
+      let held : HoldNets file head corners.count nets tables = none_tabled file head corners.count nets tables.ends.items tables.nodes.items (rows_of tables.elements)
+      (record { head_of_file = of_file; each = λ k d below. absurd (omega (arith, below)) }) none no_ends no_nodes empty in
+      let few : length (nets_in file corners.count nets tables) ≡ length nets = as_many_nets file corners.count tables.nodes.items (rows_of tables.elements) start tables.ends.items nets held.named in
+      record {
+        reading = none_read file head nets of_file none;
+        held = held;
+        count = ap length none;
+        each = λ place net at. absurd (let within = slice_get_within (nets_in file corners.count nets tables) place net at in omega (arith, within, few, ap length none));
+      }
 
-  module _ (reading : Reading) (nets : List NetElements) (many : ℕ) (read : AreRead corners file head pick reading nets many) where
-    pub its_place : length reading.nets ≡ many
-    its_place = ap (λ (r : Reading). length r.nets) read.is ∙ length-map nets (λ (n : NetElements). n.net) ∙ read.count
+  module _ (nets : List (List ℕ)) (tables : Tables) (many : ℕ) (read : AreRead corners file head nets tables many) where
+    abbrev all : List NetElements
+    all = nets_in file corners.count nets tables
 
-    pub its_left : many < length file.reading.sections → length reading.nets < length reading.file.reading.sections
-    its_left below =
-        let same : length reading.file.reading.sections ≡ length file.reading.sections = ap (λ (r : Reading). length r.file.reading.sections) read.is in
-        omega (arith, below, same, its_place)
+    all_count : length all ≡ length nets
+    all_count = as_many_nets file corners.count tables.nodes.items (rows_of tables.elements) start tables.ends.items nets read.held.named
 
-    pub one_more : (after : Reading) (net : NetElements) → IsNet (corners reading.pick) reading.file reading.head (next_section reading) net → after ≡ with_net reading net.net
-        → (now : List NetElements) → now ≡ nets ++ net ∷ [] → AreRead corners file head pick after now (many + 1)
-    one_more after net is grows now pushed = subst (λ (l : List NetElements). AreRead corners file head pick after l (many + 1)) (sym pushed) (record {
-      is = grows ∙ ap (λ (r : Reading). with_net r net.net) read.is
-          ∙ ap (λ (l : List (List ℕ)). record { file = file; head = head; pick = pick; nets = l }) (sym (map_push (λ (n : NetElements). n.net) nets net));
-      count = length-append nets (net ∷ []) ∙ ap (λ n. n + 1) read.count;
+    pub one_more : (after : List (List ℕ)) (now : Tables) (net : NetElements) → IsNet corners file head (section_at file.reading.sections (length nets)) net
+        → nets_in file corners.count after now ≡ all ++ net ∷ [] → HoldNets file head corners.count after now → IsReading file head after
+        → AreRead corners file head after now (many + 1)
+    one_more after now net is grows held reading = record {
+      reading = reading;
+      held = held;
+      count = sym (as_many_nets file corners.count now.nodes.items (rows_of now.elements) start now.ends.items after held.named) ∙ ap length grows
+          ∙ length-append all (net ∷ []) ∙ ap (λ n. n + 1) (all_count ∙ read.count);
       each = λ place it there. ⊎_elim (λ l. read.each place it l)
-          (λ r. subst (λ (x : NetElements). IsNet (corners pick) file head (section_at file.reading.sections place) x) r.1 (subst (λ (n : ℕ). IsNet (corners pick) file head (section_at file.reading.sections n) net) (sym (r.0 ∙ read.count)) its_net))
-          (get_push nets net place it there);
-    })
-      where
-        by_file : IsNet (corners pick) file head (section_at file.reading.sections (length (net_names nets))) net
-        by_file = subst (λ (r : Reading). IsNet (corners r.pick) r.file r.head (next_section r) net) read.is is
+          (λ r. subst (λ (x : NetElements). IsNet corners file head (section_at file.reading.sections place) x) r.1
+          (subst (λ (n : ℕ). IsNet corners file head (section_at file.reading.sections n) net) (sym (r.0 ∙ all_count)) is))
+          (get_push all net place it (subst (λ (l : List NetElements). slice_get l place ≡ Some it) grows there));
+    }
 
-        its_net : IsNet (corners pick) file head (section_at file.reading.sections many) net
-        its_net = subst (λ (n : ℕ). IsNet (corners pick) file head (section_at file.reading.sections n) net) (length-map nets (λ (n : NetElements). n.net) ∙ read.count) by_file
+    pub all_nets : many ≡ length file.reading.sections → AreNets corners file head all
+    all_nets whole = record { count = all_count ∙ read.count ∙ whole; each = read.each }
 
-    -- a refusal is one of the file
-    pub its_end : (end : SectionEnd) → IsSectionEnd reading.file reading.head end → IsSectionEnd file head end
-    its_end end is = subst (λ (r : Reading). IsSectionEnd r.file r.head end) read.is is
-
-    pub its_least : (end : SectionEnd) → (end ≡ OutOfMemory) ⊎ IsLeastFault reading.file reading.head end → (end ≡ OutOfMemory) ⊎ IsLeastFault file head end
-    its_least end is = subst (λ (r : Reading). (end ≡ OutOfMemory) ⊎ IsLeastFault r.file r.head end) read.is is
-
-    pub all_nets : many ≡ length file.reading.sections → AreNets (corners pick) file head nets
-    all_nets whole = record { count = read.count ∙ whole; each = read.each }
-
-    pub all_faultless : many ≡ length file.reading.sections → AreFaultlessBefore reading.file reading.head (length reading.nets) → AreFaultless file head
-    all_faultless whole good place section at =
-        subst (λ (r : Reading). AreFaultlessBefore r.file r.head (length r.nets)) read.is good place section
-        (let within = slice_get_within file.reading.sections place section at in let e = length-map nets (λ (n : NetElements). n.net) in let c = read.count in omega (arith, within, whole, e, c)) at
-
--- a refusal's fault is the least
-pub err_least : {T : Type 0} (file : SpefText) (head : HeadText) (r : Result T SectionEnd) → IsFormed file → IfErr r (IsSectionEnd file head) → IfErr r (λ end. (end ≡ OutOfMemory) ⊎ IsLeastFault file head end)
-err_least file head (Ok x) formed is = tt
-err_least file head (Err end) formed is = least_end file head end (sections_in_order file formed) is
+    pub all_faultless : many ≡ length file.reading.sections → AreFaultless file head
+    all_faultless whole place section at =
+        read.reading.faultless place section (let within = slice_get_within file.reading.sections place section at in omega (arith, within, whole, read.count)) at

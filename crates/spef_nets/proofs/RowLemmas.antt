@@ -1,13 +1,11 @@
 -- Rows of values, when there is one more.
 use Rattle.std.proofs.Common.{◌≡◌, ℕ, ◌+◌, ◌*◌, ◌<◌, List, [], ◌∷◌, ◌++◌, length, ◌⊎◌, inl, inr, ⊎_elim, refl, sym, ap, ◌∙◌, subst, arith, length-append, append-nil, append_assoc}
 use Rattle.std.specs.Prelude.{Option, Some, None, slice_get, All}
-use Rattle.name_table.specs.declared.spef_names.NodeName.{NodeName}
-use Rattle.spef_nets.specs.NetElements.{NetElements, AreWhole}
 use Rattle.std.proofs.lemmas.Bool.{cases_eq}
 use Rattle.std.proofs.lemmas.List.Elements.{All-append, All-push}
 use Rattle.corner_set.specs.declared.pick.Pick.{Pick}
 use Rattle.spef_nets.specs.Sections.{Corners, HasValue}
-use Rattle.spef_nets.specs.Drafts.{AddsRow, AddsUpto, AreRows, written_net}
+use Rattle.spef_nets.specs.Drafts.{AddsRow, AddsUpto, AreRows}
 use Rattle.spef_nets.proofs.Lists.{get_left, get_right, get_last, get_push}
 
 module _ {I T E : Type 0} (corners : Corners I) where
@@ -94,9 +92,3 @@ module _ {I T : Type 0} (corners : Corners I) (P : Pick → T → Type 0) (old :
 -- each number below the count is that of a corner
 pub corner_there : {I : Type 0} (corner_of : ℕ → Option I) (number : ℕ) → (index : I) × (corner_of number ≡ Some index) → corner_of number ≡ None → ⊥
 corner_there corner_of number (index, is) none = absurd (cc)
-
--- the nodes by another name
-pub rewritten : (count : ℕ) (net : NetElements) (nodes : List NodeName) (written : ℕ) → net.nodes ≡ nodes → AreWhole count (written_net net written)
-    → AreWhole count (record { net = net.net; nodes = nodes; conns = net.conns; loads = net.loads; caps = net.caps; farads = net.farads; joints = net.joints; ohms = net.ohms; written = written })
-rewritten count net nodes written is whole =
-    subst (λ (l : List NodeName). AreWhole count (record { net = net.net; nodes = l; conns = net.conns; loads = net.loads; caps = net.caps; farads = net.farads; joints = net.joints; ohms = net.ohms; written = written })) is whole

@@ -11,4 +11,7 @@ pub mod Drafts
 pub mod DraftOf
 pub mod Reading
 pub mod NodeNames
-pub mod ElementsOf
+pub mod Rows
+pub mod RowsOf
+pub mod Tables
+pub mod TablesOf

@@ -1,11 +1,11 @@
 //! The elements of a section that have been read.
 ghost use Rattle.std.specs.Prelude.{◌≡◌, ◌<◌, [], length, IfOk, OnOk};
-ghost use Rattle.spef_nets.specs.NetElements.{AreWhole};
 ghost use Rattle.spef_text.specs.Heads.{IsHeadOf};
 ghost use Rattle.spef_nets.specs.Refs.{ArePlaced, IsNamed};
 ghost use Rattle.spef_nets.specs.RefsOf.{refs_of};
 ghost use Rattle.spef_nets.specs.Drafts.{Drafted, corners_of, AddsRow, no_draft, written_net, FaradsOf, OhmsOf, PutsConn, PutsCap, PutsRes};
 ghost use Rattle.spef_nets.specs.DraftOf.{drafted};
+ghost use Rattle.spef_nets.specs.TablesOf.{AddsNet};
 
 use crate::amounts::Grains;
 use crate::elements::Elements;
@@ -13,14 +13,13 @@ use crate::parts::{Ends, Listed};
 use crate::referred::{RefLists, Referred};
 use crate::section_lists::SectionLists;
 use crate::source::Source;
-use crate::spelled_section::SpelledSection;
+use crate::tables::Tables;
 use corner_set::{CornerSet, Pick};
 use delay_units::{Farads, Ohms};
 use edge_io::lists::{empty, push};
 use edge_io::{OutOfMemory, Text};
 use spef_text::Conn;
 use std::alloc::Global;
-use std::marker::PhantomData;
 use std::mem;
 
 /// With fewer capacitances a net is small.
@@ -117,7 +116,6 @@ impl<'r, 'f> Draft<'r, 'f> {
             farads,
             joints,
             ohms,
-            written: _,
         } = mem::replace(&mut lists.elements, Elements::new(alloc));
         Draft {
             net,
@@ -218,17 +216,18 @@ impl<'r, 'f> Draft<'r, 'f> {
         Ok(())
     }
 
-    /// The net with these elements, of which so many capacitances are written. The lists are handed back.
-    pub fn into_section<C: CornerSet>(
+    /// Moves the net's rows behind those of the nets in the tables. Of its capacitances so many are written. The lists are handed back.
+    pub fn move_into(
         self,
         written: usize,
-        lists: &mut RefLists<'r>,
-    ) -> SpelledSection<'r, 'f, C>
-        requires { AreWhole C.COUNT (written_net (drafted self).net written) }
-        ensures { result ≡ written_net (drafted self.entry).net written }
+        tables: &mut Tables,
+        lists: &mut SectionLists<'r>,
+    ) -> Result<(), OutOfMemory>
+        ensures { OnOk result
+            (AddsNet (drafted self.entry).refs.file tables.old tables.new (written_net (drafted self.entry).net written)) }
     {
         let Draft {
-            net,
+            net: _,
             refs,
             conns,
             loads,
@@ -237,19 +236,18 @@ impl<'r, 'f> Draft<'r, 'f> {
             joints,
             ohms,
         } = self;
-        SpelledSection {
-            net,
-            nodes: refs.into_nodes(lists),
-            elements: Elements {
-                conns,
-                loads,
-                caps,
-                farads,
-                joints,
-                ohms,
-                written,
-            },
-            corners: PhantomData,
-        }
+        let mut nodes = refs.into_nodes(&mut lists.refs).into_tokens();
+        let mut elements = Elements {
+            conns,
+            loads,
+            caps,
+            farads,
+            joints,
+            ohms,
+        };
+        tables.append(&mut nodes, &mut elements, written)?;
+        lists.nodes = nodes;
+        lists.elements = elements;
+        Ok(())
     }
 }

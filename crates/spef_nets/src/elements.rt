@@ -1,12 +1,15 @@
-//! The elements of one net, by the numbers of its nodes.
-ghost use Rattle.std.specs.Prelude.{◌≡◌, ℕ, List, []};
-ghost use Rattle.spef_nets.specs.ElementsOf.{net_of, no_elements};
+//! The elements of nets, by the numbers of their nodes.
+ghost use Rattle.std.specs.Prelude.{◌≡◌, ◌++◌, IfOk, OnOk};
+ghost use Rattle.spef_nets.specs.Rows.{no_rows, with_rows};
+ghost use Rattle.spef_nets.specs.RowsOf.{rows_of};
 
 use crate::parts::{Ends, Listed};
+use corner_set::CornerSet;
 use delay_units::{Farads, Ohms};
+use edge_io::OutOfMemory;
 use std::alloc::Global;
 
-/// The elements of one net. Values stand row after row, and in each row by corner.
+/// The elements of one net, or of many, one net behind another. Values stand row after row, and in each row by corner.
 #[derive(Drop)]
 pub struct Elements {
     pub conns: Vec<Listed>,
@@ -15,15 +18,12 @@ pub struct Elements {
     pub farads: Vec<Farads>,
     pub joints: Vec<Ends>,
     pub ohms: Vec<Ohms>,
-
-    /// How many capacitances are written, a coupling as one.
-    pub written: usize,
 }
 
 impl Elements {
     /// No element. It takes no memory.
     pub fn new(alloc: Global) -> Elements
-        ensures { (net : List ℕ) → net_of net [] result ≡ no_elements net }
+        ensures { rows_of result ≡ no_rows }
     {
         Elements {
             conns: Vec::new(alloc),
@@ -32,7 +32,46 @@ impl Elements {
             farads: Vec::new(alloc),
             joints: Vec::new(alloc),
             ohms: Vec::new(alloc),
-            written: 0,
         }
     }
+
+    /// No element, with room for so many connections, capacitances and resistors.
+    pub fn with_room<C: CornerSet>(
+        alloc: Global,
+        conns: usize,
+        caps: usize,
+        ress: usize,
+    ) -> Result<Elements, OutOfMemory>
+        ensures { IfOk result (λ elements. rows_of elements ≡ no_rows) }
+    {
+        Ok(Elements {
+            conns: Vec::with_capacity(alloc, conns)?,
+            loads: Vec::with_capacity(alloc, conns.saturating_mul(C::COUNT))?,
+            caps: Vec::with_capacity(alloc, caps)?,
+            farads: Vec::with_capacity(alloc, caps.saturating_mul(C::COUNT))?,
+            joints: Vec::with_capacity(alloc, ress)?,
+            ohms: Vec::with_capacity(alloc, ress.saturating_mul(C::COUNT))?,
+        })
+    }
+
+    /// Moves other elements behind these.
+    pub fn append(&mut self, more: &mut Elements) -> Result<(), OutOfMemory>
+        ensures { OnOk result (rows_of self.new ≡ with_rows (rows_of self.old) (rows_of more.old)) }
+    {
+        move_all(&mut self.conns, &mut more.conns)?;
+        move_all(&mut self.loads, &mut more.loads)?;
+        move_all(&mut self.caps, &mut more.caps)?;
+        move_all(&mut self.farads, &mut more.farads)?;
+        move_all(&mut self.joints, &mut more.joints)?;
+        move_all(&mut self.ohms, &mut more.ohms)?;
+        Ok(())
+    }
+}
+
+/// Moves items behind others.
+pub fn move_all<T>(items: &mut Vec<T>, more: &mut Vec<T>) -> Result<(), OutOfMemory>
+    ensures { OnOk result (items.new.items ≡ items.old.items ++ more.old.items) }
+{
+    items.append(more)?;
+    Ok(())
 }

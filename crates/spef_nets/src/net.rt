@@ -1,4 +1,4 @@
-//! A net, wherever the names of its nodes are.
+//! A net of a file.
 ghost use Rattle.std.specs.Prelude.{◌≡◌, ◌+◌, ◌*◌, ◌<◌, ◌≤◌, length, slice_get, Some, IfOk};
 ghost use Rattle.corner_set.specs.Places.{value_at};
 ghost use Rattle.delay_units.specs.Bounds.{most_farads, most_ohms};
@@ -6,9 +6,9 @@ ghost use Rattle.spef_nets.specs.NetElements.{NetElements};
 ghost use Rattle.spef_nets.specs.Nodes.{AreDistinctNodes};
 ghost use Rattle.spef_nets.specs.NodeNames.{IsSdfAt};
 
-use crate::elements::Elements;
 use crate::node_names::NodeNames;
 use crate::parts::{Ends, Listed, Resistor};
+use crate::tables::ElementParts;
 use corner_set::CornerSet;
 use delay_units::{Farads, Ohms};
 use edge_io::{OutOfMemory, Steps, Text};
@@ -18,30 +18,34 @@ use std::marker::{Model, PhantomData};
 use std::sync::ledger::Ledger;
 
 /// One net: its nodes, numbered from 0 by first place, its connections, its capacitances to ground and its resistors. Contracts see
-/// these. The names of the nodes are made when they are asked for.
+/// these. It is a view of the lists of all nets, and the names of its nodes are made when they are asked for.
 #[derive(Drop)]
 pub struct Net<'s, 'f, C: CornerSet> {
-    pub(crate) net: &'s Text,
+    pub(crate) net: &'s [u8],
     pub(crate) names: NodeNames<'s, 'f>,
-    pub(crate) elements: &'s Elements,
+    pub(crate) elements: ElementParts<'s>,
+    pub(crate) written: usize,
     pub(crate) corners: PhantomData<C>,
 }
 
 impl<'s, 'f, C: CornerSet> Model for Net<'s, 'f, C> {
     ghost use Rattle.spef_nets.specs.NetElements.{NetElements, AreWhole};
-    ghost use Rattle.spef_nets.specs.NodeNames.{nodes_in, AreNames};
-    ghost use Rattle.spef_nets.specs.ElementsOf.{net_of};
+    ghost use Rattle.spef_nets.specs.Nodes.{nodes_at};
+    ghost use Rattle.spef_nets.specs.NodeNames.{AreSpelled};
+    ghost use Rattle.spef_nets.specs.Rows.{net_in};
+    ghost use Rattle.spef_nets.specs.RowsOf.{rows_at};
 
     ghost Value = { NetElements };
 
-    ghost view = { λ n. net_of n.net.now (nodes_in n.names) n.elements.now };
+    ghost view = { λ n. net_in n.net.now (nodes_at n.names.file.now n.names.tokens.now) (rows_at n.elements) n.written };
 
-    ghost invariant = { λ n. AreNames n.names × AreWhole C.COUNT (net_of n.net.now (nodes_in n.names) n.elements.now) };
+    ghost invariant = { λ n. AreSpelled n.names.file.now n.names.head.now n.names.tokens.now
+        × AreWhole C.COUNT (net_in n.net.now (nodes_at n.names.file.now n.names.tokens.now) (rows_at n.elements) n.written) };
 }
 
 impl<'s, 'f, C: CornerSet> Net<'s, 'f, C> {
     /// The net's name.
-    pub fn net(&self) -> &Text
+    pub fn net(&self) -> &[u8]
         ensures { result.now ≡ self.now.net }
     {
         self.net
@@ -90,7 +94,7 @@ impl<'s, 'f, C: CornerSet> Net<'s, 'f, C> {
         ensures conn { slice_get self.now.conns i ≡ Some result }
         ensures node { result.node < length self.now.nodes }
     {
-        self.elements.conns[i]
+        item(self.elements.conns, i)
     }
 
     /// The load of a connection at a corner, 0 where the file gives none.
@@ -99,14 +103,14 @@ impl<'s, 'f, C: CornerSet> Net<'s, 'f, C> {
         ensures load { value_at C.COUNT self.now.loads i (C.number_of corner) ≡ Some result }
         ensures most { result.0 ≤ most_farads }
     {
-        self.elements.loads[i * C::COUNT + C::number(corner)]
+        value(self.elements.loads, i, C::COUNT, C::number(corner))
     }
 
     /// How many capacitances the section has as it is written, a coupling as one.
     pub fn written_caps(&self) -> usize
         ensures { result ≡ self.now.written }
     {
-        self.elements.written
+        self.written
     }
 
     /// How many capacitances to ground there are, a coupling counted at each of its places that belongs: at most two.
@@ -133,8 +137,8 @@ impl<'s, 'f, C: CornerSet> Net<'s, 'f, C> {
     {
         steps.tick();
         (
-            self.elements.caps[i] as usize,
-            self.elements.farads[i * C::COUNT + C::number(corner)],
+            item(self.elements.caps, i) as usize,
+            value(self.elements.farads, i, C::COUNT, C::number(corner)),
         )
     }
 
@@ -156,11 +160,29 @@ impl<'s, 'f, C: CornerSet> Net<'s, 'f, C> {
         ensures step { steps.new ≡ steps.old + 1 }
     {
         steps.tick();
-        let Ends { a, b } = self.elements.joints[i];
+        let Ends { a, b } = item(self.elements.joints, i);
         Resistor {
             a: a as usize,
             b: b as usize,
-            ohms: self.elements.ohms[i * C::COUNT + C::number(corner)],
+            ohms: value(self.elements.ohms, i, C::COUNT, C::number(corner)),
         }
     }
+}
+
+// An item of a net's part of a list.
+#[inline]
+fn item<T: Copy>(items: &[T], i: usize) -> T
+    requires { i < length items.now }
+    ensures { slice_get items.now i ≡ Some result }
+{
+    items[i]
+}
+
+// The value of this number in a row, of which each has so many.
+#[inline]
+fn value<T: Copy>(values: &[T], row: usize, count: usize, number: usize) -> T
+    requires { row * count + number < length values.now }
+    ensures { slice_get values.now (row * count + number) ≡ Some result }
+{
+    values[row * count + number]
 }

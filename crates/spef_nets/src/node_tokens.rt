@@ -1,14 +1,11 @@
 //! The nodes of a section, by the tokens where they stand first.
-ghost use Rattle.std.specs.Prelude.{◌≡◌, ◌<◌, [], ◌∷◌, ◌++◌, length, Some, IfOk, OnOk, OnErr};
+ghost use Rattle.std.specs.Prelude.{◌≡◌, [], ◌∷◌, ◌++◌, length, Some, OnOk, OnErr};
 ghost use Rattle.name_table.specs.declared.spef_names.NodeName.{NodeName};
 ghost use Rattle.spef_text.specs.Heads.{IsHeadOf};
-ghost use Rattle.spef_nets.specs.Nodes.{node_at};
-ghost use Rattle.spef_nets.specs.NodeNames.{nodes_in, AreNames};
+ghost use Rattle.spef_nets.specs.Nodes.{node_at, nodes_at};
+ghost use Rattle.spef_nets.specs.NodeNames.{NameNodes};
 
-use crate::node_names::{NodeNames, Spelled};
 use edge_io::OutOfMemory;
-use edge_io::lists::push;
-use name_table::NodeName;
 use spef_text::{Head, SpefFile};
 use std::alloc::Global;
 use std::marker::Model;
@@ -68,38 +65,17 @@ impl<'r, 'f> NodeTokens<'r, 'f> {
         self.tokens.len()
     }
 
-    /// The list of the tokens, to be used again.
-    pub fn into_tokens(self) -> Vec<u32> {
+    /// The tokens, in the order of the nodes.
+    pub fn into_tokens(self) -> Vec<u32>
+        ensures nodes { nodes_at self.entry.file result.items ≡ self.entry.nodes }
+        ensures each { NameNodes self.entry.file result.items }
+    {
         let NodeTokens {
             file: _,
             head: _,
             tokens,
         } = self;
         tokens
-    }
-
-    /// The names of the nodes, to be made when they are asked for.
-    pub fn names(&self) -> NodeNames<'_, 'f>
-        ensures names { AreNames result }
-        ensures nodes { nodes_in result ≡ self.now.nodes }
-    {
-        NodeNames::Spelled(Spelled {
-            file: self.file,
-            head: self.head,
-            tokens: self.tokens.as_slice(),
-        })
-    }
-
-    /// The names of all nodes.
-    pub fn all_names(&self, alloc: Global) -> Result<Vec<NodeName>, OutOfMemory>
-        ensures { IfOk result (λ names. names.items ≡ self.now.nodes) }
-    {
-        let spelled = self.names();
-        let mut names = Vec::with_capacity(alloc, self.tokens.len())?;
-        for node in 0..self.len() {
-            push(&mut names, spelled.name(alloc, node)?)?;
-        }
-        Ok(names)
     }
 }
 

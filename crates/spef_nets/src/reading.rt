@@ -1,47 +1,120 @@
 //! The sections of a file are read.
-ghost use Rattle.std.specs.Prelude.{◌≡◌, ◌⊎◌, ◌<◌, [], ◌∷◌, ◌++◌, length, IfOk, IfErr, OnOk};
+ghost use Rattle.std.specs.Prelude.{◌≡◌, ◌⊎◌, ◌^◌, ◌<◌, [], ◌∷◌, ◌++◌, length, Contains, IfOk, IfErr, OnOk, OnErr};
 ghost use Rattle.spef_text.specs.Heads.{IsHeadOf};
+ghost use Rattle.spef_text.specs.Entries.{section_at};
+ghost use Rattle.spef_nets.specs.NetElements.{NetElements, AreWhole};
 ghost use Rattle.spef_nets.specs.Sections.{Corners, IsNet, AreNets};
-ghost use Rattle.spef_nets.specs.NetElements.{NetElements};
-ghost use Rattle.spef_nets.specs.Reading.{next_section, with_net};
-ghost use Rattle.spef_nets.specs.Drafts.{corners_of};
-ghost use Rattle.spef_nets.specs.Faults.{AreFaultless, IsSectionEnd, IsLeastFault};
+ghost use Rattle.spef_nets.specs.Faults.{IsFaultless, AreFaultless, IsSectionEnd, IsLeastFault};
+ghost use Rattle.spef_nets.specs.Drafts.{corners_of, written_net};
+ghost use Rattle.spef_nets.specs.DraftOf.{drafted};
+ghost use Rattle.spef_nets.specs.Reading.{IsReading};
+ghost use Rattle.spef_nets.specs.TablesOf.{HoldNets, nets_in};
 
+use crate::draft::Draft;
 use crate::ends::SectionEnd;
-use crate::section::Section;
-use crate::section_reader::SectionReader;
+use crate::section_lists::SectionLists;
 use crate::sections::Sections;
+use crate::source::Source;
+use crate::tables::Tables;
 use corner_set::{CornerSet, Pick};
-use edge_io::lists::push;
+use edge_io::{OutOfMemory, Text};
+use name_table::Names;
 use spef_text::{Head, SpefFile};
 use std::alloc::Global;
+use std::marker::PhantomData;
 
-// Reads the next section, and puts it behind those before it.
-fn push_next<C: CornerSet>(
-    alloc: Global,
-    reader: &mut SectionReader,
-    sections: &mut Vec<Section<C>>,
-) -> Result<(), SectionEnd>
-    requires { length reader.old.nets < length reader.old.file.reading.sections }
-    ensures next { OnOk result ((net : NetElements)
-        × IsNet (corners_of C.COUNT C.number_of C.member_of reader.old.pick) reader.old.file reader.old.head (next_section reader.old) net
-        × (reader.new ≡ with_net reader.old net.net) × (sections.new.items ≡ sections.old.items ++ net ∷ [])) }
-    ensures refused { IfErr result (IsSectionEnd reader.old.file reader.old.head) }
-    ensures least { IfErr result (λ end. (end ≡ SectionEnd.OutOfMemory) ⊎ IsLeastFault reader.old.file reader.old.head end) }
+// Refuses a net that has a section already.
+fn new_net(nets: &Names, net: Text, token: u64) -> Result<Text, SectionEnd>
+    ensures new { OnOk result (¬ Contains nets.now net) }
+    ensures same { IfOk result (λ new. new ≡ net) }
+    ensures err { IfErr result (λ end. Contains nets.now net × (end ≡ SectionEnd.RepeatedNet net token)) }
 {
-    let section = reader.read::<C>()?;
-    push(sections, section.into_section(alloc)?)?;
+    if nets.find(net.bytes()).is_some() {
+        return Err(SectionEnd::RepeatedNet { net, token });
+    }
+    Ok(net)
+}
+
+// Numbers a net by its section's place.
+fn put_net(nets: &mut Names, net: &Text) -> Result<(), OutOfMemory>
+    requires new { ¬ Contains nets.old net.now }
+    requires room { length nets.old < 2 ^ 30 }
+    ensures put { OnOk result (nets.new ≡ nets.old ++ net.now ∷ []) }
+    ensures same { OnErr result (nets.new ≡ nets.old) }
+{
+    match nets.intern(net.bytes()) {
+        Ok(_) => Ok(()),
+        Err(_) => Err(OutOfMemory),
+    }
+}
+
+// Reads the section behind those of these nets, and puts the name of its net behind theirs.
+fn read_behind<'r, 'f, C: CornerSet>(
+    source: &Source<'r, 'f>,
+    nets: &mut Names,
+    lists: &mut SectionLists<'r>,
+) -> Result<Draft<'r, 'f>, SectionEnd>
+    requires reading { IsReading source.now.file.now source.now.head.now nets.old }
+    requires left { length nets.old < length source.now.file.now.reading.sections }
+    requires few { length source.now.file.now.reading.sections < 2 ^ 30 }
+    ensures ok { IfOk result (λ draft. IsNet (corners_of C.COUNT C.number_of C.member_of source.now.pick) source.now.file.now
+        source.now.head.now (section_at source.now.file.now.reading.sections (length nets.old))
+        (written_net (drafted draft).net (length (section_at source.now.file.now.reading.sections (length nets.old)).caps))) }
+    ensures whole { IfOk result (λ draft. AreWhole C.COUNT
+        (written_net (drafted draft).net (length (section_at source.now.file.now.reading.sections (length nets.old)).caps))) }
+    ensures file { IfOk result (λ draft. (drafted draft).refs.file ≡ source.now.file.now) }
+    ensures put { IfOk result (λ draft. nets.new ≡ nets.old ++ (drafted draft).net.net ∷ []) }
+    ensures reading { OnOk result (IsReading source.now.file.now source.now.head.now nets.new) }
+    ensures refused { IfErr result (IsSectionEnd source.now.file.now source.now.head.now) }
+{
+    let place = nets.len();
+    let token = source.file.net_token(place);
+    let name = source.net_of(token)?;
+    let net = new_net(nets, name, token)?;
+    let draft = source.read_section::<C>(place, net, lists)?;
+    put_net(nets, &draft.net)?;
+    Ok(draft)
+}
+
+// Reads the next section, and puts its net behind those before it.
+fn push_next<'r, 'f, C: CornerSet>(
+    source: &Source<'r, 'f>,
+    nets: &mut Names,
+    tables: &mut Tables,
+    lists: &mut SectionLists<'r>,
+) -> Result<(), SectionEnd>
+    requires reading { IsReading source.now.file.now source.now.head.now nets.old }
+    requires left { length nets.old < length source.now.file.now.reading.sections }
+    requires few { length source.now.file.now.reading.sections < 2 ^ 30 }
+    requires held { HoldNets source.now.file.now source.now.head.now C.COUNT nets.old tables.old }
+    ensures next { OnOk result ((net : NetElements)
+        × IsNet (corners_of C.COUNT C.number_of C.member_of source.now.pick) source.now.file.now source.now.head.now
+        (section_at source.now.file.now.reading.sections (length nets.old)) net
+        × (nets_in source.now.file.now C.COUNT nets.new tables.new ≡ nets_in source.now.file.now C.COUNT nets.old tables.old ++ net ∷ [])) }
+    ensures held { OnOk result (HoldNets source.now.file.now source.now.head.now C.COUNT nets.new tables.new) }
+    ensures reading { OnOk result (IsReading source.now.file.now source.now.head.now nets.new) }
+    ensures refused { IfErr result (IsSectionEnd source.now.file.now source.now.head.now) }
+{
+    let written = source.file.cap_count(nets.len());
+    let draft = read_behind::<C>(source, nets, lists)?;
+    draft.move_into(written, tables, lists)?;
     Ok(())
 }
 
-/// Reads all sections of a file, as [`SectionReader::read`] reads each of them. The first fault in the order of the file is told,
-/// which is the one with the least token; at one token they come in the order of [`SectionEnd`].
-pub fn read_sections<C: CornerSet>(
+/// Reads all sections of a file (IEEE 1481). A net has its nodes by first place, the connections (of several with one node the first
+/// alone), the capacitances, a coupling to ground at each of its two places whose node belongs to the section, and the resistors; each
+/// value is the rounded reading of the member that counts at the corner. One number stands for all three. It takes one look-up for
+/// each reference at most.
+///
+/// The first fault in the order of the file is told, which is the one with the least token; at one token they come in the order of
+/// [`SectionEnd`]. All three members of a value are examined. The total behind a net, the lines `*N`, and the loads of later
+/// connections with one node are not.
+pub fn read_sections<'r, 'f, C: CornerSet>(
     alloc: Global,
-    file: &SpefFile,
-    head: &Head,
+    file: &'r SpefFile<'f>,
+    head: &'r Head,
     pick: Pick,
-) -> Result<Sections<C>, SectionEnd>
+) -> Result<Sections<'r, 'f, C>, SectionEnd>
     requires { IsHeadOf file.now head.now }
     // What is answered is what the sections say.
     ensures ok { IfOk result (AreNets (record { count = C.COUNT; number = C.number_of; member = λ corner. C.member_of corner pick })
@@ -53,13 +126,24 @@ pub fn read_sections<C: CornerSet>(
     // A file with a fault is refused; so one without is not, unless memory ran out.
     ensures faultless { OnOk result (AreFaultless file.now head.now) }
 {
-    let mut reader = SectionReader::new(alloc, file, head, pick);
-    let mut sections = Vec::new(alloc);
+    let source = Source {
+        alloc,
+        file,
+        head,
+        pick,
+    };
+    let mut nets = Names::new(alloc);
+    let mut tables = Tables::with_room::<C>(alloc, file)?;
+    let mut lists = SectionLists::new(alloc);
+    file.formed();
     for _ in 0..file.section_count() {
-        push_next::<C>(alloc, &mut reader, &mut sections)?;
+        push_next::<C>(&source, &mut nets, &mut tables, &mut lists)?;
     }
     Ok(Sections {
-        sections,
-        nets: reader.into_nets(),
+        file,
+        head,
+        nets,
+        tables,
+        corners: PhantomData,
     })
 }

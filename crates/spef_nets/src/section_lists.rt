@@ -8,7 +8,7 @@ use std::alloc::Global;
 #[derive(Drop)]
 pub struct SectionLists<'r> {
     pub refs: RefLists<'r>,
-    // those of a section that was given back
+    // those of the section before, which has moved into the tables
     pub elements: Elements,
     pub nodes: Vec<u32>,
     // the spellings of the resistors' nodes

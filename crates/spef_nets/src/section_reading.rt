@@ -4,11 +4,12 @@ ghost use Rattle.spef_text.specs.Heads.{IsHeadOf, text_of};
 ghost use Rattle.spef_text.specs.Entries.{section_at};
 ghost use Rattle.spef_text.specs.declared.entries.Res.{Res};
 ghost use Rattle.spef_nets.specs.Nodes.{net_at};
+ghost use Rattle.spef_nets.specs.NetElements.{AreWhole};
 ghost use Rattle.spef_nets.specs.Sections.{IsNet};
 ghost use Rattle.spef_nets.specs.Faults.{naming, IsGood, IsFaultless};
 ghost use Rattle.spef_nets.specs.Refs.{ArePlaced, IsNamed, AreRefs, IsRef, Grows, res_keys};
 ghost use Rattle.spef_nets.specs.RefsOf.{refs_of};
-ghost use Rattle.spef_nets.specs.Drafts.{corners_of, IsUpto, IsStop, AreSomeRefs, JoinsAt, AllJoined, AreJoined, points_upto, IsLoad, IsLoadFault, IsUnless, CountsBy, no_draft};
+ghost use Rattle.spef_nets.specs.Drafts.{corners_of, IsUpto, IsStop, AreSomeRefs, JoinsAt, AllJoined, AreJoined, points_upto, IsLoad, IsLoadFault, IsUnless, CountsBy, no_draft, written_net};
 ghost use Rattle.spef_nets.specs.DraftOf.{drafted};
 
 use crate::amounts::Grains;
@@ -18,7 +19,6 @@ use crate::parts::{Joined, spelling_of};
 use crate::referred::Referred;
 use crate::section_lists::SectionLists;
 use crate::source::Source;
-use crate::spelled_section::SpelledSection;
 use corner_set::CornerSet;
 use edge_io::lists::push;
 use edge_io::{OutOfMemory, Text};
@@ -394,15 +394,19 @@ impl<'r, 'f> Source<'r, 'f> {
         s: usize,
         net: Text,
         lists: &mut SectionLists<'r>,
-    ) -> Result<SpelledSection<'r, 'f, C>, SectionEnd>
+    ) -> Result<Draft<'r, 'f>, SectionEnd>
         requires section { s < length self.now.file.now.reading.sections }
         requires head { IsHeadOf self.now.file.now self.now.head.now }
         requires net { net_at self.now.file.now (section_at self.now.file.now.reading.sections s).net ≡ Some net }
         requires new { IsGood self.now.file.now s (section_at self.now.file.now.reading.sections s)
             (naming (section_at self.now.file.now.reading.sections s).net) }
-        ensures ok { IfOk result (IsNet (corners_of C.COUNT C.number_of C.member_of self.now.pick) self.now.file.now self.now.head.now
-            (section_at self.now.file.now.reading.sections s)) }
-        ensures net { IfOk result (λ section. section.net ≡ net) }
+        ensures ok { IfOk result (λ draft. IsNet (corners_of C.COUNT C.number_of C.member_of self.now.pick) self.now.file.now
+            self.now.head.now (section_at self.now.file.now.reading.sections s)
+            (written_net (drafted draft).net (length (section_at self.now.file.now.reading.sections s).caps))) }
+        ensures whole { IfOk result (λ draft. AreWhole C.COUNT
+            (written_net (drafted draft).net (length (section_at self.now.file.now.reading.sections s).caps))) }
+        ensures net { IfOk result (λ draft. (drafted draft).net.net ≡ net) }
+        ensures file { IfOk result (λ draft. (drafted draft).refs.file ≡ self.now.file.now) }
         ensures faultless { OnOk result
             (IsFaultless self.now.file.now self.now.head.now s (section_at self.now.file.now.reading.sections s)) }
         ensures err { IfErr result (IsStop self.now.file.now self.now.head.now s) }
@@ -412,6 +416,6 @@ impl<'r, 'f> Source<'r, 'f> {
         let ress = self.file.res_count(s);
         let mut draft = Draft::with_room::<C>(self, lists, net, conns, caps, ress)?;
         self.fill::<C>(s, &mut draft, &mut lists.joints)?;
-        Ok(draft.into_section(caps, &mut lists.refs))
+        Ok(draft)
     }
 }

@@ -1,55 +1,82 @@
 //! The nets of a file.
-ghost use Rattle.std.specs.Prelude.{◌≡◌, ◌<◌, ℕ, length, map, slice_get, Some, Contains, IfSome, IfNone};
-ghost use Rattle.spef_nets.specs.NetElements.{NetElements, net_names};
+ghost use Rattle.std.specs.Prelude.{◌≡◌, ◌<◌, ℕ, length, map, slice_get, All, Some, Contains, IfSome, IfNone};
+ghost use Rattle.spef_nets.specs.NetElements.{NetElements, AreWhole, net_names};
 
-use crate::section::Section;
+use crate::net::Net;
+use crate::node_names::NodeNames;
+use crate::tables::Tables;
 use corner_set::CornerSet;
-use edge_io::Text;
-use name_table::Names;
-use std::marker::Model;
+use name_table::{NameId, Names};
+use spef_text::{Head, SpefFile};
+use std::marker::{Model, PhantomData};
 
-/// The nets of a file, one for each section, in the file's order. Contracts see the list of them.
+/// The nets of a file, one for each section, in the file's order. Contracts see the list of them. The elements of all of them stand in
+/// one set of lists.
 #[derive(Drop)]
-pub struct Sections<C: CornerSet> {
-    pub(crate) sections: Vec<Section<C>>,
+pub struct Sections<'r, 'f, C: CornerSet> {
+    pub(crate) file: &'r SpefFile<'f>,
+    pub(crate) head: &'r Head,
     // the names of the nets, each numbered by its section's place
     pub(crate) nets: Names,
+    pub(crate) tables: Tables,
+    pub(crate) corners: PhantomData<C>,
 }
 
-impl<C: CornerSet> Model for Sections<C> {
-    ghost use Rattle.std.specs.Prelude.{◌≡◌, List};
-    ghost use Rattle.spef_nets.specs.NetElements.{NetElements, net_names};
+impl<'r, 'f, C: CornerSet> Model for Sections<'r, 'f, C> {
+    ghost use Rattle.std.specs.Prelude.{ℕ, ◌<◌, ◌^◌, List, length};
+    ghost use Rattle.spef_nets.specs.NetElements.{NetElements};
+    ghost use Rattle.spef_nets.specs.TablesOf.{nets_in, HoldNets};
 
     ghost Value = { List NetElements };
 
-    ghost view = { λ s. s.sections.items };
+    ghost view = { λ s. nets_in s.file.now C.COUNT s.nets s.tables };
 
-    ghost invariant = { λ s. s.nets ≡ net_names s.sections.items };
+    // each net is whole, and they are few
+    ghost invariant = { λ s. HoldNets s.file.now s.head.now C.COUNT s.nets s.tables × (length s.nets < 2 ^ 30) };
 }
 
-impl<C: CornerSet> Sections<C> {
+impl<'r, 'f, C: CornerSet> Sections<'r, 'f, C> {
     /// How many nets there are.
     pub fn len(&self) -> usize
         ensures { result ≡ length self.now }
     {
-        self.sections.len()
+        self.tables.len()
     }
 
     /// The net of the section at a place.
-    pub fn get(&self, s: usize) -> &Section<C>
+    pub fn get(&self, s: usize) -> Net<'_, 'f, C>
         requires { s < length self.now }
-        ensures { slice_get self.now s ≡ Some result.now }
+        ensures net { slice_get self.now s ≡ Some result }
+        ensures whole { AreWhole C.COUNT result }
     {
-        &self.sections[s]
+        let (from, to) = self.tables.ends_of(s);
+        Net {
+            net: self.nets.text(NameId(s as u32)),
+            names: NodeNames {
+                file: self.file,
+                head: self.head,
+                tokens: self.tables.nodes_between(from, to),
+            },
+            elements: self.tables.elements_between::<C>(from, to),
+            written: to.written as usize,
+            corners: PhantomData,
+        }
     }
 
     /// The place of the section of a net, if it has one. It is one look-up, and takes no memory.
-    pub fn find(&self, net: &Text) -> Option<usize>
+    pub fn find(&self, net: &[u8]) -> Option<usize>
         ensures found { IfSome result (λ s. slice_get (net_names self.now) s ≡ Some net.now) }
         ensures within { IfSome result (λ s. s < length self.now) }
         ensures absent { IfNone result (¬ Contains (net_names self.now) net.now) }
     {
-        let id = self.nets.find(net.bytes())?;
+        let id = self.nets.find(net)?;
         Some(id.0 as usize)
+    }
+
+    /// Each net is whole. It does nothing when it is called.
+    pub fn whole(&self)
+        ensures { All (AreWhole C.COUNT) self.now }
+    {
+        let _ = &self.tables;
     }
 }

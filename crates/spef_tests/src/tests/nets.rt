@@ -3,28 +3,20 @@ ghost use Rattle.std.specs.Prelude.{◌≡◌, ◌<◌, ◌^◌, length};
 
 use corner_set::{Pick, Single};
 use edge_io::Steps;
-use spef_nets::{Section, SectionEnd, Sections, read_sections};
+use spef_nets::{Net, SectionEnd, Sections, read_sections};
 use spef_text::{parse, read_head};
 use std::alloc::Global;
 use std::marker::Brand;
 use std::sync::ledger::{Blank, Ledger};
 use std::test::Fail;
 
-/// The nets of a file whose text and head are sound, or why it has none.
-pub fn nets_of(
-    alloc: Global,
-    bytes: &[u8],
-    pick: Pick,
-) -> Option<Result<Sections<Single>, SectionEnd>>
+/// Why a file whose text and head are sound has no nets, or nothing where it has them.
+pub fn refusal_of(alloc: Global, bytes: &[u8], pick: Pick) -> Option<SectionEnd>
     requires { length bytes.now < 2 ^ 30 }
 {
-    let Ok(file) = parse(alloc, bytes) else {
-        return None;
-    };
-    let Ok(head) = read_head(alloc, &file) else {
-        return None;
-    };
-    Some(read_sections::<Single>(alloc, &file, &head, pick))
+    let file = parse(alloc, bytes).ok()?;
+    let head = read_head(alloc, &file).ok()?;
+    read_sections::<Single>(alloc, &file, &head, pick).err()
 }
 
 /// A net with one connection as it is read at the corner of a run: the spelling of its first node in SDF, its capacitances by
@@ -115,7 +107,7 @@ const READ: [Read; 8] = [
 
 /// Whether a net is like that.
 fn is_like<L: Ledger>(
-    net: &Section<Single>,
+    net: &Net<Single>,
     caps: &[(usize, u64); 2],
     ohms: u64,
     load: u64,
@@ -140,32 +132,90 @@ fn is_like<L: Ledger>(
         && net.conn_load(0, ()).0 == load
 }
 
-/// Whether a net is as a row says.
-fn is_read(net: &Section<Single>, row: &Read) -> bool {
-    begins_with(net, row.first) && has_values(net, &row.caps, row.ohms, row.load)
+/// Whether the last net of a row's file is as the row says.
+fn is_read(alloc: Global, row: &Read) -> bool
+    requires { length row.now.bytes.now < 2 ^ 30 }
+{
+    let Ok(file) = parse(alloc, row.bytes) else {
+        return false;
+    };
+    let Ok(head) = read_head(alloc, &file) else {
+        return false;
+    };
+    let Ok(sections) = read_sections::<Single>(alloc, &file, &head, row.pick) else {
+        return false;
+    };
+    let count = sections.len();
+    count > 0 && is_as(alloc, &sections.get(count - 1), row)
 }
 
-fn has_values(net: &Section<Single>, caps: &[(usize, u64); 2], ohms: u64, load: u64) -> bool {
+fn is_as(alloc: Global, net: &Net<Single>, row: &Read) -> bool {
+    begins_with(alloc, net, row.first) && has_values(net, &row.caps, row.ohms, row.load)
+}
+
+fn has_values(net: &Net<Single>, caps: &[(usize, u64); 2], ohms: u64, load: u64) -> bool {
     is_like::<Brand>(net, caps, ohms, load, Blank::new(1))
 }
 
 /// Whether the first node of a net is spelled so in SDF.
-fn begins_with(net: &Section<Single>, first: &[u8]) -> bool {
-    net.node_count() > 0 && net.node(0).sdf.bytes() == first
+fn begins_with(alloc: Global, net: &Net<Single>, first: &[u8]) -> bool {
+    if net.node_count() == 0 {
+        return false;
+    }
+    let (Ok(name), Ok(sdf)) = (net.node_name(alloc, 0), net.node_sdf(alloc, 0)) else {
+        return false;
+    };
+    name.sdf.bytes() == first && sdf.bytes() == first
 }
 
 #[test]
 fn nets_are_read(rt: HostRuntime) -> Result<(), Fail> {
     for row in &READ {
         assert!(rt; row.bytes.len() < 1 << 20);
-        let Some(Ok(sections)) = nets_of(rt.alloc(), row.bytes, row.pick) else {
-            assert!(rt; false);
-            return Ok(());
-        };
-        let count = sections.len();
-        assert!(rt; count > 0);
-        let net = sections.get(count - 1);
-        assert!(rt; is_read(net, row));
+        assert!(rt; is_read(rt.alloc(), row));
+    }
+    Ok(())
+}
+
+/// Three nets; of each the count of nodes, of connections, of capacitances and of resistors is another.
+const THREE: &[u8] =
+    b"*SPEF *C_UNIT 1 FF *R_UNIT 1 OHM *D_NET x 1 *CONN *I x:1 O *I x:2 I *CAP 1 x:1 1 *RES 1 x:1 x:2 7 *END \
+*D_NET y 1 *END *D_NET z 1 *CONN *I z:1 O *CAP 1 z:1 5 2 z:2 6 3 x:1 z:3 2 *RES 1 z:1 z:2 8 2 z:2 z:3 9 3 z:3 z:4 3 *END";
+
+/// The net of a name has so many nodes, connections, capacitances and resistors.
+fn has_counts(sections: &Sections<Single>, net: &[u8], counts: &[usize; 4]) -> bool {
+    let Some(place) = sections.find(net) else {
+        return false;
+    };
+    let net = sections.get(place);
+    net.node_count() == counts[0]
+        && net.conn_count() == counts[1]
+        && net.cap_count() == counts[2]
+        && net.res_count() == counts[3]
+}
+
+#[test]
+fn each_net_stands_at_its_section(rt: HostRuntime) -> Result<(), Fail> {
+    let Ok(file) = parse(rt.alloc(), THREE) else {
+        assert!(rt; false);
+        return Ok(());
+    };
+    let Ok(head) = read_head(rt.alloc(), &file) else {
+        assert!(rt; false);
+        return Ok(());
+    };
+    let Ok(sections) = read_sections::<Single>(rt.alloc(), &file, &head, Pick::Typ) else {
+        assert!(rt; false);
+        return Ok(());
+    };
+    assert_eq!(rt; sections.len(), 3);
+    assert!(rt; has_counts(&sections, b"x", &[2, 2, 1, 1]));
+    assert!(rt; has_counts(&sections, b"y", &[0, 0, 0, 0]));
+    assert!(rt; has_counts(&sections, b"z", &[4, 1, 3, 3]));
+    assert!(rt; sections.find(b"w").is_none());
+    let names: [&[u8]; 3] = [b"x", b"y", b"z"];
+    for place in 0..3 {
+        assert!(rt; sections.get(place).net() == names[place]);
     }
     Ok(())
 }

@@ -1,7 +1,7 @@
 //! What the sections of small files are refused for. The expected refusals are those of another reader.
 ghost use Rattle.std.specs.Prelude.{◌<◌, ◌^◌, length};
 
-use super::nets::nets_of;
+use super::nets::refusal_of;
 use corner_set::Pick;
 use spef_nets::SectionEnd;
 use std::alloc::Global;
@@ -10,7 +10,7 @@ use std::test::Fail;
 #[test]
 fn a_foreign_coupling_is_told_at_its_first_node(rt: HostRuntime) -> Result<(), Fail> {
     let bytes = b"*SPEF *C_UNIT 1 PF *R_UNIT 1 OHM *D_NET x 1 *CAP 1 p:1 q:1 0.4 *END";
-    let Some(Err(end)) = nets_of(rt.alloc(), bytes.as_slice(), Pick::Typ) else {
+    let Some(end) = refusal_of(rt.alloc(), bytes.as_slice(), Pick::Typ) else {
         assert!(rt; false);
         return Ok(());
     };
@@ -28,14 +28,13 @@ fn a_foreign_coupling_is_told_at_its_first_node(rt: HostRuntime) -> Result<(), F
 fn fault(alloc: Global, bytes: &[u8]) -> Option<(u64, u8)>
     requires { length bytes.now < 2 ^ 30 }
 {
-    match nets_of(alloc, bytes, Pick::Typ)? {
-        Ok(_) => None,
-        Err(SectionEnd::UnknownIndex { token }) => Some((token, 0)),
-        Err(SectionEnd::BadNumber { token }) => Some((token, 1)),
-        Err(SectionEnd::ValueTooLarge { token }) => Some((token, 2)),
-        Err(SectionEnd::RepeatedNet { net: _, token }) => Some((token, 3)),
-        Err(SectionEnd::ForeignCoupling { net: _, token }) => Some((token, 4)),
-        Err(SectionEnd::OutOfMemory) => Some((0, 5)),
+    match refusal_of(alloc, bytes, Pick::Typ)? {
+        SectionEnd::UnknownIndex { token } => Some((token, 0)),
+        SectionEnd::BadNumber { token } => Some((token, 1)),
+        SectionEnd::ValueTooLarge { token } => Some((token, 2)),
+        SectionEnd::RepeatedNet { net: _, token } => Some((token, 3)),
+        SectionEnd::ForeignCoupling { net: _, token } => Some((token, 4)),
+        SectionEnd::OutOfMemory => Some((0, 5)),
     }
 }
 

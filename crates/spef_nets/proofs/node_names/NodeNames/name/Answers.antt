@@ -1,10 +1,22 @@
-use Rattle.std.proofs.Common.{subst, ◌∙◌, ap, length, ◌<◌}
-use Rattle.spef_nets.specs.NodeNames.{AreNames, nodes_in}
-use Rattle.spef_nets.proofs.NodeNameLemmas.{as_many_names}
+use Rattle.std.proofs.Common.{sym, subst, ◌∙◌}
+use Rattle.std.specs.Prelude.{slice_index}
+use Rattle.spef_text.specs.References.{IsResolveEnd}
+use Rattle.spef_nets.proofs.Naming.{resolved_node, refused_node}
+use Rattle.spef_nets.proofs.NodeNameLemmas.{name_there, nothing_named}
 use Rattle.spef_nets.proofs.node_names.NodeNames.name.Goals as goal
 
 -- src/node_names.rt
-pub name-requires-clause-within : goal.name-requires-clause-within
-name-requires-clause-within c =
-    let spelled = subst AreNames c.in-Spelled.is c.requires.names in
-    subst (λ many. c.args.node < many) (ap (λ names. length (nodes_in names)) c.in-Spelled.is ∙ as_many_names c.in-Spelled.spelled.file.now c.in-Spelled.spelled.tokens.now spelled.each) c.requires.within
+pub unreachable-requires : goal.unreachable-requires
+unreachable-requires c =
+    let file = c.args.self.now.file.now in
+    let token = slice_index c.args.self.now.tokens.now c.args.node in
+    let (node, names) = c.requires.spelled.each c.args.node 0 c.requires.within in
+    let refused = subst (IsResolveEnd file token) c.in-Err-UnknownIndex.field-0-is c.in-Err-UnknownIndex.ensures.refused in
+    nothing_named node (sym (refused_node file token c.in-Err-UnknownIndex.field-0-0 refused).1 ∙ names)
+
+pub returns-in-Ok : goal.returns-in-Ok
+returns-in-Ok c =
+    let file = c.args.self.now.file.now in
+    let token = slice_index c.args.self.now.tokens.now c.args.node in
+    name_there file c.args.self.now.tokens.now c.args.node c.in-Ok.name c.requires.spelled.each c.requires.within
+    (resolved_node file c.args.self.now.head.now token c.in-Ok.name c.requires.spelled.head_of_file c.in-Ok.ensures.named)

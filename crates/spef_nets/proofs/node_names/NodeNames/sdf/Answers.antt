@@ -1,10 +1,22 @@
-use Rattle.std.proofs.Common.{subst, ◌∙◌, ap, length, ◌<◌}
-use Rattle.spef_nets.specs.NodeNames.{AreNames, nodes_in}
-use Rattle.spef_nets.proofs.NodeNameLemmas.{as_many_names}
+use Rattle.std.proofs.Common.{◌≡◌, sym, ◌∙◌}
+use Rattle.std.proofs.lemmas.Result.{IfOk-weaker}
+use Rattle.std.specs.Prelude.{slice_index}
+use Rattle.std.specs.Option.{option_copied}
+use Rattle.name_table.specs.WrittenNames.{in_sdf}
+use Rattle.spef_nets.specs.Nodes.{nodes_at}
+use Rattle.spef_nets.specs.NodeNames.{IsSdfAt}
+use Rattle.spef_nets.proofs.Naming.{resolved_node}
+use Rattle.spef_nets.proofs.NodeNameLemmas.{name_there}
 use Rattle.spef_nets.proofs.node_names.NodeNames.sdf.Goals as goal
 
 -- src/node_names.rt
-pub sdf-requires-clause-within : goal.sdf-requires-clause-within
-sdf-requires-clause-within c =
-    let spelled = subst AreNames c.in-Spelled.is c.requires.names in
-    subst (λ many. c.args.node < many) (ap (λ names. length (nodes_in names)) c.in-Spelled.is ∙ as_many_names c.in-Spelled.spelled.file.now c.in-Spelled.spelled.tokens.now spelled.each) c.requires.within
+pub returns-in-Some : goal.returns-in-Some
+returns-in-Some c =
+    let file = c.args.self.now.file.now in
+    let tokens = c.args.self.now.tokens.now in
+    let token = slice_index tokens c.args.node in
+    let as_written = c.in-Some.ensures in
+    let named = resolved_node file c.args.self.now.head.now token as_written.node c.requires.spelled.head_of_file as_written.names in
+    let there = name_there file tokens c.args.node as_written.node c.requires.spelled.each c.requires.within named in
+    IfOk-weaker c.sdf.result (λ sdf. sdf ≡ in_sdf c.in-Some.name.head.now (option_copied c.in-Some.name.tail)) (IsSdfAt (nodes_at file tokens) c.args.node)
+    (λ sdf is. (as_written.node, there, sym (is ∙ as_written.written.sdf))) c.sdf.ensures

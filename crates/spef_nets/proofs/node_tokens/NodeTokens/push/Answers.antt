@@ -1,7 +1,7 @@
 use Rattle.std.proofs.Common.{sym, ap, subst}
 use Rattle.spef_text.specs.SpefFiles.{SpefText}
-use Rattle.spef_nets.specs.NodeNames.{SpelledNodes}
-use Rattle.spef_nets.proofs.NodeNameLemmas.{NamesOne, still_spelled}
+use Rattle.spef_nets.specs.NodeNames.{NamesOne, SpelledNodes}
+use Rattle.spef_nets.proofs.NodeNameLemmas.{still_spelled}
 use Rattle.spef_nets.proofs.node_tokens.NodeTokens.push.Goals as goal
 
 -- src/node_tokens.rt
