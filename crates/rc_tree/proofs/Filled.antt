@@ -1,5 +1,6 @@
 -- What stands in a corner that is filled.
-use Rattle.std.proofs.Common.{◌≡◌, ◌≢◌, ℕ, ◌+◌, ◌*◌, ◌<◌, ◌≤◌, List, length, replicate, get_or, slice_index, slice_index_or, sym, ◌∙◌, ap, subst, arith, add-mul, one-mul, mul-le-mul_right, inl, inr}
+use Rattle.std.proofs.Common.{◌≡◌, ◌≢◌, ℕ, ◌+◌, ◌*◌, ◌<◌, ◌≤◌, List, [], length, replicate, get_or, slice_index, slice_index_or, sym, ◌∙◌, ap, subst, arith, add-mul, one-mul, mul-le-mul_right, inl, inr}
+use Rattle.std.proofs.Math.Nat.{zero-mul}
 use Rattle.std.proofs.lemmas.Bool.{cases_eq, cases_lt}
 use Rattle.std.proofs.lemmas.List.{get_or_default, get_or_past, get_or-replicate, length-replicate}
 use Rattle.corner_set.specs.Places.{place}
@@ -135,3 +136,34 @@ planted count section pins layout ohms farads is ohms_rows farads_rows filled = 
   small_load = λ k below. let f = filled k below in let load = f.load in let all = arena_load count (record { parents = layout.parents; ohms = ohms; farads = farads; sinks = layout.sinks }) k in omega (arith, load, all);
   sinks = λ k d below. let at = is.sinks k below in let same = ap (λ v. v.0) (get_or_default layout.sinks k d (record { 0 = 0 }) below) in omega (arith, at, same);
 }
+
+-- the same of lists that are the same
+pub planted_so : (count : ℕ) (section : SectionElements) (pins : Pins) (layout : Layout) (parents : List ℕ) (ohms : List Ohms) (farads : List Farads) (sinks : List NodeId) → IsLayout section pins layout → parents ≡ layout.parents → sinks ≡ layout.sinks → length ohms ≡ length layout.parents * count
+    → length farads ≡ length layout.parents * count → ((k : ℕ) → k < count → IsFilled count section pins layout ohms farads k) → IsArena count (record { parents = parents; ohms = ohms; farads = farads; sinks = sinks })
+planted_so count section pins layout parents ohms farads sinks is parents_are sinks_are ohms_rows farads_rows filled =
+    subst (λ p. IsArena count (record { parents = p; ohms = ohms; farads = farads; sinks = sinks })) (sym parents_are)
+    (subst (λ k. IsArena count (record { parents = layout.parents; ohms = ohms; farads = farads; sinks = k })) (sym sinks_are) (planted count section pins layout ohms farads is ohms_rows farads_rows filled))
+
+-- a tree with no node
+no_nodes : (count : ℕ) → IsArena count (record { parents = []; ohms = []; farads = []; sinks = [] })
+no_nodes count = record {
+  few = omega arith;
+  ohms_rows = sym (zero-mul count);
+  farads_rows = sym (zero-mul count);
+  down = λ node some below. absurd (omega (arith, below));
+  root = λ k below. ap (λ (v : Ohms). v.0) (get_or_past {X = Ohms} [] (place count 0 k) (record { 0 = 0 }) (omega arith));
+  small_ohms = λ node k node_below below. absurd (omega (arith, node_below));
+  small_load = λ k below. let all = arena_load count (record { parents = []; ohms = []; farads = []; sinks = [] }) k in omega (arith, all);
+  sinks = λ k d below. absurd (omega (arith, below));
+}
+
+pub bare : (count : ℕ) (parents : List ℕ) (ohms : List Ohms) (farads : List Farads) (sinks : List NodeId) → parents ≡ [] → ohms ≡ [] → farads ≡ [] → sinks ≡ [] → IsArena count (record { parents = parents; ohms = ohms; farads = farads; sinks = sinks })
+bare count parents ohms farads sinks parents_are ohms_are farads_are sinks_are =
+    subst (λ p. IsArena count (record { parents = p; ohms = ohms; farads = farads; sinks = sinks })) (sym parents_are)
+    (subst (λ o. IsArena count (record { parents = []; ohms = o; farads = farads; sinks = sinks })) (sym ohms_are)
+    (subst (λ f. IsArena count (record { parents = []; ohms = []; farads = f; sinks = sinks })) (sym farads_are)
+    (subst (λ k. IsArena count (record { parents = []; ohms = []; farads = []; sinks = k })) (sym sinks_are) (no_nodes count))))
+
+-- no row has no value
+pub no_row : {A : Type 0} (count : ℕ) (x : A) (values : List A) → values ≡ replicate (0 * count) x → values ≡ []
+no_row count x values is = is ∙ ap (λ n. replicate n x) (zero-mul count)

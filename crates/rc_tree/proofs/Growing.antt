@@ -1,5 +1,5 @@
 -- From a whole search to where everything stands in the tree.
-use Rattle.std.proofs.Common.{◌≡◌, ◌≢◌, ℕ, ◌+◌, ◌-◌, ◌*◌, ◌<◌, ◌≤◌, List, length, slice_index, slice_index_or, sym, ◌∙◌, ap, ap₂, subst, arith, inl, inr}
+use Rattle.std.proofs.Common.{◌≡◌, ◌≢◌, ℕ, ◌+◌, ◌-◌, ◌*◌, ◌<◌, ◌≤◌, List, length, slice_index, slice_index_or, refl, sym, ◌∙◌, ap, ap₂, subst, arith, inl, inr}
 use Rattle.std.proofs.lemmas.Bool.{cases_eq, cases_lt}
 use Rattle.std.proofs.lemmas.List.{length-map}
 use Rattle.spef_nets.specs.NetElements.{NetElements as SectionElements}
@@ -8,7 +8,8 @@ use Rattle.rc_tree.specs.Pins.{Pins, pin_nodes}
 use Rattle.rc_tree.specs.Arenas.{Arena, IsArena, most_elements}
 use Rattle.rc_tree.specs.Filling.{Layout, IsLayout, IsFilled}
 use Rattle.rc_tree.specs.Searches.{Search}
-use Rattle.rc_tree.specs.Searched.{Searched, IsNumbered, IsExplored, IsComplete, all_nodes}
+use Rattle.rc_tree.specs.Searched.{Searched, IsNumbered, IsExplored, IsComplete, AreSinks, all_nodes}
+use Rattle.rc_tree.specs.declared.node_ids.NodeId.{NodeId}
 use Rattle.rc_tree.specs.Laying.{IsLaid}
 use Rattle.rc_tree.specs.Builds.{IsFit, IsTreeOf}
 use Rattle.rc_tree.proofs.Judging.{searched_so, spots_below}
@@ -31,6 +32,17 @@ few_caps section pins fit few sinks is = let all = few_elements section pins fit
 pub places_so : (spots spots' numbers numbers' places : List ℕ) → spots' ≡ spots → numbers' ≡ numbers → ((k : ℕ) → k < length spots' → slice_index places k ≡ slice_index numbers' (slice_index spots' k) - 1) → (k : ℕ) → k < length spots → slice_index places k ≡ slice_index numbers (slice_index spots k) - 1
 places_so spots spots' numbers numbers' places spots_are numbers_are each k below =
     each k (let l = ap length spots_are in omega (arith, below, l)) ∙ ap (λ l. slice_index l (slice_index spots' k) - 1) numbers_are ∙ ap (λ l. slice_index numbers (slice_index l k) - 1) spots_are
+
+pub layout_same : (parents parents' vias vias' spots spots' : List ℕ) (sinks sinks' : List NodeId) → parents' ≡ parents → vias' ≡ vias → spots' ≡ spots → sinks' ≡ sinks
+    → ◌≡◌ {A = Layout} (record { parents = parents'; vias = vias'; spots = spots'; sinks = sinks' }) (record { parents = parents; vias = vias; spots = spots; sinks = sinks })
+layout_same parents parents' vias vias' spots spots' sinks sinks' parents_are vias_are spots_are sinks_are =
+    ap₂ (λ p v. record { parents = p; vias = v; spots = spots'; sinks = sinks' }) parents_are vias_are ∙ ap₂ (λ p k. record { parents = parents; vias = vias; spots = p; sinks = k }) spots_are sinks_are
+
+-- where everything stands, once the nodes of the section and the sinks have their places
+pub laid_so : (section : SectionElements) (pins : Pins) (spots nodes nodes' : List ℕ) (sinks : List NodeId) (s : Search) (layout : Layout) → layout ≡ record { parents = s.parents; vias = s.vias; spots = nodes; sinks = sinks } → nodes' ≡ spots → length nodes ≡ length nodes'
+    → ((k : ℕ) → k < length spots → slice_index nodes k ≡ slice_index s.numbers (slice_index spots k) - 1) → length sinks ≡ length pins.sinks → AreSinks section pins s.numbers sinks → IsLaid section pins spots s layout
+laid_so section pins spots nodes nodes' sinks s layout is spots_are size each many stand =
+    subst (IsLaid section pins spots s) (sym is) (record { parents = refl; vias = refl; spots_len = size ∙ ap length spots_are; spots_are = each; sinks_len = many; sinks_are = stand })
 
 pub steps_so : (count parents joints caps before after : ℕ) → parents ≡ joints + 1 → after + count ≤ before + count * (parents + caps) → after ≤ before + count * (joints + caps)
 steps_so count parents joints caps before after is most =

@@ -1,6 +1,7 @@
 -- What is known of a net once it is numbered and searched.
-use Rattle.std.proofs.Common.{◌≡◌, ℕ, zero, suc, ◌+◌, ◌-◌, ◌<◌, List, ◌∷◌, map, length, get_or, slice_get, slice_index, slice_index_or, Some, All, option_map, refl, sym, ◌∙◌, ap, subst, arith}
-use Rattle.std.proofs.lemmas.List.{get_or_default}
+use Rattle.std.proofs.Common.{◌≡◌, ◌≢◌, ℕ, suc, ◌+◌, ◌-◌, ◌<◌, List, [], ◌∷◌, ◌++◌, map, length, get_or, slice_get, slice_index, slice_index_or, Some, All, option_map, refl, sym, ◌∙◌, ap, subst, arith, inl, inr}
+use Rattle.std.proofs.lemmas.Bool.{cases_eq}
+use Rattle.std.proofs.lemmas.List.{get_or_default, get_or_push, get_or_append_left}
 use Rattle.std.proofs.lemmas.List.Elements.{Contains-append_left, Contains-append_right}
 use Rattle.std.proofs.lemmas.Option.{slice_get-map, slice_get-get_or, get_or_from_slice_get, slice_get_within}
 use Rattle.name_table.specs.declared.spef_names.NodeName.{NodeName}
@@ -11,7 +12,7 @@ use Rattle.rc_tree.specs.Pins.{Pins, pin_nodes}
 use Rattle.rc_tree.specs.SectionNets.{joint_at, net_elements, sink_node}
 use Rattle.rc_tree.specs.Numbering.{AreSpots, AreEnds}
 use Rattle.rc_tree.specs.Searches.{Search, IsSearch, IsClosed}
-use Rattle.rc_tree.specs.Searched.{Searched, IsNumbered, IsExplored, IsNameAt, AreSinks, all_nodes}
+use Rattle.rc_tree.specs.Searched.{Searched, IsNumbered, IsExplored, IsNameAt, all_nodes}
 use Rattle.rc_tree.specs.Builds.{IsFit, IsTreeEnd}
 use Rattle.rc_tree.specs.declared.node_ids.NodeId.{NodeId}
 use Rattle.rc_tree.specs.declared.ends.TreeEnd.TheVariants.{Unreached, Mesh}
@@ -135,23 +136,24 @@ sink_named section pins apart number name some at =
       ap (slice_get (all_nodes section pins)) is_suc ∙ sink_there section pins apart (number - 1) name at,
     )
 
--- sinks that come right after the driver
-pub sinks_first : (section : SectionElements) (pins : Pins) (numbers : List ℕ) (sinks : List NodeId) → Apart (pin_nodes pins) → ((k : ℕ) → k < length pins.sinks → (slice_index_or sinks k (record { 0 = 0 })).0 ≡ slice_index numbers (k + 1) - 1) → AreSinks section pins numbers sinks
-sinks_first section pins numbers sinks apart are k below =
-    let is : k + 1 ≡ suc k = omega arith in (
-      suc k,
-      sink_there section pins apart k (slice_index_or pins.sinks k pins.driver) (slice_get-get_or pins.sinks k pins.driver below),
-      are k below ∙ ap (λ j. slice_index numbers j - 1) is,
-    )
+-- the sinks so far stand where the search has their nodes
+abbrev pub HasSink : SectionElements → Pins → List ℕ → List NodeId → ℕ → Type 0
+HasSink section pins numbers sinks k = (number : ℕ) × (slice_get (all_nodes section pins) number ≡ Some (sink_node pins k)) × ((slice_index_or sinks k (record { 0 = 0 })).0 ≡ slice_index numbers number - 1)
 
-pub sinks_within : (section : SectionElements) (pins : Pins) → Apart (pin_nodes pins) → length pins.sinks < length (all_nodes section pins)
-sinks_within section pins apart = by (length pins.sinks) refl
-  where
-    by : (k : ℕ) → k ≡ length pins.sinks → length pins.sinks < length (all_nodes section pins)
-    by zero is = let first = slice_get_within (all_nodes section pins) 0 (node_of pins.driver) refl in omega (arith, first, is)
-    by (suc k) is =
-        let last = slice_get_within (all_nodes section pins) (suc k) (sink_node pins k) (sink_there section pins apart k (slice_index_or pins.sinks k pins.driver) (slice_get-get_or pins.sinks k pins.driver (omega (arith, is)))) in
-        omega (arith, last, is)
+pub sinks_more : (section : SectionElements) (pins : Pins) (numbers : List ℕ) (sinks sinks' : List NodeId) (sink number : ℕ) (id : NodeId) → length sinks ≡ sink → slice_get (all_nodes section pins) number ≡ Some (sink_node pins sink) → id.0 ≡ slice_index numbers number - 1 → sinks' ≡ sinks ++ id ∷ []
+    → ((k : ℕ) → k < sink → HasSink section pins numbers sinks k) → (k : ℕ) → k < sink + 1 → HasSink section pins numbers sinks' k
+sinks_more section pins numbers sinks sinks' sink number id size at is added before k below = elim (cases_eq k sink) [
+  | inl e ↦ (number, at ∙ ap (λ j. Some (sink_node pins j)) (sym e), ap (λ (i : NodeId). i.0) (ap (λ l. get_or l k (record { 0 = 0 })) added ∙ get_or_push sinks id (record { 0 = 0 }) k (size ∙ sym e)) ∙ is)
+  | inr ne ↦
+      let ne' : k ≢ sink = ne in
+      let less : k < sink = omega (arith, ne', below) in
+      let old = before k less in
+      (old.0, old.1, ap (λ (i : NodeId). i.0) (ap (λ l. get_or l k (record { 0 = 0 })) added ∙ get_or_append_left sinks (id ∷ []) (record { 0 = 0 }) k (omega (arith, size, less))) ∙ old.2)
+]
+
+-- each number of a node is that of one
+pub number_below : (section : SectionElements) (pins : Pins) (spots : List ℕ) (count number : ℕ) (node : Node) → IsNumbered section pins spots count → slice_get (all_nodes section pins) number ≡ Some node → number < count
+number_below section pins spots count number node numbered at = let inside = slice_get_within (all_nodes section pins) number node at in let is = numbered.counted in omega (arith, inside, is)
 
 pub unreached_end : (count : ℕ) (section : SectionElements) (pins : Pins) (spots numbers : List ℕ) (n : ℕ) (s : Search) → IsFit section pins → 0 < length section.joints → IsNumbered section pins spots n → IsExplored section spots n s → numbers ≡ s.numbers → (node : ℕ) (name : NodeName)
     → (node < length numbers) × (slice_index numbers node ≡ 0) × ((k : ℕ) → k < node → 0 < slice_index numbers k) → IsNameAt section pins node name → IsTreeEnd count section pins (Unreached name)

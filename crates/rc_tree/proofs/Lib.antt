@@ -22,6 +22,7 @@ pub mod Answering
 pub mod Spanning
 pub mod TreeOf
 pub mod Judging
+pub mod Strangers
 pub mod Growing
 pub mod LoneTree
 pub mod ListedLemmas

@@ -1,7 +1,7 @@
 -- The connections of a section as the pins of its net.
-use Rattle.std.proofs.Common.{◌≡◌, ◌≢◌, ℕ, suc, ◌+◌, ◌-◌, ◌*◌, ◌<◌, ◌≤◌, if◌then◌else◌, List, [], ◌∷◌, ◌++◌, map, take, drop, length, get_or, slice_get, slice_index, slice_index_or, Some, option_map, Contains, length-append, length-drop, length-take-le, add-mul, one-mul, mul-le-mul_right, lt-ltb, le-ltb, sym, ◌∙◌, ap, arith, inl, inr}
+use Rattle.std.proofs.Common.{◌≡◌, ◌≢◌, ℕ, suc, ◌+◌, ◌-◌, ◌*◌, ◌<◌, ◌≤◌, if◌then◌else◌, List, ◌++◌, map, take, drop, length, get_or, slice_get, slice_index, slice_index_or, Some, option_map, Contains, length-append, length-drop, length-take-le, add-mul, one-mul, mul-le-mul_right, lt-ltb, le-ltb, sym, ◌∙◌, ap, subst, arith, inl, inr}
 use Rattle.std.proofs.lemmas.Bool.{cases_eq, cases_lt}
-use Rattle.std.proofs.lemmas.List.{get_or_append_left, get_or_push, get_or-append_right, get_or-take, get_or-drop, get_or_default, take_all, length-map}
+use Rattle.std.proofs.lemmas.List.{get_or_append_left, get_or-append_right, get_or-take, get_or-drop, get_or_default, take_all, length-map}
 use Rattle.std.proofs.lemmas.Option.{slice_get-map, slice_get-get_or, get_or_from_slice_get, slice_get_within}
 use Rattle.corner_set.specs.Places.{place, value_at}
 use Rattle.delay_units.specs.declared.quantities.Farads.{Farads}
@@ -10,10 +10,9 @@ use Rattle.spef_nets.specs.NetElements.{NetElements as SectionElements}
 use Rattle.spef_nets.specs.declared.parts.Listed.{Listed}
 use Rattle.rc_tree.specs.Nodes.{node_of}
 use Rattle.rc_tree.specs.Pins.{Pins, pin_nodes}
-use Rattle.rc_tree.specs.SectionNets.{AreListed}
-use Rattle.rc_tree.specs.ListedPins.{without, other_place, no_name, no_conn, conn_name, listed_pins}
-use Rattle.rc_tree.specs.Searched.{IsNumbered, AreSinks}
-use Rattle.rc_tree.specs.declared.node_ids.NodeId.{NodeId}
+use Rattle.rc_tree.specs.SectionNets.{AreListed, IsFirstStrange, sink_node}
+use Rattle.rc_tree.specs.ListedPins.{without, other_place, no_name, no_conn, conn_name, listed_pins, IsWithin}
+use Rattle.rc_tree.specs.Searched.{IsNumbered, all_nodes}
 
 -- what is left of a list where so many are cut out
 left_part : {A : Type 0} (p w : ℕ) (xs : List A) (i : ℕ) (d : A) → i < p → i < length xs → (i < length (take p xs ++ drop (p + w) xs)) × (get_or (take p xs ++ drop (p + w) xs) i d ≡ get_or xs i d)
@@ -109,13 +108,16 @@ load_without count number p k loads x small at =
     next : suc p * count ≡ p * count + count
     next = ap (λ j. j * count) (one_more p) ∙ add-mul p 1 count ∙ ap (λ s. p * count + s) (one-mul count)
 
--- the connections so far are at nodes
-pub within_more : (section : SectionElements) (place : ℕ) (conn : Listed) → slice_get section.conns place ≡ Some conn → conn.node < length section.nodes → ((k : ℕ) → k < place → (slice_index_or section.conns k no_conn).node < length section.nodes)
-    → (k : ℕ) → k < place + 1 → (slice_index_or section.conns k no_conn).node < length section.nodes
-within_more section place conn at inside before k below = elim (cases_eq k place) [
-  | inl e ↦ (let is = ap (λ (c : Listed). c.node) (ap (λ j. get_or section.conns j no_conn) e ∙ get_or_from_slice_get section.conns place conn no_conn at) in omega (arith, is, inside))
-  | inr ne ↦ (let ne' : k ≢ place = ne in before k (omega (arith, ne', below)))
+-- the sinks' connections so far are at nodes
+pub within_more : (section : SectionElements) (driver sink : ℕ) (conn : Listed) → slice_get section.conns (other_place driver sink) ≡ Some conn → conn.node < length section.nodes → ((k : ℕ) → k < sink → IsWithin section (other_place driver k))
+    → (k : ℕ) → k < sink + 1 → IsWithin section (other_place driver k)
+within_more section driver sink conn at inside before k below = elim (cases_eq k sink) [
+  | inl e ↦ (let is = ap (λ (c : Listed). c.node) (ap (λ j. get_or section.conns (other_place driver j) no_conn) e ∙ get_or_from_slice_get section.conns (other_place driver sink) conn no_conn at) in omega (arith, is, inside))
+  | inr ne ↦ (let ne' : k ≢ sink = ne in before k (omega (arith, ne', below)))
 ]
+
+pub within_at : (section : SectionElements) (place : ℕ) (conn : Listed) → slice_get section.conns place ≡ Some conn → conn.node < length section.nodes → IsWithin section place
+within_at section place conn at inside = let is = ap (λ (c : Listed). c.node) (get_or_from_slice_get section.conns place conn no_conn at) in omega (arith, is, inside)
 
 module _ (count : ℕ) (section : SectionElements) (driver : ℕ) where
   abbrev pins : Pins
@@ -149,62 +151,59 @@ module _ (count : ℕ) (section : SectionElements) (driver : ℕ) where
   pub sink_name : (k : ℕ) (conn : Listed) (name : NodeName) → k < length (listed_pins count section driver).sinks → slice_get section.conns (other_place driver k) ≡ Some conn → slice_get section.nodes conn.node ≡ Some name → slice_get (listed_pins count section driver).sinks k ≡ Some name
   sink_name k conn name below at named = sink_is k conn below at ∙ ap Some (get_or_from_slice_get section.nodes conn.node name no_name named)
 
-  -- a sink at its place
-  abbrev pub StandsAt : List ℕ → List ℕ → List NodeId → ℕ → Type 0
-  StandsAt spots numbers sinks k = (conn : Listed) × (slice_get section.conns (other_place driver k) ≡ Some conn) × (conn.node < length section.nodes) × ((slice_index_or sinks k (record { 0 = 0 })).0 ≡ slice_index numbers (slice_index spots conn.node) - 1)
+  -- the number of a sink's node
+  pub sink_numbered : (spots : List ℕ) (n sink : ℕ) (conn : Listed) → IsNumbered section (listed_pins count section driver) spots n → sink < length (listed_pins count section driver).sinks → slice_get section.conns (other_place driver sink) ≡ Some conn → conn.node < length section.nodes
+      → slice_get (all_nodes section (listed_pins count section driver)) (slice_index spots conn.node) ≡ Some (sink_node (listed_pins count section driver) sink)
+  sink_numbered spots n sink conn numbered below at within =
+      let name : slice_index_or (listed_pins count section driver).sinks sink (listed_pins count section driver).driver ≡ conn_name section conn = get_or_from_slice_get (listed_pins count section driver).sinks sink (conn_name section conn) (listed_pins count section driver).driver (sink_is sink conn below at) in
+      numbered.are_spots.each conn.node no_name within ∙ ap (λ x. Some (node_of x)) (sym name)
 
-  -- one sink more
-  pub sinks_more : (spots numbers : List ℕ) (sinks sinks' : List NodeId) (sink : ℕ) (conn : Listed) (id : NodeId) → length sinks ≡ sink → slice_get section.conns (other_place driver sink) ≡ Some conn → conn.node < length section.nodes → id.0 ≡ slice_index numbers (slice_index spots conn.node) - 1
-      → sinks' ≡ sinks ++ id ∷ [] → ((k : ℕ) → k < sink → StandsAt spots numbers sinks k) → (k : ℕ) → k < sink + 1 → StandsAt spots numbers sinks' k
-  sinks_more spots numbers sinks sinks' sink conn id size at within is added before k below = elim (cases_eq k sink) [
-    | inl e ↦ (conn, ap (λ j. slice_get section.conns (other_place driver j)) e ∙ at, within, ap (λ (i : NodeId). i.0) (ap (λ l. get_or l k (record { 0 = 0 })) added ∙ get_or_push sinks id (record { 0 = 0 }) k (size ∙ sym e)) ∙ is)
-    | inr ne ↦
-        let ne' : k ≢ sink = ne in
-        let less : k < sink = omega (arith, ne', below) in
-        let old = before k less in
-        (old.0, old.1, old.2, ap (λ (i : NodeId). i.0) (ap (λ l. get_or l k (record { 0 = 0 })) added ∙ get_or_append_left sinks (id ∷ []) (record { 0 = 0 }) k (omega (arith, size, less))) ∙ old.3)
+  -- all connections are at nodes, where those of the driver and of the sinks are
+  pub all_within : driver < length section.conns → IsWithin section driver → ((k : ℕ) → k < length (listed_pins count section driver).sinks → IsWithin section (other_place driver k)) → (k : ℕ) → k < length section.conns → IsWithin section k
+  all_within within here others k below = elim (cases_eq k driver) [
+    | inl e ↦ subst (IsWithin section) (sym e) here
+    | inr ne ↦ elim (cases_lt k driver) [
+      | inl less ↦ subst (IsWithin section) (other_before driver k less) (others k (let m = sinks_less within in omega (arith, m, less, within)))
+      | inr more ↦
+          let ne' : k ≢ driver = ne in
+          let back : suc (k - 1) ≡ k = omega (arith, more, ne') in
+          subst (IsWithin section) (other_after driver (k - 1) (omega (arith, more, ne')) ∙ back) (others (k - 1) (let m = sinks_less within in omega (arith, m, more, ne', below)))
+    ]
   ]
 
-  -- where the sinks stand, by the numbers of their nodes
-  pub sinks_so : (spots numbers : List ℕ) (n : ℕ) (sinks : List NodeId) → IsNumbered section (listed_pins count section driver) spots n
-      → ((k : ℕ) → k < length (listed_pins count section driver).sinks → (conn : Listed) × (slice_get section.conns (other_place driver k) ≡ Some conn) × (conn.node < length section.nodes) × ((slice_index_or sinks k (record { 0 = 0 })).0 ≡ slice_index numbers (slice_index spots conn.node) - 1))
-      → AreSinks section (listed_pins count section driver) numbers sinks
-  sinks_so spots numbers n sinks numbered each k below =
-      let at = each k below in
-      let name : slice_index_or (listed_pins count section driver).sinks k (listed_pins count section driver).driver ≡ conn_name section at.0 = get_or_from_slice_get (listed_pins count section driver).sinks k (conn_name section at.0) (listed_pins count section driver).driver (sink_is k at.0 below at.1) in (
-        slice_index spots at.0.node,
-        numbered.are_spots.each at.0.node no_name at.2 ∙ ap (λ n. Some (node_of n)) (sym name),
-        at.3,
-      )
-
-  -- each connection is one of the pins, where it is at a node
-  pub all_listed : driver < length section.conns → ((k : ℕ) → k < length section.conns → (slice_index_or section.conns k no_conn).node < length section.nodes) → AreListed section (pin_nodes (listed_pins count section driver))
-  all_listed within inside k d below = (
-    conn_name section conn,
-    slice_get-get_or section.nodes conn.node no_name (let i = inside k below in let same = ap (λ (c : Listed). c.node) (get_or_default section.conns k d no_conn below) in omega (arith, i, same)),
-    elim (cases_eq k driver) [
-      | inl e ↦ (0, omega arith, ap (λ c. node_of (conn_name section c)) (sym (get_or_default section.conns k d no_conn below ∙ ap (λ j. get_or section.conns j no_conn) e)))
-      | inr ne ↦ elim (cases_lt k driver) [
-        | inl less ↦ among k (let m = sinks_less within in omega (arith, m, less, within)) (ap (slice_get section.conns) (other_before driver k less) ∙ here)
-        | inr more ↦
-            let ne' : k ≢ driver = ne in
-            let back : suc (k - 1) ≡ k = omega (arith, more, ne') in
-            among (k - 1) (let m = sinks_less within in omega (arith, m, more, ne', below)) (ap (slice_get section.conns) (other_after driver (k - 1) (omega (arith, more, ne')) ∙ back) ∙ here)
-      ]
-    ],
-  )
+  -- each connection is one of the pins
+  pub is_pin : driver < length section.conns → (k : ℕ) (conn : Listed) → slice_get section.conns k ≡ Some conn → Contains (pin_nodes (listed_pins count section driver)) (node_of (conn_name section conn))
+  is_pin within k conn at = elim (cases_eq k driver) [
+    | inl e ↦ (0, omega arith, ap (λ c. node_of (conn_name section c)) (get_or_from_slice_get section.conns driver conn no_conn (ap (slice_get section.conns) (sym e) ∙ at)))
+    | inr ne ↦ elim (cases_lt k driver) [
+      | inl less ↦ among k (let m = sinks_less within in omega (arith, m, less, within)) (ap (slice_get section.conns) (other_before driver k less) ∙ at)
+      | inr more ↦
+          let ne' : k ≢ driver = ne in
+          let back : suc (k - 1) ≡ k = omega (arith, more, ne') in
+          among (k - 1) (let m = sinks_less within in omega (arith, m, more, ne', below)) (ap (slice_get section.conns) (other_after driver (k - 1) (omega (arith, more, ne')) ∙ back) ∙ at)
+    ]
+  ]
     where
-      conn : Listed
-      conn = get_or section.conns k d
+      below : k < length section.conns
+      below = slice_get_within section.conns k conn at
 
-      here : slice_get section.conns k ≡ Some (get_or section.conns k d)
-      here = slice_get-get_or section.conns k d below
-
-      among : (j : ℕ) → j < length (listed_pins count section driver).sinks → slice_get section.conns (other_place driver j) ≡ Some (get_or section.conns k d) → Contains (pin_nodes (listed_pins count section driver)) (node_of (conn_name section (get_or section.conns k d)))
-      among j j_below at =
-          let there : slice_get (map node_of (listed_pins count section driver).sinks) j ≡ Some (node_of (conn_name section (get_or section.conns k d))) =
-          slice_get-map node_of (listed_pins count section driver).sinks j ∙ ap (option_map node_of) (sink_is j (get_or section.conns k d) j_below at) in (
+      among : (j : ℕ) → j < length (listed_pins count section driver).sinks → slice_get section.conns (other_place driver j) ≡ Some conn → Contains (pin_nodes (listed_pins count section driver)) (node_of (conn_name section conn))
+      among j j_below there =
+          let held : slice_get (map node_of (listed_pins count section driver).sinks) j ≡ Some (node_of (conn_name section conn)) =
+          slice_get-map node_of (listed_pins count section driver).sinks j ∙ ap (option_map node_of) (sink_is j conn j_below there) in (
             suc j,
-            (let b = slice_get_within (map node_of (listed_pins count section driver).sinks) j (node_of (conn_name section (get_or section.conns k d))) there in omega (arith, b)),
-            get_or_from_slice_get (map node_of (listed_pins count section driver).sinks) j (node_of (conn_name section (get_or section.conns k d))) (node_of (conn_name section (get_or section.conns k d))) there,
+            (let b = slice_get_within (map node_of (listed_pins count section driver).sinks) j (node_of (conn_name section conn)) held in omega (arith, b)),
+            get_or_from_slice_get (map node_of (listed_pins count section driver).sinks) j (node_of (conn_name section conn)) (node_of (conn_name section conn)) held,
           )
+
+  -- so all are listed, where they are at nodes, and none is strange
+  pub all_listed : driver < length section.conns → ((k : ℕ) → k < length section.conns → IsWithin section k) → AreListed section (pin_nodes (listed_pins count section driver))
+  all_listed within inside k d below = (
+    conn_name section (get_or section.conns k d),
+    slice_get-get_or section.nodes (get_or section.conns k d).node no_name (let i = inside k below in let same = ap (λ (c : Listed). c.node) (get_or_default section.conns k d no_conn below) in omega (arith, i, same)),
+    is_pin within k (get_or section.conns k d) (slice_get-get_or section.conns k d below),
+  )
+
+  pub no_stranger : (name : NodeName) → driver < length section.conns → IsFirstStrange section (pin_nodes (listed_pins count section driver)) name → ⊥
+  no_stranger name within first =
+      first.strange (subst (λ x. Contains (pin_nodes (listed_pins count section driver)) (node_of x)) (get_or_from_slice_get section.nodes first.conn.node name no_name first.named) (is_pin within first.place first.conn first.here))

@@ -1,5 +1,7 @@
 -- The tree of a net without resistors.
-use Rattle.std.proofs.Common.{◌≡◌, ℕ, zero, suc, ◌+◌, ◌*◌, ◌<◌, ◌≤◌, ◌==◌, Bool, true, false, not, if◌then◌else◌, List, [], ◌∷◌, ◌++◌, map, filter, length, get_or, slice_get, slice_index, slice_index_or, Some, All, sum_by, refl, sym, ◌∙◌, ap, ap₂, subst, arith, one-mul, mul-add, eq-eqb}
+use Rattle.std.proofs.Common.{◌≡◌, ℕ, zero, suc, ◌+◌, ◌*◌, ◌<◌, ◌≤◌, ◌==◌, Bool, true, false, not, if◌then◌else◌, List, [], ◌∷◌, ◌++◌, map, filter, length, get_or, slice_get, slice_index, slice_index_or, replicate, Some, All, sum_by, refl, sym, ◌∙◌, ap, ap₂, subst, arith, one-mul, mul-add, eq-eqb, inl, inr}
+use Rattle.std.proofs.lemmas.Bool.{cases_lt}
+use Rattle.std.proofs.lemmas.List.{get_or-replicate, get_or_past, length-replicate}
 use Rattle.std.specs.List.{range_with_len}
 use Rattle.std.proofs.lemmas.List.FromFn.{length-map-range_with_len}
 use Rattle.spef_nets.specs.NetElements.{NetElements as SectionElements}
@@ -30,6 +32,13 @@ use Rattle.rc_tree.proofs.Filled.{spread_sum}
 use Rattle.name_table.specs.SameKeys.{same_key-Decides}
 use Rattle.rc_tree.proofs.Growing.{few_caps}
 use Rattle.rc_tree.proofs.TreeOf.{sum_both}
+
+-- each sink is at the first node
+pub at_root : (many : ℕ) (sinks : List NodeId) → sinks ≡ replicate many (record { 0 = 0 }) → (k : ℕ) → (slice_index_or sinks k (record { 0 = 0 })).0 ≡ 0
+at_root many sinks is k = ap (λ l. (get_or {A = NodeId} l k (record { 0 = 0 })).0) is ∙ elim (cases_lt k many) [
+  | inl below ↦ ap (λ (v : NodeId). v.0) (get_or-replicate many k (record { 0 = 0 }) (record { 0 = 0 }) below)
+  | inr past ↦ ap (λ (v : NodeId). v.0) (get_or_past (replicate many (record { 0 = 0 })) k (record { 0 = 0 }) (let l = length-replicate {A = NodeId} many (record { 0 = 0 }) in omega (arith, l, past)))
+]
 
 -- everything stands at the driver's node
 pub lone_layout : (section : SectionElements) (pins : Pins) (layout : Layout) → IsFit section pins → length section.caps ≤ 2 * section.written → length layout.parents ≡ 1 → length layout.vias ≡ 1 → ((i : ℕ) → slice_index layout.spots i ≡ 0) → length layout.spots ≡ length section.nodes

@@ -1,5 +1,5 @@
 -- The numbers of a net's nodes.
-use Rattle.std.proofs.Common.{◌≡◌, ◌≢◌, ℕ, ◌+◌, ◌<◌, ◌⊎◌, Bool, true, false, if◌then◌else◌, List, [], ◌∷◌, ◌++◌, map, take, length, get_or, slice_get, slice_index, slice_index_or, Option, Some, None, is_some, MatchOption, AllPairs, length-append, append-nil, append_assoc, refl, sym, ◌∙◌, ap, subst, arith, inl, inr, true≢false}
+use Rattle.std.proofs.Common.{◌≡◌, ◌≢◌, ℕ, ◌+◌, ◌<◌, ◌⊎◌, Bool, true, false, if◌then◌else◌, List, [], ◌∷◌, ◌++◌, map, take, length, get_or, slice_get, slice_index, slice_index_or, Some, AllPairs, length-append, append-nil, append_assoc, refl, sym, ◌∙◌, ap, ap₂, subst, arith, inl, inr}
 use Rattle.std.proofs.lemmas.Bool.{cases_eq}
 use Rattle.std.proofs.lemmas.List.{get_or_push, get_or_append_left, take_more, map_push, take_all, get_or_at}
 use Rattle.std.proofs.lemmas.Option.{slice_get-get_or, get_or_from_slice_get, slice_get_within}
@@ -8,8 +8,7 @@ use Rattle.spef_nets.specs.NetElements.{NetElements as SectionElements}
 use Rattle.name_table.specs.NodeKeys.{among}
 use Rattle.rc_tree.specs.Nodes.{Node, node_of, with_node, with_nodes}
 use Rattle.rc_tree.specs.Numbering.{AreSpots, AreEnds}
-use Rattle.spef_nets.specs.declared.parts.Listed.{Listed}
-use Rattle.rc_tree.specs.SectionNets.{joint_at, IsListed}
+use Rattle.rc_tree.specs.SectionNets.{joint_at}
 use Rattle.rc_tree.proofs.NodeLemmas.{among_from}
 
 -- a node that is there changes nothing, another goes last
@@ -65,6 +64,11 @@ with_apart nodes (node ∷ later) apart =
 -- the pins, which are apart
 pub pins_are : (driver : NodeName) (sinks : List NodeName) → AllPairs (λ one other. one ≢ other) (node_of driver ∷ map node_of sinks) → (table : List Node) → table ≡ with_nodes (with_node [] (node_of driver)) (map node_of sinks) → table ≡ node_of driver ∷ map node_of sinks
 pins_are driver sinks apart table is = is ∙ with_apart (node_of driver ∷ []) (map node_of sinks) apart
+
+-- the same where the names stand elsewhere
+pub pins_named : {X : Type 0} (now : X → NodeName) (driver : NodeName) (names names' : List X) → AllPairs (λ one other. one ≢ other) (node_of driver ∷ map node_of (map now names)) → (first table : List Node) → first ≡ with_node [] (node_of driver) → names' ≡ names
+    → table ≡ with_nodes first (map node_of (map now names')) → table ≡ node_of driver ∷ map node_of (map now names)
+pins_named now driver names names' apart first table first_is names_are is = pins_are driver (map now names) apart table (is ∙ ap₂ (λ t l. with_nodes t (map node_of (map now l))) first_is names_are)
 
 -- the nodes of a list of names, one more
 pub names_more : (names : List NodeName) (before table after : List Node) (i : ℕ) (name : NodeName) → i < length names → get_or names i name ≡ name → table ≡ with_nodes before (map node_of (take i names)) → after ≡ with_node table (node_of name) → after ≡ with_nodes before (map node_of (take (i + 1) names))
@@ -151,17 +155,3 @@ copying_end section spots froms tos many is state = record {
   from = λ place below. state.from place (let l = state.froms_len in omega (arith, l, below));
   to = λ place below. state.to place (let l = state.tos_len in omega (arith, l, below));
 }
-
--- the connections that are listed, one more
-pub listed_more : (section : SectionElements) (nodes : List Node) (place : ℕ) (conn : Listed) (name : NodeName) (number : ℕ) → slice_get section.conns place ≡ Some conn → slice_get section.nodes conn.node ≡ Some name → slice_get nodes number ≡ Some (node_of name)
-    → ((k : ℕ) (d : Listed) → k < place → IsListed section nodes (slice_index_or section.conns k d)) → (k : ℕ) (d : Listed) → k < place + 1 → IsListed section nodes (slice_index_or section.conns k d)
-listed_more section nodes place conn name number at named found before k d below = elim (cases_eq k place) [
-  | inl is ↦ subst (IsListed section nodes) (sym (ap (λ j. get_or section.conns j d) is ∙ get_or_from_slice_get section.conns place conn d at))
-      (name, named, (number, slice_get_within nodes number (node_of name) found, get_or_from_slice_get nodes number (node_of name) (node_of name) found))
-  | inr ne ↦ let ne' : k ≢ place = ne in before k d (omega (arith, ne', below))
-]
-
--- what an answer says where there is one
-pub some_held : {A : Type 0} (o : Option A) (P : Type 0) (Q : A → Type 0) → is_some o ≡ true → MatchOption o P Q → (x : A) × Q x
-some_held None P Q is held = absurd (true≢false (sym is))
-some_held (Some x) P Q is held = (x, held)

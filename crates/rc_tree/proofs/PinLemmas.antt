@@ -32,3 +32,12 @@ pub sound_after : {A E : Type 0} (r : Result A E) (count : ℕ) (pins : Pins) (s
 sound_after (Ok a) count pins sink values row sound has other small sinks loads sinks_are loads_are err_sinks err_loads = sound_more count pins sink values row sound has other small sinks loads sinks_are loads_are
 sound_after (Err e) count pins sink values row sound has other small sinks loads sinks_are loads_are err_sinks err_loads =
     subst (λ s. AreSound count (record { driver = pins.driver; sinks = s; loads = loads })) (sym err_sinks) (subst (λ l. AreSound count (record { driver = pins.driver; sinks = pins.sinks; loads = l })) (sym err_loads) sound)
+
+-- what holds of a list holds of the names that it leads to
+pub named_more : {A E X Y : Type 0} (f : X → Y) (r : Result A E) (before after : List X) (x : X) → OnOk r (after ≡ before ++ x ∷ []) → OnOk r (map f after ≡ map f before ++ f x ∷ [])
+named_more f (Ok a) before after x is = ap (map f) is ∙ map_push f before x
+named_more f (Err e) before after x is = tt
+
+pub named_same : {A E X Y : Type 0} (f : X → Y) (r : Result A E) (before after : List X) → OnErr r (after ≡ before) → OnErr r (map f after ≡ map f before)
+named_same f (Ok a) before after is = tt
+named_same f (Err e) before after is = ap (map f) is

@@ -1,5 +1,5 @@
 -- The pins of a net that are the connections of its section (IEEE 1481): one drives, and all others are sinks.
-use Rattle.std.specs.Prelude.{ℕ, suc, ◌*◌, nat_lt, if◌then◌else◌, false, List, [], ◌++◌, map, take, drop, slice_index_or, None}
+use Rattle.std.specs.Prelude.{ℕ, suc, ◌*◌, ◌<◌, nat_lt, if◌then◌else◌, false, List, [], ◌++◌, map, take, drop, length, slice_index_or, None}
 use Rattle.name_table.specs.declared.spef_names.NodeName.{NodeName}
 use Rattle.spef_nets.specs.NetElements.{NetElements as SectionElements}
 use Rattle.spef_nets.specs.declared.parts.Listed.{Listed}
@@ -30,3 +30,7 @@ listed_pins count section driver = record {
   sinks = map (conn_name section) (without driver section.conns);
   loads = take (driver * count) section.loads ++ drop (suc driver * count) section.loads;
 }
+
+-- the connection at a place is at a node of the section
+abbrev pub IsWithin : SectionElements → ℕ → Type 0
+IsWithin section place = (slice_index_or section.conns place no_conn).node < length section.nodes

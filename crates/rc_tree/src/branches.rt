@@ -1,16 +1,16 @@
 //! The tree of a net with resistors.
-ghost use Rattle.std.specs.Prelude.{◌≡◌, ℕ, ◌+◌, ◌-◌, ◌*◌, ◌<◌, ◌≤◌, length, slice_index, IfOk, IfErr, OnOk};
+ghost use Rattle.std.specs.Prelude.{◌≡◌, ℕ, ◌+◌, ◌-◌, ◌*◌, ◌<◌, ◌≤◌, length, slice_index, IfErr, OnOk, OnErr};
 ghost use Rattle.rc_tree.specs.Arenas.{node_count};
 ghost use Rattle.rc_tree.specs.Builds.{IsFit, IsTreeEnd, IsTreeOf};
 ghost use Rattle.rc_tree.specs.FoundSearch.{search_of};
 ghost use Rattle.rc_tree.specs.Layouts.{layout_of};
 ghost use Rattle.rc_tree.specs.Laying.{IsLaid};
-ghost use Rattle.rc_tree.specs.Searched.{IsNumbered, IsExplored, IsComplete};
+ghost use Rattle.rc_tree.specs.Searched.{IsNumbered, IsExplored, IsComplete, AreSinks};
 
 use crate::ends::TreeEnd;
 use crate::found::Found;
-use crate::laying::{first_zero, put_places};
-use crate::layout::NodeLayout;
+use crate::laying::{first_zero, put_places, put_sinks};
+use crate::layout::{NodeLayout, TreePlaces};
 use crate::numbered::Numbered;
 use crate::numbering::copy_ends;
 use crate::pin_source::PinSource;
@@ -24,39 +24,40 @@ use spef_nets::Net;
 use std::alloc::Global;
 use std::sync::ledger::Ledger;
 
-/// The tree of a net with resistors, whose nodes are numbered.
+/// Makes a tree with no node that of a net with resistors, whose nodes are numbered.
 pub fn branched<C: CornerSet, P: PinSource<C>, L: Ledger>(
     alloc: Global,
     section: &Net<C>,
     pins: &P,
     numbered: &Numbered,
     lists: &mut SearchLists,
+    tree: &mut RcTree<C>,
     steps: &mut Steps<L>,
-) -> Result<RcTree<C>, TreeEnd>
+) -> Result<(), TreeEnd>
     requires fit { IsFit section.now (P.pins pins.now section.now) }
     requires some { 0 < length section.now.joints }
     requires numbered { IsNumbered section.now (P.pins pins.now section.now) numbered.now.spots.items numbered.now.count }
-    ensures tree { IfOk result (λ tree. IsTreeOf C.COUNT section.now (P.pins pins.now section.now) tree) }
-    ensures nodes { IfOk result (λ tree. node_count tree ≤ length section.now.joints + 1) }
+    requires bare { node_count tree.old ≡ 0 }
+    ensures tree { OnOk result (IsTreeOf C.COUNT section.now (P.pins pins.now section.now) tree.new) }
+    ensures nodes { OnOk result (node_count tree.new ≤ length section.now.joints + 1) }
     ensures refused { IfErr result (λ end. IsTreeEnd C.COUNT section.now (P.pins pins.now section.now) end) }
+    ensures none { OnErr result (node_count tree.new ≡ 0) }
     ensures steps { steps.new ≤ steps.old + length section.now.joints + C.COUNT * (length section.now.joints + length section.now.caps) }
 {
-    let Ok(()) = explore(section, numbered, lists, steps) else {
-        return Err(TreeEnd::OutOfMemory);
-    };
+    explore(section, numbered, lists, steps)?;
     judge(alloc, section, pins, numbered, &lists.found)?;
-    match grow(
+    let found = &lists.found;
+    grow(
         alloc,
         section,
         pins,
         numbered,
-        &lists.found,
+        found,
         &mut lists.places,
+        tree,
         steps,
-    ) {
-        Ok(tree) => Ok(tree),
-        Err(_) => Err(TreeEnd::OutOfMemory),
-    }
+    )?;
+    Ok(())
 }
 
 // Searches the nodes: one step a resistor.
@@ -103,10 +104,8 @@ fn judge<C: CornerSet, P: PinSource<C>>(
     ensures refused { IfErr result (λ end. IsTreeEnd C.COUNT section.now (P.pins pins.now section.now) end) }
 {
     if let Some(node) = first_zero(&found.numbers) {
-        return match pins.name_at(alloc, section, numbered, node) {
-            Ok(name) => Err(TreeEnd::Unreached(name)),
-            Err(_) => Err(TreeEnd::OutOfMemory),
-        };
+        let name = pins.name_at(alloc, section, numbered, node)?;
+        return Err(TreeEnd::Unreached(name));
     }
     if let Some(place) = first_zero(&found.links) {
         return Err(TreeEnd::Mesh(place));
@@ -114,55 +113,50 @@ fn judge<C: CornerSet, P: PinSource<C>>(
     Ok(())
 }
 
-// The tree of a net that is one.
+// Makes a tree with no node that of a net that is one.
 fn grow<C: CornerSet, P: PinSource<C>, L: Ledger>(
     alloc: Global,
     section: &Net<C>,
     pins: &P,
     numbered: &Numbered,
     found: &Found,
-    places: &mut Vec<u32>,
+    places: &mut TreePlaces,
+    tree: &mut RcTree<C>,
     steps: &mut Steps<L>,
-) -> Result<RcTree<C>, OutOfMemory>
+) -> Result<(), OutOfMemory>
     requires fit { IsFit section.now (P.pins pins.now section.now) }
     requires some { 0 < length section.now.joints }
     requires numbered { IsNumbered section.now (P.pins pins.now section.now) numbered.now.spots.items numbered.now.count }
     requires explored { IsExplored section.now numbered.now.spots.items numbered.now.count (search_of found.now) }
     requires complete { IsComplete (search_of found.now) }
-    ensures tree { IfOk result (λ tree. IsTreeOf C.COUNT section.now (P.pins pins.now section.now) tree) }
-    ensures nodes { IfOk result (λ tree. node_count tree ≤ length section.now.joints + 1) }
+    requires bare { node_count tree.old ≡ 0 }
+    ensures tree { OnOk result (IsTreeOf C.COUNT section.now (P.pins pins.now section.now) tree.new) }
+    ensures nodes { OnOk result (node_count tree.new ≤ length section.now.joints + 1) }
+    ensures none { OnErr result (node_count tree.new ≡ 0) }
     ensures steps { steps.new ≤ steps.old + C.COUNT * (length section.now.joints + length section.now.caps) }
 {
-    put_places(&numbered.spots, &found.numbers, places)?;
-    let layout = lay(alloc, section, pins, numbered, found, places)?;
+    put_places(&numbered.spots, &found.numbers, &mut places.nodes)?;
+    put_sinks(section, pins, numbered, found, &mut places.sinks)?;
+    let layout = lay(found, places);
     // at most two for each that is written
     section.cap_count();
-    let tree = plant(alloc, section, pins, layout, steps)?;
-    Ok(tree)
+    plant(alloc, section, pins, &layout, tree, steps)?;
+    Ok(())
 }
 
-// Where everything stands in the tree, once the nodes of the section have their places.
-fn lay<'a, C: CornerSet, P: PinSource<C>>(
-    alloc: Global,
-    section: &Net<C>,
-    pins: &P,
-    numbered: &Numbered,
-    found: &'a Found,
-    spots: &'a [u32],
-) -> Result<NodeLayout<'a>, OutOfMemory>
-    requires numbered { IsNumbered section.now (P.pins pins.now section.now) numbered.now.spots.items numbered.now.count }
-    requires explored { IsExplored section.now numbered.now.spots.items numbered.now.count (search_of found.now) }
-    requires size { length spots.now ≡ length numbered.now.spots.items }
-    requires places { (k : ℕ) → k < length numbered.now.spots.items
-        → slice_index spots.now k ≡ slice_index found.now.numbers.items (slice_index numbered.now.spots.items k) - 1 }
-    ensures { IfOk result (λ layout. IsLaid section.now (P.pins pins.now section.now) numbered.now.spots.items (search_of found.now)
-        (layout_of layout)) }
+// The layout of what a search has found, with the places of the section's nodes and of the sinks.
+fn lay<'a>(found: &'a Found, places: &'a TreePlaces) -> NodeLayout<'a>
+    ensures { layout_of result ≡ record {
+      parents = found.now.parents.items;
+      vias = found.now.vias.items;
+      spots = places.now.nodes.items;
+      sinks = places.now.sinks.items;
+    } }
 {
-    let sinks = pins.sinks_in(alloc, section, numbered, &found.numbers)?;
-    Ok(NodeLayout {
+    NodeLayout {
         parents: &found.parents,
         vias: &found.vias,
-        spots,
-        sinks,
-    })
+        spots: &places.nodes,
+        sinks: &places.sinks,
+    }
 }

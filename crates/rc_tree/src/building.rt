@@ -1,5 +1,5 @@
 //! The tree of a net, or why it has none.
-ghost use Rattle.std.specs.Prelude.{◌≡◌, ◌+◌, ◌*◌, ◌<◌, ◌≤◌, IsTrue, ◌↔◌, length, IfOk, IfErr};
+ghost use Rattle.std.specs.Prelude.{◌≡◌, ◌+◌, ◌*◌, ◌<◌, ◌≤◌, IsTrue, ◌↔◌, length, IfOk, IfErr, OnOk, OnErr};
 ghost use Rattle.rc_tree.specs.Arenas.{most_elements, node_count};
 ghost use Rattle.rc_tree.specs.Pins.{pin_nodes};
 ghost use Rattle.rc_tree.specs.SectionNets.{IsTooLarge};
@@ -8,94 +8,84 @@ ghost use Rattle.rc_tree.specs.Builds.{IsFit, IsTreeEnd, IsTreeOf};
 use crate::branches::branched;
 use crate::ends::TreeEnd;
 use crate::lone::lone;
-use crate::numbering::{first_strange, number_pins, number_section};
 use crate::pin_source::PinSource;
-use crate::pins::PinLoads;
 use crate::tree::RcTree;
 use crate::workspace::Workspace;
 use corner_set::CornerSet;
 use edge_io::Steps;
-use spef_nets::{Net, Section};
+use spef_nets::Net;
 use std::alloc::Global;
 use std::sync::ledger::Ledger;
 
 /// The most resistors of a net, and the most written capacitances and pins together.
-pub(crate) const MOST: usize = 524_288;
+const MOST: usize = 524_288;
 
-/// The tree of a net, from its section and its pins. It has at most one node more than the section has resistors. It makes at
-/// most one step for each resistor, and at each corner one for each resistor and each capacitance to ground.
-///
-/// Nodes are numbered as in IEEE 1481: those of the pins first, the driver's before all, and then those of the section by first
-/// place. A net is a tree where walks over its resistors reach every node from the driver's, and each resistor cuts some node off.
-pub fn build<C: CornerSet, L: Ledger>(
-    alloc: Global,
-    section: &Section<C>,
-    pins: &PinLoads<C>,
-    steps: &mut Steps<L>,
-) -> Result<RcTree<C>, TreeEnd>
-    ensures tree { IfOk result (λ tree. IsTreeOf C.COUNT section.now pins.now tree) }
-    ensures nodes { IfOk result (λ tree. node_count tree ≤ length section.now.joints + 1) }
-    ensures refused { IfErr result (λ end. IsTreeEnd C.COUNT section.now pins.now end) }
-    ensures steps { steps.new ≤ steps.old + length section.now.joints + C.COUNT * (length section.now.joints + length section.now.caps) }
-{
-    let net = section.as_net();
-    let mut workspace = Workspace::new(alloc);
-    build_net(alloc, &mut workspace, &net, pins, steps)
-}
-
-// The tree of a net by reference.
-fn build_net<C: CornerSet, L: Ledger>(
-    alloc: Global,
-    workspace: &mut Workspace,
-    section: &Net<C>,
-    pins: &PinLoads<C>,
-    steps: &mut Steps<L>,
-) -> Result<RcTree<C>, TreeEnd>
-    ensures tree { IfOk result (λ tree. IsTreeOf C.COUNT section.now pins.now tree) }
-    ensures nodes { IfOk result (λ tree. node_count tree ≤ length section.now.joints + 1) }
-    ensures refused { IfErr result (λ end. IsTreeEnd C.COUNT section.now pins.now end) }
-    ensures steps { steps.new ≤ steps.old + length section.now.joints + C.COUNT * (length section.now.joints + length section.now.caps) }
-{
-    let Ok(mut table) = number_pins(alloc, pins) else {
-        return Err(TreeEnd::OutOfMemory);
-    };
-    match first_strange(alloc, &table, section) {
-        Ok(None) => {}
-        Ok(Some(name)) => return Err(TreeEnd::StrangePin(name)),
-        Err(_) => return Err(TreeEnd::OutOfMemory),
-    }
-    if is_too_large(section, pins) {
-        return Err(TreeEnd::TooLarge);
-    }
-    if section.res_count() == 0 {
-        return match lone(
+impl<C: CornerSet> RcTree<C> {
+    /// Makes it the tree of a net, from its section and its pins, in the memory that it has where that suffices. After a refusal it
+    /// has no node. It has at most one node more than the section has resistors. One workspace serves all nets, and what it held is no
+    /// matter. It makes at most one step for each resistor, and at each corner one for each resistor and each capacitance to ground.
+    ///
+    /// Nodes are numbered as in IEEE 1481: those of the pins first, the driver's before all, and then those of the section by first
+    /// place. A net is a tree where walks over its resistors reach every node from the driver's, and each resistor cuts some node off.
+    pub fn rebuild<P: PinSource<C>, L: Ledger>(
+        &mut self,
+        alloc: Global,
+        workspace: &mut Workspace,
+        section: &Net<C>,
+        pins: &P,
+        steps: &mut Steps<L>,
+    ) -> Result<(), TreeEnd>
+        requires { P.fits pins.now section.now }
+        ensures tree { OnOk result (IsTreeOf C.COUNT section.now (P.pins pins.now section.now) self.new) }
+        ensures nodes { OnOk result (node_count self.new ≤ length section.now.joints + 1) }
+        ensures refused { IfErr result (λ end. IsTreeEnd C.COUNT section.now (P.pins pins.now section.now) end) }
+        ensures none { OnErr result (node_count self.new ≡ 0) }
+        ensures steps { steps.new ≤ steps.old + length section.now.joints
+            + C.COUNT * (length section.now.joints + length section.now.caps) }
+    {
+        self.clear();
+        pins.number(alloc, section, &mut workspace.numbered)?;
+        if is_too_large(section, pins) {
+            return Err(TreeEnd::TooLarge);
+        }
+        let lists = &mut workspace.lists;
+        if section.res_count() == 0 {
+            lone(alloc, section, pins, lists, self, steps)?;
+            return Ok(());
+        }
+        branched(
             alloc,
             section,
             pins,
-            &mut workspace.lists.found,
-            &mut workspace.lists.places,
+            &workspace.numbered,
+            lists,
+            self,
             steps,
-        ) {
-            Ok(tree) => Ok(tree),
-            Err(_) => Err(TreeEnd::OutOfMemory),
-        };
+        )
     }
-    let Ok(()) = number_section(alloc, &mut table, section, &mut workspace.numbered.spots) else {
-        return Err(TreeEnd::OutOfMemory);
-    };
-    workspace.numbered.count = table.len();
-    branched(
-        alloc,
-        section,
-        pins,
-        &workspace.numbered,
-        &mut workspace.lists,
-        steps,
-    )
 }
 
-/// Whether there are too many resistors, or too many written capacitances and pins.
-pub fn is_too_large<C: CornerSet, P: PinSource<C>>(section: &Net<C>, pins: &P) -> bool
+/// The tree of a net, from its section and its pins, in memory of its own.
+pub fn build<C: CornerSet, P: PinSource<C>, L: Ledger>(
+    alloc: Global,
+    section: &Net<C>,
+    pins: &P,
+    steps: &mut Steps<L>,
+) -> Result<RcTree<C>, TreeEnd>
+    requires { P.fits pins.now section.now }
+    ensures tree { IfOk result (λ tree. IsTreeOf C.COUNT section.now (P.pins pins.now section.now) tree) }
+    ensures nodes { IfOk result (λ tree. node_count tree ≤ length section.now.joints + 1) }
+    ensures refused { IfErr result (λ end. IsTreeEnd C.COUNT section.now (P.pins pins.now section.now) end) }
+    ensures steps { steps.new ≤ steps.old + length section.now.joints + C.COUNT * (length section.now.joints + length section.now.caps) }
+{
+    let mut tree = RcTree::new(alloc)?;
+    let mut workspace = Workspace::new(alloc);
+    tree.rebuild(alloc, &mut workspace, section, pins, steps)?;
+    Ok(tree)
+}
+
+// Whether there are too many resistors, or too many written capacitances and pins.
+fn is_too_large<C: CornerSet, P: PinSource<C>>(section: &Net<C>, pins: &P) -> bool
     ensures { IsTrue result ↔ IsTooLarge section.now (P.pins pins.now section.now) }
 {
     let sinks = pins.sink_count(section);

@@ -1,5 +1,6 @@
 //! Why a net has no tree.
 
+use edge_io::OutOfMemory;
 use name_table::NodeName;
 
 /// Why a net has no tree. They are asked in this order, but for the last.
@@ -19,4 +20,15 @@ pub enum TreeEnd {
 
     /// There was no memory for the tree.
     OutOfMemory,
+}
+
+impl From<OutOfMemory> for TreeEnd {
+    ghost use Rattle.std.specs.Prelude.{◌≡◌};
+    ghost use Rattle.rc_tree.specs.declared.ends.TreeEnd.TheVariants.{OutOfMemory};
+
+    ghost from_gives = { λ _ end. end ≡ OutOfMemory };
+
+    fn from(_end: OutOfMemory) -> TreeEnd {
+        TreeEnd::OutOfMemory
+    }
 }

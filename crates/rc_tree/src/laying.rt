@@ -1,10 +1,15 @@
 //! Where the nodes of a section and the sinks stand in the order of a search.
-ghost use Rattle.std.specs.Prelude.{◌≡◌, ℕ, ◌+◌, ◌-◌, ◌<◌, ◌≤◌, length, slice_index, slice_index_or, MatchOption, IfOk, OnOk};
+ghost use Rattle.std.specs.Prelude.{◌≡◌, ℕ, ◌-◌, ◌<◌, length, replicate, slice_index, MatchOption, OnOk};
+ghost use Rattle.rc_tree.specs.Searched.{IsNumbered, AreSinks};
 
+use crate::found::Found;
 use crate::node_ids::NodeId;
+use crate::numbered::Numbered;
+use crate::pin_source::PinSource;
+use corner_set::CornerSet;
 use edge_io::OutOfMemory;
 use edge_io::lists::{empty, push};
-use std::alloc::Global;
+use spef_nets::Net;
 
 /// The place of the first zero, if there is one.
 pub fn first_zero(values: &[u32]) -> Option<usize>
@@ -33,20 +38,34 @@ pub fn put_places(nodes: &[u32], numbers: &[u32], places: &mut Vec<u32>) -> Resu
     Ok(())
 }
 
-/// The places of the first nodes after the driver's, from one more than each.
-pub fn sinks_of(alloc: Global, many: usize, numbers: &[u32]) -> Result<Vec<NodeId>, OutOfMemory>
-    requires { many < length numbers.now }
-    ensures size { IfOk result (λ sinks. length sinks.items ≡ many) }
-    ensures sinks { IfOk result (λ sinks. (k : ℕ) → k < many
-        → (slice_index_or sinks.items k (record { 0 = 0 })).0 ≡ slice_index numbers.now (k + 1) - 1) }
+/// Makes a list the places of the sinks, where the search gives one more than the place of each node.
+pub fn put_sinks<C: CornerSet, P: PinSource<C>>(
+    section: &Net<C>,
+    pins: &P,
+    numbered: &Numbered,
+    found: &Found,
+    sinks: &mut Vec<NodeId>,
+) -> Result<(), OutOfMemory>
+    requires numbered { IsNumbered section.now (P.pins pins.now section.now) numbered.now.spots.items numbered.now.count }
+    requires every { length found.now.numbers.items ≡ numbered.now.count }
+    ensures size { OnOk result (length sinks.new.items ≡ length (P.pins pins.now section.now).sinks) }
+    ensures sinks { OnOk result (AreSinks section.now (P.pins pins.now section.now) found.now.numbers.items sinks.new.items) }
 {
-    let mut sinks = Vec::with_capacity(alloc, many)?;
-    for k in 0..many {
-        let place = numbers[k + 1].saturating_sub(1);
-        match sinks.push(NodeId(place)) {
-            Ok(()) => {}
-            Err(_) => return Err(OutOfMemory),
-        }
+    let many = pins.sink_count(section);
+    empty(sinks, many)?;
+    for sink in 0..many {
+        let number = pins.sink_number(section, numbered, sink);
+        let place = found.numbers[number].saturating_sub(1);
+        push(sinks, NodeId(place))?;
     }
-    Ok(sinks)
+    Ok(())
+}
+
+/// Makes a list so many times the first node of a tree.
+pub fn put_roots(sinks: &mut Vec<NodeId>, many: usize) -> Result<(), OutOfMemory>
+    ensures { OnOk result (sinks.new.items ≡ replicate many (record { 0 = 0 })) }
+{
+    empty(sinks, many)?;
+    sinks.resize(many, NodeId(0))?;
+    Ok(())
 }

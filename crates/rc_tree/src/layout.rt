@@ -15,5 +15,15 @@ pub struct NodeLayout<'a> {
     pub spots: &'a [u32],
 
     /// The place of each sink.
+    pub sinks: &'a [NodeId],
+}
+
+/// Lists of places in a tree.
+#[derive(Drop)]
+pub struct TreePlaces {
+    /// The place of each node of the section.
+    pub nodes: Vec<u32>,
+
+    /// The place of each sink.
     pub sinks: Vec<NodeId>,
 }

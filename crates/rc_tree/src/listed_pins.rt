@@ -1,15 +1,13 @@
 //! The pins of a net that are the connections of its section.
-ghost use Rattle.std.specs.Prelude.{◌≡◌, ℕ, ◌+◌, ◌-◌, ◌^◌, ◌<◌, ◌≤◌, length, slice_get, slice_index, Some, IfOk};
+ghost use Rattle.std.specs.Prelude.{◌≡◌, ◌+◌, ◌^◌, ◌<◌, ◌≤◌, length, slice_get, Some, IfOk};
 ghost use Rattle.corner_set.specs.Places.{value_at};
 ghost use Rattle.spef_nets.specs.NodeNames.{IsSdfAt};
 ghost use Rattle.delay_units.specs.Bounds.{most_farads};
 ghost use Rattle.rc_tree.specs.ListedPins.{listed_pins, other_place};
-ghost use Rattle.rc_tree.specs.Pins.{pin_nodes};
-ghost use Rattle.rc_tree.specs.SectionNets.{AreListed};
-ghost use Rattle.rc_tree.specs.Searched.{IsNumbered, IsNameAt, AreSinks};
+ghost use Rattle.rc_tree.specs.SectionNets.{sink_node};
+ghost use Rattle.rc_tree.specs.Searched.{IsNumbered, IsNameAt, all_nodes};
 
 use crate::names::section_name;
-use crate::node_ids::NodeId;
 use crate::numbered::Numbered;
 use corner_set::CornerSet;
 use delay_units::Farads;
@@ -88,41 +86,21 @@ impl ListedPins {
         section.conn_load(self.place(sink), corner)
     }
 
-    /// Each connection is one of the pins, which the contract states. It does nothing when it is called.
-    pub fn all_listed<C: CornerSet>(&self, section: &Net<C>)
-        requires { self.now.driver < length section.now.conns }
-        ensures { AreListed section.now (pin_nodes (listed_pins C.COUNT section.now self.now.driver)) }
-    {
-        for place in 0..section.conn_count() {
-            section.conn(place);
-        }
-    }
-
-    /// Where the sinks stand in the order of a search, which gives one more than the place of each node.
-    pub(crate) fn places<C: CornerSet>(
+    /// The number of a sink's node.
+    pub(crate) fn number_of<C: CornerSet>(
         &self,
-        alloc: Global,
         section: &Net<C>,
         numbered: &Numbered,
-        numbers: &[u32],
-    ) -> Result<Vec<NodeId>, OutOfMemory>
+        sink: usize,
+    ) -> usize
         requires numbered { IsNumbered section.now
             (listed_pins C.COUNT section.now self.now.driver) numbered.now.spots.items numbered.now.count }
-        requires every { length numbers.now ≡ numbered.now.count }
-        ensures size { IfOk result (λ sinks. length sinks.items ≡ length (listed_pins C.COUNT section.now self.now.driver).sinks) }
-        ensures sinks { IfOk result
-            (λ sinks. AreSinks section.now (listed_pins C.COUNT section.now self.now.driver) numbers.now sinks.items) }
+        requires within { sink < length (listed_pins C.COUNT section.now self.now.driver).sinks }
+        requires fits { sink + 1 < 2 ^ 64 }
+        ensures { slice_get (all_nodes section.now (listed_pins C.COUNT section.now self.now.driver)) result
+            ≡ Some (sink_node (listed_pins C.COUNT section.now self.now.driver) sink) }
     {
-        let many = self.len(section);
-        let mut sinks = Vec::with_capacity(alloc, many)?;
-        for sink in 0..many {
-            let node = section.conn(self.place(sink)).node;
-            match sinks.push(place_at(&numbered.spots, numbers, node)) {
-                Ok(()) => {}
-                Err(_) => return Err(OutOfMemory),
-            }
-        }
-        Ok(sinks)
+        numbered.spots[section.conn(self.place(sink)).node] as usize
     }
 
     /// A name of the node of a number.
@@ -139,14 +117,4 @@ impl ListedPins {
         let name = section_name(alloc, section, numbered, number)?;
         Ok(name)
     }
-}
-
-// Where a node of the section stands in the order of a search.
-fn place_at(spots: &[u32], numbers: &[u32], node: usize) -> NodeId
-    requires node { node < length spots.now }
-    requires number { slice_index spots.now node < length numbers.now }
-    ensures { result.0 ≡ slice_index numbers.now (slice_index spots.now node) - 1 }
-{
-    let place = numbers[spots[node] as usize].saturating_sub(1);
-    NodeId(place)
 }

@@ -1,9 +1,11 @@
 //! The numbers of a net's nodes where its pins are the connections of its section. They are found by the section's own numbers:
 //! no name is read.
-ghost use Rattle.std.specs.Prelude.{◌≡◌, ℕ, ◌-◌, ◌^◌, ◌<◌, List, [], length, map, OnOk};
+ghost use Rattle.std.specs.Prelude.{◌≡◌, ℕ, ◌-◌, ◌^◌, ◌<◌, List, length, map, OnOk};
 ghost use Rattle.spef_nets.specs.Nodes.{AreDistinctNodes};
 ghost use Rattle.rc_tree.specs.Nodes.{Node, node_of, with_nodes};
-ghost use Rattle.rc_tree.specs.ListedPins.{listed_pins};
+ghost use Rattle.rc_tree.specs.Pins.{pin_nodes};
+ghost use Rattle.rc_tree.specs.SectionNets.{AreListed};
+ghost use Rattle.rc_tree.specs.ListedPins.{listed_pins, other_place, IsWithin};
 ghost use Rattle.rc_tree.specs.Marking.{Marks, Marked};
 ghost use Rattle.rc_tree.specs.Searched.{IsNumbered};
 
@@ -44,6 +46,8 @@ fn mark_sinks<C: CornerSet>(
     requires size { length numbered.old.spots.items ≡ length section.now.nodes }
     requires distinct { AreDistinctNodes section.now.nodes }
     ensures size { OnOk result (length numbered.new.spots.items ≡ length section.now.nodes) }
+    ensures within { OnOk result ((k : ℕ) → k < length (listed_pins C.COUNT section.now pins.now.driver).sinks
+        → IsWithin section.now (other_place pins.now.driver k)) }
     ensures marked { OnOk result ((nodes : List Node)
         → Marked (2 ^ 32 - 1) section.now.nodes nodes numbered.old.spots.items numbered.old.count
         → Marked (2 ^ 32 - 1) section.now.nodes (with_nodes nodes (map node_of (listed_pins C.COUNT section.now pins.now.driver).sinks))
@@ -72,15 +76,16 @@ fn mark_rest<C: CornerSet>(section: &Net<C>, numbered: &mut Numbered) -> Result<
     Ok(())
 }
 
-/// The numbers of a net's nodes, whose pins are the connections of its section.
+/// Numbers the nodes of a net whose pins are the connections of its section. Each connection is one of them.
 pub fn number_listed<C: CornerSet>(
     section: &Net<C>,
     pins: &ListedPins,
     numbered: &mut Numbered,
 ) -> Result<(), OutOfMemory>
     requires { pins.now.driver < length section.now.conns }
-    ensures { OnOk result (IsNumbered section.now
+    ensures numbered { OnOk result (IsNumbered section.now
         (listed_pins C.COUNT section.now pins.now.driver) numbered.new.spots.items numbered.new.count) }
+    ensures listed { OnOk result (AreListed section.now (pin_nodes (listed_pins C.COUNT section.now pins.now.driver))) }
 {
     refill(&mut numbered.spots, section.node_count(), NONE)?;
     numbered.count = 0;

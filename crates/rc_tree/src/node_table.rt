@@ -1,5 +1,5 @@
 //! The nodes of a net, numbered by their first places.
-ghost use Rattle.std.specs.Prelude.{◌≡◌, ◌≢◌, ◌<◌, [], length, slice_get, Some, MatchOption, IfOk, IfSome, IfNone, OnOk, Contains, AllPairs};
+ghost use Rattle.std.specs.Prelude.{◌≡◌, ◌≢◌, [], length, slice_get, Some, IfOk, OnOk, AllPairs};
 ghost use Rattle.rc_tree.specs.Nodes.{with_node};
 
 use edge_io::OutOfMemory;
@@ -50,13 +50,6 @@ impl<'p> NodeTable<'p> {
     {
         put(&mut self.keys, key)
     }
-
-    /// The number of a node, or `None` where it is not held. It is one look-up, and takes no memory.
-    pub fn find(&self, key: &NodeKey<'p>) -> Option<usize>
-        ensures { MatchOption result (¬ Contains self.now key.now) (λ number. slice_get self.now number ≡ Some key.now) }
-    {
-        place_of(&self.keys, key)
-    }
 }
 
 // Puts a key at the end that is not held, and answers its place.
@@ -70,13 +63,4 @@ fn put<'p>(keys: &mut IndexSet<NodeKey<'p>>, key: NodeKey<'p>) -> Result<usize, 
         return Err(OutOfMemory);
     };
     Ok(place)
-}
-
-// The place of a key, if it is held.
-fn place_of<'p>(keys: &IndexSet<NodeKey<'p>>, key: &NodeKey<'p>) -> Option<usize>
-    ensures found { IfSome result (λ place. slice_get keys.now.keys place ≡ Some key.now) }
-    ensures absent { IfNone result (¬ Contains keys.now.keys key.now) }
-{
-    let (place, _) = keys.get_full(key)?;
-    Some(place)
 }

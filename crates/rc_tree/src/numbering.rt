@@ -1,11 +1,15 @@
 //! The numbers of a net's nodes: the driver's is 0, then come the sinks, then the other nodes of the section.
-ghost use Rattle.std.specs.Prelude.{◌≡◌, ◌+◌, ◌<◌, ◌≤◌, length, map, slice_get, slice_index, Some, All, Contains, MatchOption, IfOk, OnOk};
+ghost use Rattle.std.specs.Prelude.{◌≡◌, ◌+◌, ◌≤◌, length, map, IfOk, IfErr, OnOk};
 ghost use Rattle.rc_tree.specs.Nodes.{node_of, with_nodes};
 ghost use Rattle.rc_tree.specs.Pins.{pin_nodes};
 ghost use Rattle.rc_tree.specs.Numbering.{AreSpots, AreEnds};
-ghost use Rattle.rc_tree.specs.SectionNets.{AreListed, IsFirstStrange};
+ghost use Rattle.rc_tree.specs.SectionNets.{AreListed};
+ghost use Rattle.rc_tree.specs.Builds.{IsTreeEnd};
+ghost use Rattle.rc_tree.specs.Searched.{IsNumbered};
 
+use crate::ends::TreeEnd;
 use crate::node_table::NodeTable;
+use crate::numbered::Numbered;
 use crate::pins::PinLoads;
 use corner_set::CornerSet;
 use edge_io::lists::{empty, push, to_u32};
@@ -22,52 +26,71 @@ pub struct Ends {
     pub tos: Vec<u32>,
 }
 
-/// The pins, in order.
-pub fn number_pins<'p, C: CornerSet>(
+/// Numbers the nodes of a net by their names, unless a connection of its section is none of the pins.
+pub fn number_named<C: CornerSet>(
     alloc: Global,
-    pins: &'p PinLoads<C>,
+    pins: &PinLoads<'_, C>,
+    section: &Net<C>,
+    numbered: &mut Numbered,
+) -> Result<(), TreeEnd>
+    ensures numbered { OnOk result (IsNumbered section.now pins.now numbered.new.spots.items numbered.new.count) }
+    ensures listed { OnOk result (AreListed section.now (pin_nodes pins.now)) }
+    ensures refused { IfErr result (λ end. IsTreeEnd C.COUNT section.now pins.now end) }
+{
+    let mut table = number_pins(alloc, pins)?;
+    number_section(alloc, &mut table, section, &mut numbered.spots)?;
+    numbered.count = table.len();
+    refuse_stranger(alloc, pins, section, numbered)?;
+    Ok(())
+}
+
+// Refuses the first connection that is none of the pins, which have the first numbers.
+fn refuse_stranger<C: CornerSet>(
+    alloc: Global,
+    pins: &PinLoads<'_, C>,
+    section: &Net<C>,
+    numbered: &Numbered,
+) -> Result<(), TreeEnd>
+    requires { IsNumbered section.now pins.now numbered.now.spots.items numbered.now.count }
+    ensures listed { OnOk result (AreListed section.now (pin_nodes pins.now)) }
+    ensures refused { IfErr result (λ end. IsTreeEnd C.COUNT section.now pins.now end) }
+{
+    let sinks = pins.len();
+    for place in 0..section.conn_count() {
+        let node = section.conn(place).node;
+        if numbered.spots[node] as usize > sinks {
+            let name = section.node_name(alloc, node)?;
+            return Err(TreeEnd::StrangePin(name));
+        }
+    }
+    Ok(())
+}
+
+// The pins, in order.
+fn number_pins<'p, C: CornerSet>(
+    alloc: Global,
+    pins: &PinLoads<'p, C>,
 ) -> Result<NodeTable<'p>, OutOfMemory>
     ensures { IfOk result (λ table. table ≡ pin_nodes pins.now) }
 {
     let mut table = NodeTable::new(alloc);
-    table.intern(NodeKey::of_name(&pins.driver))?;
+    table.intern(NodeKey::of_name(pins.driver))?;
     intern_all(&mut table, pins.sinks.as_slice())?;
     Ok(table)
 }
 
 // Puts nodes at the end, each where it is not there already.
-fn intern_all<'p>(table: &mut NodeTable<'p>, names: &'p [NodeName]) -> Result<(), OutOfMemory>
-    ensures { OnOk result (table.new ≡ with_nodes table.old (map node_of names.now)) }
+fn intern_all<'p>(table: &mut NodeTable<'p>, names: &[&'p NodeName]) -> Result<(), OutOfMemory>
+    ensures { OnOk result (table.new ≡ with_nodes table.old (map node_of (map (λ name. name.now) names.now))) }
 {
     for name in names {
-        table.intern(NodeKey::of_name(name))?;
+        table.intern(NodeKey::of_name(*name))?;
     }
     Ok(())
 }
 
-/// The name of the first connection that is no pin, if there is one.
-pub fn first_strange<C: CornerSet>(
-    alloc: Global,
-    table: &NodeTable,
-    section: &Net<C>,
-) -> Result<Option<NodeName>, OutOfMemory>
-    ensures { IfOk result (λ found. MatchOption found (AreListed section.now table.now)
-        (λ name. IsFirstStrange section.now table.now name)) }
-{
-    for place in 0..section.conn_count() {
-        let node = section.conn(place).node;
-        let name = section.node_name(alloc, node)?;
-        let key = NodeKey::of(alloc, name)?;
-        if table.find(&key).is_none() {
-            let strange = section.node_name(alloc, node)?;
-            return Ok(Some(strange));
-        }
-    }
-    Ok(None)
-}
-
-/// The numbers of the section's nodes, each of which is in the table afterwards.
-pub fn number_section<C: CornerSet>(
+// The numbers of the section's nodes, each of which is in the table afterwards.
+fn number_section<C: CornerSet>(
     alloc: Global,
     table: &mut NodeTable,
     section: &Net<C>,

@@ -1,15 +1,19 @@
 //! The pins of a net, wherever they are kept.
-ghost use Rattle.std.specs.Prelude.{◌≡◌, ℕ, ◌+◌, ◌<◌, ◌≤◌, length, slice_index, ◌^◌, Some, IfOk};
+ghost use Rattle.std.specs.Prelude.{◌≡◌, ℕ, ◌+◌, ◌<◌, ◌≤◌, length, ◌^◌, Some, IfOk, IfErr, OnOk, slice_get};
 ghost use Rattle.corner_set.specs.Places.{value_at};
 ghost use Rattle.spef_nets.specs.NetElements.{NetElements as SectionElements};
 ghost use Rattle.delay_units.specs.Bounds.{most_farads};
-ghost use Rattle.rc_tree.specs.Pins.{Pins};
+ghost use Rattle.rc_tree.specs.Pins.{Pins, pin_nodes};
 ghost use Rattle.rc_tree.specs.ListedPins.{listed_pins};
-ghost use Rattle.rc_tree.specs.Searched.{IsNumbered, IsNameAt, AreSinks};
+ghost use Rattle.rc_tree.specs.SectionNets.{AreListed, sink_node};
+ghost use Rattle.rc_tree.specs.Builds.{IsTreeEnd};
+ghost use Rattle.rc_tree.specs.Searched.{IsNumbered, IsNameAt, all_nodes};
 
+use crate::ends::TreeEnd;
 use crate::listed_pins::ListedPins;
-use crate::node_ids::NodeId;
+use crate::marking::number_listed;
 use crate::numbered::Numbered;
+use crate::numbering::number_named;
 use crate::pins::PinLoads;
 use corner_set::CornerSet;
 use delay_units::Farads;
@@ -23,6 +27,9 @@ pub trait PinSource<C: CornerSet> {
     /// The pins.
     ghost pins: { Self → SectionElements → Pins };
 
+    /// What they ask of a section.
+    ghost fits: { Self → SectionElements → Type 0 };
+
     /// How many sinks there are.
     fn sink_count(&self, section: &Net<C>) -> usize
         ensures { result ≡ length (pins self.now section.now).sinks };
@@ -30,22 +37,29 @@ pub trait PinSource<C: CornerSet> {
     /// The load of a sink at a corner.
     fn sink_load(&self, section: &Net<C>, sink: usize, corner: C::Index) -> Farads
         requires within { sink < length (pins self.now section.now).sinks }
-        requires fits { sink + 1 < 2 ^ 64 }
+        requires next { sink + 1 < 2 ^ 64 }
         ensures load { value_at C.COUNT (pins self.now section.now).loads sink (C.number_of corner) ≡ Some result }
         ensures most { result.0 ≤ most_farads };
 
-    /// Where the sinks stand in the order of a search, which gives one more than the place of each node.
-    fn sinks_in(
+    /// Numbers the nodes of the net, unless a connection of the section is none of the pins.
+    fn number(
         &self,
         alloc: Global,
         section: &Net<C>,
-        numbered: &Numbered,
-        numbers: &[u32],
-    ) -> Result<Vec<NodeId>, OutOfMemory>
+        numbered: &mut Numbered,
+    ) -> Result<(), TreeEnd>
+        requires { fits self.now section.now }
+        ensures numbered { OnOk result (IsNumbered section.now (pins self.now section.now) numbered.new.spots.items numbered.new.count) }
+        ensures listed { OnOk result (AreListed section.now (pin_nodes (pins self.now section.now))) }
+        ensures refused { IfErr result (λ end. IsTreeEnd C.COUNT section.now (pins self.now section.now) end) };
+
+    /// The number of a sink's node.
+    fn sink_number(&self, section: &Net<C>, numbered: &Numbered, sink: usize) -> usize
         requires numbered { IsNumbered section.now (pins self.now section.now) numbered.now.spots.items numbered.now.count }
-        requires every { length numbers.now ≡ numbered.now.count }
-        ensures size { IfOk result (λ sinks. length sinks.items ≡ length (pins self.now section.now).sinks) }
-        ensures sinks { IfOk result (λ sinks. AreSinks section.now (pins self.now section.now) numbers.now sinks.items) };
+        requires within { sink < length (pins self.now section.now).sinks }
+        requires next { sink + 1 < 2 ^ 64 }
+        ensures { slice_get (all_nodes section.now (pins self.now section.now)) result
+            ≡ Some (sink_node (pins self.now section.now) sink) };
 
     /// A name of the node of a number.
     fn name_at(
@@ -59,8 +73,10 @@ pub trait PinSource<C: CornerSet> {
         ensures { IfOk result (λ name. IsNameAt section.now (pins self.now section.now) number name) };
 }
 
-impl<C: CornerSet> PinSource<C> for PinLoads<C> {
+impl<'p, C: CornerSet> PinSource<C> for PinLoads<'p, C> {
     ghost pins = { λ pins section. pins };
+
+    ghost fits = { λ pins section. Unit {0} };
 
     fn sink_count(&self, _section: &Net<C>) -> usize {
         self.len()
@@ -70,14 +86,17 @@ impl<C: CornerSet> PinSource<C> for PinLoads<C> {
         self.load(sink, corner)
     }
 
-    fn sinks_in(
+    fn number(
         &self,
         alloc: Global,
         section: &Net<C>,
-        numbered: &Numbered,
-        numbers: &[u32],
-    ) -> Result<Vec<NodeId>, OutOfMemory> {
-        self.places(alloc, section, numbered, numbers)
+        numbered: &mut Numbered,
+    ) -> Result<(), TreeEnd> {
+        number_named(alloc, self, section, numbered)
+    }
+
+    fn sink_number(&self, _section: &Net<C>, _numbered: &Numbered, sink: usize) -> usize {
+        self.number_of(sink)
     }
 
     fn name_at(
@@ -94,6 +113,8 @@ impl<C: CornerSet> PinSource<C> for PinLoads<C> {
 impl<C: CornerSet> PinSource<C> for ListedPins {
     ghost pins = { λ pins section. listed_pins C.COUNT section pins.driver };
 
+    ghost fits = { λ pins section. pins.driver < length section.conns };
+
     fn sink_count(&self, section: &Net<C>) -> usize {
         self.len(section)
     }
@@ -102,14 +123,18 @@ impl<C: CornerSet> PinSource<C> for ListedPins {
         self.load(section, sink, corner)
     }
 
-    fn sinks_in(
+    fn number(
         &self,
-        alloc: Global,
+        _alloc: Global,
         section: &Net<C>,
-        numbered: &Numbered,
-        numbers: &[u32],
-    ) -> Result<Vec<NodeId>, OutOfMemory> {
-        self.places(alloc, section, numbered, numbers)
+        numbered: &mut Numbered,
+    ) -> Result<(), TreeEnd> {
+        number_listed(section, self, numbered)?;
+        Ok(())
+    }
+
+    fn sink_number(&self, section: &Net<C>, numbered: &Numbered, sink: usize) -> usize {
+        self.number_of(section, numbered, sink)
     }
 
     fn name_at(

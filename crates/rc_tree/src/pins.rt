@@ -1,14 +1,14 @@
 //! The pins of a net.
-ghost use Rattle.std.specs.Prelude.{◌≡◌, ℕ, ◌+◌, ◌<◌, ◌≤◌, [], ◌∷◌, ◌++◌, length, Some, All, Contains, OnOk, OnErr, IfOk, slice_get, slice_index};
+ghost use Rattle.std.specs.Prelude.{◌≡◌, ◌≢◌, ◌+◌, ◌^◌, ◌<◌, ◌≤◌, [], ◌∷◌, ◌++◌, length, Some, All, AllPairs, Contains, OnOk, OnErr, IfOk, slice_get};
 ghost use Rattle.corner_set.specs.Places.{HasRow, value_at};
 ghost use Rattle.delay_units.specs.Bounds.{most_farads};
+ghost use Rattle.spef_nets.specs.NetElements.{NetElements as SectionElements};
 ghost use Rattle.rc_tree.specs.Nodes.{node_of};
 ghost use Rattle.rc_tree.specs.Pins.{pin_nodes, row_of};
-ghost use Rattle.rc_tree.specs.Searched.{IsNumbered, IsNameAt, AreSinks};
+ghost use Rattle.rc_tree.specs.SectionNets.{sink_node};
+ghost use Rattle.rc_tree.specs.Searched.{IsNumbered, IsNameAt, all_nodes};
 
-use crate::laying::sinks_of;
 use crate::names::section_name;
-use crate::node_ids::NodeId;
 use crate::numbered::Numbered;
 use corner_set::{CornerSet, Grid};
 use delay_units::Farads;
@@ -19,30 +19,32 @@ use std::alloc::Global;
 use std::marker::{Model, PhantomData};
 
 /// The driver of a net, and its sinks with their loads at each corner, in the order in which they are added. No two are one
-/// node. Contracts see these.
+/// node. Their names stand elsewhere. Contracts see these.
 #[derive(Drop)]
-pub struct PinLoads<C: CornerSet> {
-    pub(crate) driver: NodeName,
-    pub(crate) sinks: Vec<NodeName>,
+pub struct PinLoads<'p, C: CornerSet> {
+    pub(crate) driver: &'p NodeName,
+    pub(crate) sinks: Vec<&'p NodeName>,
     // row after row, and in each row by corner
     pub(crate) loads: Vec<Farads>,
     corners: PhantomData<C>,
 }
 
-impl<C: CornerSet> Model for PinLoads<C> {
+impl<'p, C: CornerSet> Model for PinLoads<'p, C> {
+    ghost use Rattle.std.specs.Prelude.{map};
     ghost use Rattle.rc_tree.specs.Pins.{Pins, AreSound};
 
     ghost Value = { Pins };
 
-    ghost view = { λ p. record { driver = p.driver; sinks = p.sinks.items; loads = p.loads.items } };
+    ghost view = { λ p. record { driver = p.driver.now; sinks = map (λ name. name.now) p.sinks.items; loads = p.loads.items } };
 
-    ghost invariant = { λ p. AreSound C.COUNT (record { driver = p.driver; sinks = p.sinks.items; loads = p.loads.items }) };
+    ghost invariant = { λ p. AreSound C.COUNT
+        (record { driver = p.driver.now; sinks = map (λ name. name.now) p.sinks.items; loads = p.loads.items }) };
 }
 
-impl<C: CornerSet> PinLoads<C> {
+impl<'p, C: CornerSet> PinLoads<'p, C> {
     /// A net with this driver and no sink. It takes no memory.
-    pub fn new(alloc: Global, driver: NodeName) -> PinLoads<C>
-        ensures { result ≡ record { driver = driver; sinks = []; loads = [] } }
+    pub fn new(alloc: Global, driver: &'p NodeName) -> PinLoads<'p, C>
+        ensures { result ≡ record { driver = driver.now; sinks = []; loads = [] } }
     {
         PinLoads {
             driver,
@@ -56,16 +58,16 @@ impl<C: CornerSet> PinLoads<C> {
     /// 10^12.
     pub fn add(
         &mut self,
-        sink: NodeName,
+        sink: &'p NodeName,
         loads: &Grid<C, Farads>,
         row: usize,
     ) -> Result<(), OutOfMemory>
         requires row { HasRow C.COUNT loads.now.values row }
-        requires other { ¬ Contains (pin_nodes self.old) (node_of sink) }
+        requires other { ¬ Contains (pin_nodes self.old) (node_of sink.now) }
         requires small { All (λ load. load.0 ≤ most_farads) (row_of C.COUNT loads.now.values row) }
         ensures ok { OnOk result (self.new ≡ record {
           driver = self.old.driver;
-          sinks = self.old.sinks ++ sink ∷ [];
+          sinks = self.old.sinks ++ sink.now ∷ [];
           loads = self.old.loads ++ row_of C.COUNT loads.now.values row;
         }) }
         ensures err { OnErr result (self.new ≡ self.old) }
@@ -81,27 +83,28 @@ impl<C: CornerSet> PinLoads<C> {
     }
 }
 
-impl<C: CornerSet> PinLoads<C> {
-    /// How many sinks there are.
+impl<'p, C: CornerSet> PinLoads<'p, C> {
+    /// How many sinks there are. No two pins are one node.
     pub fn len(&self) -> usize
-        ensures { result ≡ length self.now.sinks }
+        ensures len { result ≡ length self.now.sinks }
+        ensures apart { AllPairs (λ one other. one ≢ other) (pin_nodes self.now) }
     {
         self.sinks.len()
     }
 
     /// The driver.
-    pub fn driver(&self) -> &NodeName
+    pub fn driver(&self) -> &'p NodeName
         ensures { result.now ≡ self.now.driver }
     {
-        &self.driver
+        self.driver
     }
 
     /// The sink that was added k-th, from 0.
-    pub fn sink(&self, k: usize) -> &NodeName
+    pub fn sink(&self, k: usize) -> &'p NodeName
         requires { k < length self.now.sinks }
         ensures { slice_get self.now.sinks k ≡ Some result.now }
     {
-        &self.sinks[k]
+        self.sinks[k]
     }
 
     /// The load of a sink at a corner.
@@ -113,21 +116,14 @@ impl<C: CornerSet> PinLoads<C> {
         self.loads[sink * C::COUNT + C::number(corner)]
     }
 
-    /// Where the sinks stand in the order of a search, which gives one more than the place of each node.
-    pub(crate) fn places(
-        &self,
-        alloc: Global,
-        section: &Net<C>,
-        numbered: &Numbered,
-        numbers: &[u32],
-    ) -> Result<Vec<NodeId>, OutOfMemory>
-        requires numbered { IsNumbered section.now self.now numbered.now.spots.items numbered.now.count }
-        requires every { length numbers.now ≡ numbered.now.count }
-        ensures size { IfOk result (λ sinks. length sinks.items ≡ length self.now.sinks) }
-        ensures sinks { IfOk result (λ sinks. AreSinks section.now self.now numbers.now sinks.items) }
+    /// The number of a sink's node: the sinks come right after the driver, whatever the section is.
+    pub(crate) fn number_of(&self, sink: usize) -> usize
+        requires within { sink < length self.now.sinks }
+        requires fits { sink + 1 < 2 ^ 64 }
+        ensures { (section : SectionElements) → slice_get (all_nodes section self.now) result ≡ Some (sink_node self.now sink) }
     {
-        let sinks = sinks_of(alloc, self.sinks.len(), numbers)?;
-        Ok(sinks)
+        let _ = &self.sinks;
+        sink + 1
     }
 
     /// A name of the node of a number: as the pins have it, or as the section has it.
@@ -142,9 +138,9 @@ impl<C: CornerSet> PinLoads<C> {
         ensures { IfOk result (λ name. IsNameAt section.now self.now number name) }
     {
         if number == 0 {
-            return copy_name(alloc, &self.driver);
+            return copy_name(alloc, self.driver());
         }
-        if number <= self.sinks.len() {
+        if number <= self.len() {
             let name = copy_name(alloc, self.sink(number - 1))?;
             return Ok(name);
         }
@@ -154,13 +150,13 @@ impl<C: CornerSet> PinLoads<C> {
 }
 
 // Puts a sink and its loads at the ends, or neither.
-fn push_both(
-    sinks: &mut Vec<NodeName>,
+fn push_both<'p>(
+    sinks: &mut Vec<&'p NodeName>,
     loads: &mut Vec<Farads>,
-    sink: NodeName,
+    sink: &'p NodeName,
     row: &[Farads],
 ) -> Result<(), OutOfMemory>
-    ensures sinks { OnOk result (sinks.new.items ≡ sinks.old.items ++ sink ∷ []) }
+    ensures sinks { OnOk result (sinks.new.items ≡ sinks.old.items ++ sink.entry ∷ []) }
     ensures loads { OnOk result (loads.new.items ≡ loads.old.items ++ row.now) }
     ensures err_sinks { OnErr result (sinks.new.items ≡ sinks.old.items) }
     ensures err_loads { OnErr result (loads.new.items ≡ loads.old.items) }

@@ -1,5 +1,5 @@
 //! A place for a sum at each node and corner of a tree.
-ghost use Rattle.std.specs.Prelude.{◌≡◌, ◌+◌, ◌*◌, ◌<◌, IfOk, Some, ℕ, replicate, length, slice_set};
+ghost use Rattle.std.specs.Prelude.{◌≡◌, ◌+◌, ◌*◌, ◌<◌, ◌≤◌, IfOk, OnOk, Some, ℕ, replicate, length, slice_set};
 ghost use Rattle.corner_set.specs.Places.{place, HasRow, value_at};
 
 use crate::node_ids::NodeId;
@@ -38,6 +38,16 @@ impl<C: CornerSet> Scratch<C> {
         ensures { result * C.COUNT ≡ length self.now }
     {
         self.values.rows()
+    }
+
+    /// Makes room for so many nodes, in the memory that it has where that suffices. What it held is no matter.
+    pub fn make_room(&mut self, alloc: Global, nodes: usize) -> Result<(), OutOfMemory>
+        ensures { OnOk result (nodes * C.COUNT ≤ length self.new) }
+    {
+        if self.values.rows() < nodes {
+            self.values = Grid::with_rows(alloc, nodes, 0)?;
+        }
+        Ok(())
     }
 
     /// The number of a node at a corner. It is one step.

@@ -1,14 +1,16 @@
 //! The tree of a net in an arena.
-ghost use Rattle.std.specs.Prelude.{◌≡◌, ◌+◌, ◌*◌, ◌<◌, ◌≤◌, length, slice_get, IfSome, Some};
+ghost use Rattle.std.specs.Prelude.{◌≡◌, ◌+◌, ◌*◌, ◌<◌, ◌≤◌, length, slice_get, IfOk, IfSome, Some};
 ghost use Rattle.corner_set.specs.Places.{value_at};
 ghost use Rattle.delay_units.specs.Bounds.{most_ohms};
 ghost use Rattle.rc_tree.specs.Arenas.{IsArena, node_count, parent_at, arena_elements, most_load};
 ghost use Rattle.rc_tree.specs.NetLoad.{net_load};
 
 use crate::node_ids::NodeId;
+use crate::planting::empty_lists;
 use corner_set::{CornerSet, Grid};
 use delay_units::{Farads, Ohms};
-use edge_io::Steps;
+use edge_io::{OutOfMemory, Steps};
+use std::alloc::Global;
 use std::marker::Model;
 use std::sync::ledger::Ledger;
 
@@ -37,6 +39,32 @@ impl<C: CornerSet> Model for RcTree<C> {
 }
 
 impl<C: CornerSet> RcTree<C> {
+    /// A tree with no node. It takes no memory; the grids in it are made by a call that can answer want of it.
+    pub fn new(alloc: Global) -> Result<RcTree<C>, OutOfMemory>
+        ensures { IfOk result (λ tree. node_count tree ≡ 0) }
+    {
+        let ohms = Grid::with_rows(alloc, 0, Ohms(0))?;
+        let farads = Grid::with_rows(alloc, 0, Farads(0))?;
+        Ok(RcTree {
+            parents: Vec::new(alloc),
+            ohms,
+            farads,
+            sinks: Vec::new(alloc),
+        })
+    }
+
+    // Leaves it no node. It keeps its memory.
+    pub(crate) fn clear(&mut self)
+        ensures { node_count self.new ≡ 0 }
+    {
+        empty_lists(
+            &mut self.parents,
+            &mut self.ohms,
+            &mut self.farads,
+            &mut self.sinks,
+        );
+    }
+
     /// How many nodes there are, at most 2^19 + 1.
     pub fn len(&self) -> usize
         ensures len { result ≡ node_count self.now }

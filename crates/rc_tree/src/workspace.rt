@@ -1,6 +1,7 @@
 //! The lists that the building of a tree needs besides the tree's own.
 
 use crate::found::Found;
+use crate::layout::TreePlaces;
 use crate::numbered::Numbered;
 use crate::numbering::Ends;
 use crate::threads::Threads;
@@ -35,7 +36,10 @@ impl Workspace {
                     numbers: Vec::new(alloc),
                     links: Vec::new(alloc),
                 },
-                places: Vec::new(alloc),
+                places: TreePlaces {
+                    nodes: Vec::new(alloc),
+                    sinks: Vec::new(alloc),
+                },
             },
         }
     }
@@ -61,6 +65,6 @@ pub struct SearchLists {
     /// What the search has found.
     pub found: Found,
 
-    /// The place of each node of the section in the order of the search.
-    pub places: Vec<u32>,
+    /// Where the nodes of the section and the sinks stand in the tree.
+    pub places: TreePlaces,
 }

@@ -1,11 +1,11 @@
 //! How nets of small files become trees, or why they do not. The expected answers were worked by hand.
 ghost use Rattle.std.specs.Prelude.{◌≡◌, ◌<◌};
 
-use super::nets::{nets_of, pins};
+use super::nets::{PinNames, file_of, head_of, nets_of, pins};
 use corner_set::Single;
 use edge_io::Steps;
-use rc_tree::{RcTree, TreeEnd, Workspace, build, build_listed};
-use spef_nets::Section;
+use rc_tree::{ListedPins, RcTree, TreeEnd, build};
+use spef_nets::Net;
 use std::alloc::Global;
 use std::marker::Brand;
 use std::sync::ledger::{Blank, Ledger};
@@ -13,16 +13,19 @@ use std::test::Fail;
 
 /// How the building of a net ends: 0 a tree, 1 a strange pin, 2 too large, 3 unreached, 4 a mesh, 5 no memory; and a number: of
 /// nodes, of the bytes of the name's head, or of the resistor.
-fn ending<L: Ledger>(alloc: Global, section: &Section<Single>, blank: Blank) -> (u8, usize)
+fn ending<L: Ledger>(alloc: Global, net: &Net<Single>, blank: Blank) -> (u8, usize)
     requires name { blank.name ≡ L.name }
     requires parts { blank.parts ≡ L.parts }
     requires some_part { 0 < blank.parts }
 {
-    let Some(pins) = pins(alloc) else {
+    let Some(names) = PinNames::new(alloc) else {
+        return (5, 0);
+    };
+    let Some(pins) = pins(alloc, &names) else {
         return (5, 0);
     };
     let mut steps = Steps::<L>::new(blank);
-    told(build(alloc, section, &pins, &mut steps))
+    told(build(alloc, net, &pins, &mut steps))
 }
 
 fn told(ending: Result<RcTree<Single>, TreeEnd>) -> (u8, usize) {
@@ -39,7 +42,7 @@ fn told(ending: Result<RcTree<Single>, TreeEnd>) -> (u8, usize) {
 /// How it ends where the connection at this place drives, and the others are the sinks.
 fn listed_ending<L: Ledger>(
     alloc: Global,
-    section: &Section<Single>,
+    net: &Net<Single>,
     driver: usize,
     blank: Blank,
 ) -> (u8, usize)
@@ -47,34 +50,44 @@ fn listed_ending<L: Ledger>(
     requires parts { blank.parts ≡ L.parts }
     requires some_part { 0 < blank.parts }
 {
-    if driver >= section.conn_count() {
+    if driver >= net.conn_count() {
         return (6, 0);
     }
-    let net = section.as_net();
     let mut steps = Steps::<L>::new(blank);
-    let mut workspace = Workspace::new(alloc);
-    told(build_listed(alloc, &mut workspace, &net, driver, &mut steps))
+    told(build(alloc, net, &ListedPins { driver }, &mut steps))
 }
 
 /// How the building of the first net of a file ends; 6 where there is none.
 fn end_of(alloc: Global, bytes: &[u8]) -> (u8, usize) {
-    let Some(sections) = nets_of::<Single>(alloc, bytes) else {
+    let Some(file) = file_of(alloc, bytes) else {
+        return (6, 0);
+    };
+    let Some(head) = head_of(alloc, &file) else {
+        return (6, 0);
+    };
+    let Some(sections) = nets_of::<Single>(alloc, &file, &head) else {
         return (6, 0);
     };
     if sections.len() == 0 {
         return (6, 0);
     }
-    ending::<Brand>(alloc, sections.get(0), Blank::new(1))
+    ending::<Brand>(alloc, &sections.get(0), Blank::new(1))
 }
 
 fn listed_end_of(alloc: Global, bytes: &[u8], driver: usize) -> (u8, usize) {
-    let Some(sections) = nets_of::<Single>(alloc, bytes) else {
+    let Some(file) = file_of(alloc, bytes) else {
+        return (6, 0);
+    };
+    let Some(head) = head_of(alloc, &file) else {
+        return (6, 0);
+    };
+    let Some(sections) = nets_of::<Single>(alloc, &file, &head) else {
         return (6, 0);
     };
     if sections.len() == 0 {
         return (6, 0);
     }
-    listed_ending::<Brand>(alloc, sections.get(0), driver, Blank::new(1))
+    listed_ending::<Brand>(alloc, &sections.get(0), driver, Blank::new(1))
 }
 
 /// A section, the place of its driver, and how it ends.

@@ -2,13 +2,13 @@
 ghost use Rattle.std.specs.Prelude.{◌≡◌, ◌<◌};
 ghost use Rattle.corner_set.specs.Places.{HasRow};
 
-use super::nets::nets_of;
+use super::nets::{file_of, head_of, nets_of};
 use super::plain_sums::{Branch, Values, plain};
 use corner_set::{Pick, Triple};
 use edge_io::Steps;
 use elmore_pass::elmore_into;
-use rc_tree::{NodeId, Scratch, Workspace, build_listed};
-use spef_nets::Section;
+use rc_tree::{ListedPins, NodeId, Scratch, build};
+use spef_nets::Net;
 use std::alloc::{AllocError, Global};
 use std::marker::Brand;
 use std::sync::ledger::{Blank, Ledger};
@@ -125,24 +125,17 @@ fn sink_agrees<L: Ledger>(
         && delays.value(place, Pick::Max, steps) == plain(tree, node, Pick::Max)
 }
 
-/// Whether all sinks of a section have their plain delays.
-fn agrees<L: Ledger>(
-    alloc: Global,
-    section: &Section<Triple>,
-    tree: &[Branch],
-    blank: Blank,
-) -> bool
+/// Whether all sinks of a net have their plain delays.
+fn agrees<L: Ledger>(alloc: Global, net: &Net<Triple>, tree: &[Branch], blank: Blank) -> bool
     requires name { blank.name ≡ L.name }
     requires parts { blank.parts ≡ L.parts }
     requires some_part { 0 < blank.parts }
 {
-    if section.conn_count() == 0 {
+    if net.conn_count() == 0 {
         return false;
     }
     let mut steps = Steps::<L>::new(blank);
-    let net = section.as_net();
-    let mut workspace = Workspace::new(alloc);
-    let Ok(arena) = build_listed(alloc, &mut workspace, &net, 0, &mut steps) else {
+    let Ok(arena) = build(alloc, net, &ListedPins { driver: 0 }, &mut steps) else {
         return false;
     };
     let Ok(mut delays) = Scratch::<Triple>::reserve(alloc, arena.len()) else {
@@ -168,10 +161,16 @@ fn is_right(alloc: Global, tree: &[Branch]) -> bool {
     let Ok(text) = spef(alloc, tree) else {
         return false;
     };
-    let Some(sections) = nets_of::<Triple>(alloc, text.as_bytes()) else {
+    let Some(file) = file_of(alloc, text.as_bytes()) else {
         return false;
     };
-    sections.len() == 1 && agrees::<Brand>(alloc, sections.get(0), tree, Blank::new(1))
+    let Some(head) = head_of(alloc, &file) else {
+        return false;
+    };
+    let Some(sections) = nets_of::<Triple>(alloc, &file, &head) else {
+        return false;
+    };
+    sections.len() == 1 && agrees::<Brand>(alloc, &sections.get(0), tree, Blank::new(1))
 }
 
 #[test]

@@ -8,7 +8,7 @@ returns-in-Some-first_zero-clause-refused g c =
     mesh_end g.C.CornerSet.COUNT c.args.section.now (g.P.PinSource.pins c.args.pins.now c.args.section.now) c.args.numbered.now.spots.items c.deref.result.now c.deref-2.result.now c.args.numbered.now.count (search_of c.args.found.now)
     c.requires.fit c.requires.some c.requires.numbered c.requires.explored c.deref.ensures.value c.deref-2.ensures.value c.in_default.ensures c.in-Some-first_zero.place c.in-Some-first_zero.ensures
 
-pub returns-in-Ok-clause-refused : goal.returns-in-Ok-clause-refused
-returns-in-Ok-clause-refused g c =
+pub returns-in-Some-clause-refused : goal.returns-in-Some-clause-refused
+returns-in-Some-clause-refused g c =
     unreached_end g.C.CornerSet.COUNT c.args.section.now (g.P.PinSource.pins c.args.pins.now c.args.section.now) c.args.numbered.now.spots.items c.deref.result.now c.args.numbered.now.count (search_of c.args.found.now)
-    c.requires.fit c.requires.some c.requires.numbered c.requires.explored c.deref.ensures.value c.in-Some.node c.in-Ok.name c.in-Some.ensures c.in-Ok.ensures
+    c.requires.fit c.requires.some c.requires.numbered c.requires.explored c.deref.ensures.value c.in-Some.node c.in_ok-name.name c.in-Some.ensures c.in_ok-name.ensures

@@ -4,4 +4,4 @@ use Rattle.rc_tree.proofs.numbering.intern_all.Given as goal
 
 -- the names so far
 abbrev pub invariant-loop-name : goal.invariant-loop-name
-invariant-loop-name l = l.table ≡ with_nodes l.fn.table (map node_of (take l.name-index l.names))
+invariant-loop-name l = l.table ≡ with_nodes l.fn.table (map node_of (take l.name-index (map (λ name. name.now) l.names)))

@@ -1,6 +1,6 @@
-use Rattle.std.proofs.Common.{◌∙◌, length, subst}
+use Rattle.std.proofs.Common.{◌∙◌, length}
 use Rattle.rc_tree.specs.Layouts.{layout_of}
-use Rattle.rc_tree.proofs.Filled.{CornerFacts, filled_corner, has_row}
+use Rattle.rc_tree.proofs.Filled.{filled_corner, has_row}
 use Rattle.rc_tree.proofs.planting.fill_corner.Goals as goal
 
 -- src/planting.rt
@@ -10,7 +10,6 @@ returns-clause-filled g c =
     let number = g.C.CornerSet.number_of c.args.corner in
     let n = length c.args.layout.now.parents.now in
     filled_corner count c.args.section.now (g.P.PinSource.pins c.args.pins.now c.args.section.now) (layout_of c.args.layout.now) c.fill_ohms.new.ohms.values c.fill_farads.new.farads.values c.fill_loads.new.farads.values number c.requires.layout
-    (subst (λ s. CornerFacts count c.args.section.now (g.P.PinSource.pins c.args.pins.now c.args.section.now) n c.args.layout.now.vias.now c.args.layout.now.spots.now s c.fill_ohms.new.ohms.values c.fill_farads.new.farads.values c.fill_loads.new.farads.values number) c.deref.ensures.value
     (record {
       root = c.fill_ohms.ensures.root ∙ c.requires.no_ohms 0;
       links = c.fill_ohms.ensures.links;
@@ -20,4 +19,4 @@ returns-clause-filled g c =
       within = c.fill_farads.ensures.within;
       each = c.fill_farads.ensures.each;
       loads = c.fill_loads.ensures.each;
-    }))
+    })

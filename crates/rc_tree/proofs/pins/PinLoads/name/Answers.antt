@@ -1,19 +1,14 @@
-use Rattle.std.proofs.Common.{length, Some, sym, ◌∙◌, ap, subst, arith}
-use Rattle.rc_tree.specs.Pins.{pin_nodes}
-use Rattle.rc_tree.proofs.Nets.{Apart}
+use Rattle.std.proofs.Common.{Some, sym, ◌∙◌, ap, arith}
 use Rattle.rc_tree.proofs.Judging.{section_named, sink_named}
 use Rattle.rc_tree.proofs.pins.PinLoads.name.Goals as goal
 
 -- src/pins.rt
 pub sink-requires : goal.sink-requires
-sink-requires g c =
-    let many = ap (λ p. length p.sinks) c.self.view_is in
-    omega (arith, many, c.len.ensures, c.self.inside.sinks.ok.0, c.if-number-len.true, c.if-number-eq0.false)
+sink-requires g c = omega (arith, c.len.ensures.len, c.if-number-len.true, c.if-number-eq0.false)
 
 pub returns-then-number-len : goal.returns-then-number-len
 returns-then-number-len g c =
-    sink_named c.args.section.now c.args.self.now (subst (λ p. Apart (pin_nodes p)) c.self.view_is c.self.invariant.apart) c.args.number c.in_ok-name.name (omega (arith, c.if-number-eq0.false))
-    (c.sink.ensures ∙ ap Some (sym c.in_ok-name.ensures))
+    sink_named c.args.section.now c.args.self.now c.len.ensures.apart c.args.number c.in_ok-name.name (omega (arith, c.if-number-eq0.false)) (c.sink.ensures ∙ ap Some (sym c.in_ok-name.ensures))
 
 pub returns : goal.returns
 returns g c = section_named c.args.section.now c.args.self.now c.args.numbered.now.spots.items c.args.number c.in_ok-name-2.name c.requires.are_spots c.in_ok-name-2.ensures
