@@ -90,7 +90,7 @@ impl<'a> DeclaredNames<'a> {
 }
 
 /// How many entries declare a name.
-fn count_declared(entries: &[Entry]) -> usize {
+pub(crate) fn count_declared(entries: &[Entry]) -> usize {
     let mut count = 0;
     for entry in entries {
         if matches!(entry, Entry::Declared(_, _, _)) {

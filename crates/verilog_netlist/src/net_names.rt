@@ -7,7 +7,7 @@ ghost use Rattle.verilog_netlist.specs.ModuleNames.{is_in, direction_by, way_of,
 ghost use Rattle.verilog_netlist.specs.PartPlaces.{ArePlaces};
 ghost use Rattle.verilog_netlist.specs.NameRows.{AreNetNames, keys_of, noted, view_row, fresh, facts_in, joined_texts, text_number, AllDiffer, NotesEntry, AddsNames};
 
-use crate::declared::Declaration;
+use crate::declared::{Declaration, count_declared};
 use crate::entries::{Decl, Direction, Entry, Range};
 use crate::name_text::NameText;
 use crate::places::Places;
@@ -218,7 +218,8 @@ fn collect_texts<'a>(
     ensures numbers { IfOk result (λ texts. numbers.new.items
         ≡ numbers.old.items ++ map (text_number bytes.now (keys_of texts.keys)) entries.now) }
 {
-    let mut texts = IndexSet::with_hasher(alloc, NameHash::default());
+    let many = count_declared(entries);
+    let mut texts = IndexSet::with_capacity_and_hasher(alloc, many, NameHash::default())?;
     add_texts(&mut texts, bytes, entries, Group::Headers)?;
     add_texts(&mut texts, bytes, entries, Group::Wires)?;
     join_texts(&mut texts, numbers, bytes, entries)?;
@@ -272,6 +273,7 @@ fn add_module_rows<'a>(
         ++ map (facts_in bytes.now entries.now) (keys_of texts.now.keys)) }
 {
     let from = rows.len();
+    rows.reserve(texts.len())?;
     add_rows(rows, texts)?;
     for entry in entries {
         note(rows, from, texts, bytes, *entry);
@@ -289,15 +291,15 @@ pub struct NetNames<'a> {
 }
 
 impl<'a> NetNames<'a> {
-    /// No name yet, where the first module begins at this place.
-    fn new(alloc: Global, place: usize) -> Result<NetNames<'a>, OutOfMemory>
+    /// No name yet, where the first module begins at this place. There is room for so many numbers.
+    fn new(alloc: Global, place: usize, many: usize) -> Result<NetNames<'a>, OutOfMemory>
         ensures starts { IfOk result (λ names. names.starts.items ≡ 0 ∷ []) }
         ensures rows { IfOk result (λ names. names.rows.items ≡ []) }
         ensures numbers { IfOk result (λ names. length names.numbers.items ≡ place) }
     {
         let mut starts = Vec::new(alloc);
         push(&mut starts, 0)?;
-        let mut numbers = Vec::new(alloc);
+        let mut numbers = Vec::with_capacity(alloc, many)?;
         refill(&mut numbers, place, 0)?;
         Ok(NetNames {
             starts,
@@ -334,7 +336,7 @@ pub(crate) fn collect_net_names<'a>(
     ensures { IfOk result (AreNetNames bytes.now entries.now places.now) }
 {
     let first = places.first_place();
-    let mut names = NetNames::new(alloc, first)?;
+    let mut names = NetNames::new(alloc, first, entries.len())?;
     for m in 0..places.module_count() {
         let own = places.module(m).own(entries);
         names.add_module(alloc, bytes, own)?;
