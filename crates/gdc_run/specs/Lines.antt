@@ -22,11 +22,11 @@ abbrev pub usage_line : UsageKind → ℕ → Option (List ℕ) → List ℕ
 usage_line kind place (Some key) = codes "gdc: usage: " ++ (kind_text kind ++ (codes " " ++ (key ++ 10 ∷ [])))
 usage_line kind place None = codes "gdc: usage at word " ++ (decimal place ++ (codes ": " ++ (kind_text kind ++ 10 ∷ [])))
 
--- the line of an answer, which is nothing where the run is done
-abbrev pub line_of : Outcome → List ℕ
-line_of Done = []
-line_of (Refused refusal) = refusal_line refusal
-line_of (Usage fault) = usage_line fault.kind fault.place fault.key
-line_of (ReadFault key) = codes "gdc: read fault " ++ (key_text key ++ 10 ∷ [])
-line_of WriteFault = codes "gdc: write fault" ++ 10 ∷ []
-line_of OutOfMemory = codes "gdc: out of memory" ++ 10 ∷ []
+-- the line of an answer of a run with so many corners, which is nothing where the run is done
+abbrev pub line_of : ℕ → Outcome → List ℕ
+line_of corners Done = []
+line_of corners (Refused refusal) = refusal_line corners refusal
+line_of corners (Usage fault) = usage_line fault.kind fault.place fault.key
+line_of corners (ReadFault key) = codes "gdc: read fault " ++ (key_text key ++ 10 ∷ [])
+line_of corners WriteFault = codes "gdc: write fault" ++ 10 ∷ []
+line_of corners OutOfMemory = codes "gdc: out of memory" ++ 10 ∷ []

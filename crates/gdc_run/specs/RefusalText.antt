@@ -1,5 +1,5 @@
 -- The words that a refusal is printed with.
-use Rattle.std.specs.Prelude.{ℕ, List, [], ◌∷◌, ◌++◌, Option, Some, None, codes, decimal}
+use Rattle.std.specs.Prelude.{ℕ, ◌==◌, if◌then◌else◌, List, [], ◌∷◌, ◌++◌, Option, Some, None, codes, decimal}
 use Rattle.name_table.specs.declared.spef_names.NodeName.{NodeName}
 use Rattle.liberty_groups.specs.declared.faults.Cause.{Cause}
 use Rattle.liberty_groups.specs.declared.faults.Cause.TheVariants.{BadByte, OpenText, OpenComment, Unexpected, EndInside, TooDeep, NotLibrary}
@@ -68,24 +68,29 @@ head_text (NoDriver net) = codes "E60 no driver "
 head_text (ManyDrivers net) = codes "E61 several drivers "
 head_text (SdfSyntax token) = codes "E62 sdf syntax"
 
--- what a refusal names first
-abbrev pub field_text : Refusal → List ℕ
-field_text (LibrarySyntax corner token line cause) = codes "only"
-field_text (SpefSyntax token) = []
-field_text (SpefForm word token) = word
-field_text (UnknownCell cell corner) = cell
-field_text (refusal.CellFault cell corner fault) = cell
-field_text (SpefNumber kind token) = number_text kind
-field_text (NameIndex kind token) = index_text kind
-field_text (RepeatedNet net) = net
-field_text (Unreached net node) = net
-field_text (Mesh net resistor) = net
-field_text (ForeignCoupling net token) = net
-field_text (Outside instance from to edge corner part axis value) = instance
-field_text (Limit kind) = limit_field kind
-field_text (NoDriver net) = net
-field_text (ManyDrivers net) = net
-field_text (SdfSyntax token) = []
+-- how a corner of a run is printed: `only` where the run has one, and else as the member of a triple that counts at it
+abbrev pub corner_text : ℕ → ℕ → List ℕ
+corner_text corners corner =
+    if corners == 1 then codes "only" else if corner == 0 then codes "min" else if corner == 1 then codes "typ" else codes "max"
+
+-- what a refusal names first, in a run with so many corners
+abbrev pub field_text : ℕ → Refusal → List ℕ
+field_text corners (LibrarySyntax corner token line cause) = corner_text corners corner
+field_text corners (SpefSyntax token) = []
+field_text corners (SpefForm word token) = word
+field_text corners (UnknownCell cell corner) = cell
+field_text corners (refusal.CellFault cell corner fault) = cell
+field_text corners (SpefNumber kind token) = number_text kind
+field_text corners (NameIndex kind token) = index_text kind
+field_text corners (RepeatedNet net) = net
+field_text corners (Unreached net node) = net
+field_text corners (Mesh net resistor) = net
+field_text corners (ForeignCoupling net token) = net
+field_text corners (Outside instance from to edge corner part axis value) = instance
+field_text corners (Limit kind) = limit_field kind
+field_text corners (NoDriver net) = net
+field_text corners (ManyDrivers net) = net
+field_text corners (SdfSyntax token) = []
 
 -- the token that a refusal names
 abbrev pub token_in : Refusal → Option ℕ
@@ -167,17 +172,18 @@ abbrev pub axis_text : Which → List ℕ
 axis_text Slew = codes "slew"
 axis_text Load = codes "load"
 
--- What ends the line of a refusal that names no token and no node. The corner of a run with one library is `only`.
-abbrev pub last_words : Refusal → List ℕ
-last_words (LibrarySyntax corner token line cause) = (codes " token " ++ (decimal token ++ codes " line "))
+-- what ends the line of a refusal that names no token and no node, in a run with so many corners
+abbrev pub last_words : ℕ → Refusal → List ℕ
+last_words corners (LibrarySyntax corner token line cause) = (codes " token " ++ (decimal token ++ codes " line "))
     ++ (decimal line ++ (codes " " ++ (cause_text cause ++ 10 ∷ [])))
-last_words (UnknownCell cell corner) = codes " only\n"
-last_words (refusal.CellFault cell corner fault) = codes " only " ++ (fault_text fault ++ 10 ∷ [])
-last_words (Outside instance from to edge corner part axis value) =
+last_words corners (UnknownCell cell corner) = codes " " ++ (corner_text corners corner ++ 10 ∷ [])
+last_words corners (refusal.CellFault cell corner fault) =
+    codes " " ++ (corner_text corners corner ++ (codes " " ++ (fault_text fault ++ 10 ∷ [])))
+last_words corners (Outside instance from to edge corner part axis value) =
     (codes " " ++ (from ++ (codes " " ++ (to ++ codes " "))))
-    ++ ((edge_text edge ++ (codes " only " ++ (part_text part ++ (codes " " ++ axis_text axis))))
-    ++ (codes " " ++ (decimal value ++ 10 ∷ [])))
-last_words _ = 10 ∷ []
+    ++ ((edge_text edge ++ (codes " " ++ (corner_text corners corner ++ (codes " " ++ part_text part))))
+    ++ (codes " " ++ (axis_text axis ++ (codes " " ++ (decimal value ++ 10 ∷ [])))))
+last_words corners _ = 10 ∷ []
 
 -- what ends the line of a refusal: its token, or its node, or its last words
 abbrev pub line_end : Option ℕ → Option NodeName → List ℕ → List ℕ
@@ -185,7 +191,7 @@ line_end (Some token) _ words = codes " token " ++ (decimal token ++ 10 ∷ [])
 line_end None (Some at) words = codes " " ++ node_text at.head at.tail
 line_end None None words = words
 
--- the line of a refusal
-abbrev pub refusal_line : Refusal → List ℕ
-refusal_line refusal = (codes "gdc: " ++ (head_text refusal ++ field_text refusal))
-    ++ line_end (token_in refusal) (node_in refusal) (last_words refusal)
+-- the line of a refusal, in a run with so many corners
+abbrev pub refusal_line : ℕ → Refusal → List ℕ
+refusal_line corners refusal = (codes "gdc: " ++ (head_text refusal ++ field_text corners refusal))
+    ++ line_end (token_in refusal) (node_in refusal) (last_words corners refusal)

@@ -5,7 +5,7 @@ ghost use Rattle.gdc_run.specs.Lines.{kind_text, usage_line, line_of};
 ghost use Rattle.gdc_run.specs.RefusalText.{head_text, field_text, token_in, node_in, node_text, cause_text, fault_text, edge_text, part_text, axis_text, last_words, line_end, refusal_line};
 
 use crate::outcome::Outcome;
-use crate::refusal::{Edge, Part, Refusal};
+use crate::refusal::{Edge, Part, Refusal, corner_text};
 use edge_io::{Failed, Sink, write_2, write_3, write_4, write_5, write_all};
 use gdc_words::{UsageFault, UsageKind};
 use itoa::Buffer;
@@ -57,7 +57,8 @@ fn say_token<E: Sink>(token: u64, err: &mut E) -> Result<(), Failed>
 
 // Names a node at the end of a line.
 fn say_node<E: Sink>(node: &NodeName, err: &mut E) -> Result<(), Failed>
-    ensures writes { Writes (codes " " ++ node_text node.now.head node.now.tail) (E.written err.old) (E.written err.new) (E.faults err.old)
+    ensures writes { Writes (codes " " ++ node_text node.now.head node.now.tail) (E.written err.old)
+        (E.written err.new) (E.faults err.old)
         (E.faults err.new) result }
 {
     match &node.tail {
@@ -126,29 +127,22 @@ fn say_place<E: Sink>(token: u64, line: u64, cause: Cause, err: &mut E) -> Resul
     Ok(())
 }
 
-// Names an edge, the part of it, and an axis.
-fn say_edge<E: Sink>(edge: Edge, part: Part, axis: Which, err: &mut E) -> Result<(), Failed>
-    ensures writes { Writes (edge_text edge ++ (codes " only " ++ (part_text part ++ (codes " " ++ axis_text axis)))) (E.written err.old)
+// Names an edge, a corner by its word, and the part of the edge.
+fn say_edge<E: Sink>(edge: Edge, corner: &[u8], part: Part, err: &mut E) -> Result<(), Failed>
+    ensures writes { Writes (edge_text edge ++ (codes " " ++ (corner.now ++ (codes " " ++ part_text part)))) (E.written err.old)
         (E.written err.new) (E.faults err.old) (E.faults err.new) result }
 {
-    write_5(
-        err,
-        edge.word(),
-        b" only ",
-        part.word(),
-        b" ",
-        axis_text(axis),
-    )
+    write_5(err, edge.word(), b" ", corner, b" ", part.word())
 }
 
-// Names a value at the end of a line.
-fn say_value<E: Sink>(value: u64, err: &mut E) -> Result<(), Failed>
-    ensures writes { Writes (codes " " ++ (decimal value ++ 10 ∷ [])) (E.written err.old) (E.written err.new) (E.faults err.old)
-        (E.faults err.new) result }
+// Names an axis, and a value on it at the end of a line.
+fn say_value<E: Sink>(axis: Which, value: u64, err: &mut E) -> Result<(), Failed>
+    ensures writes { Writes (codes " " ++ (axis_text axis ++ (codes " " ++ (decimal value ++ 10 ∷ [])))) (E.written err.old)
+        (E.written err.new) (E.faults err.old) (E.faults err.new) result }
 {
     let mut buffer = Buffer::new();
     let digits = buffer.format(value).as_bytes();
-    write_3(err, b" ", digits, b"\n")
+    write_5(err, b" ", axis_text(axis), b" ", digits, b"\n")
 }
 
 // Names the pins of an arc.
@@ -159,9 +153,10 @@ fn say_pins<E: Sink>(from: &[u8], to: &[u8], err: &mut E) -> Result<(), Failed>
     write_5(err, b" ", from, b" ", to, b" ")
 }
 
-// Ends the line of a refusal that names no token and no node.
-fn say_last<E: Sink>(refusal: &Refusal, err: &mut E) -> Result<(), Failed>
-    ensures writes { Writes (last_words refusal.now) (E.written err.old) (E.written err.new) (E.faults err.old) (E.faults err.new) result }
+// Ends the line of a refusal that names no token and no node, in a run with so many corners.
+fn say_last<E: Sink>(refusal: &Refusal, corners: usize, err: &mut E) -> Result<(), Failed>
+    ensures writes { Writes (last_words corners refusal.now) (E.written err.old) (E.written err.new) (E.faults err.old)
+        (E.faults err.new) result }
 {
     match refusal {
         Refusal::LibrarySyntax {
@@ -170,29 +165,36 @@ fn say_last<E: Sink>(refusal: &Refusal, err: &mut E) -> Result<(), Failed>
             cause,
             ..
         } => say_place(*token, *line, *cause, err),
-        Refusal::UnknownCell { .. } => write_all(err, b" only\n"),
-        Refusal::CellFault { fault, .. } => write_3(err, b" only ", fault_text(*fault), b"\n"),
+        Refusal::UnknownCell { corner, .. } => {
+            write_3(err, b" ", corner_text(corners, *corner), b"\n")
+        }
+        Refusal::CellFault { corner, fault, .. } => {
+            let corner = corner_text(corners, *corner);
+            write_5(err, b" ", corner, b" ", fault_text(*fault), b"\n")
+        }
         Refusal::Outside {
             from,
             to,
             edge,
+            corner,
             part,
             axis,
             value,
             ..
         } => {
             say_pins(from.bytes(), to.bytes(), err)?;
-            say_edge(*edge, *part, *axis, err)?;
-            say_value(*value, err)?;
+            say_edge(*edge, corner_text(corners, *corner), *part, err)?;
+            say_value(*axis, *value, err)?;
             Ok(())
         }
         _ => write_all(err, b"\n"),
     }
 }
 
-// Ends the line of a refusal.
-fn say_end<E: Sink>(refusal: &Refusal, err: &mut E) -> Result<(), Failed>
-    ensures writes { Writes (line_end (token_in refusal.now) (node_in refusal.now) (last_words refusal.now)) (E.written err.old)
+// Ends the line of a refusal, in a run with so many corners.
+fn say_end<E: Sink>(refusal: &Refusal, corners: usize, err: &mut E) -> Result<(), Failed>
+    ensures writes { Writes (line_end (token_in refusal.now) (node_in refusal.now) (last_words corners refusal.now))
+        (E.written err.old)
         (E.written err.new) (E.faults err.old) (E.faults err.new) result }
 {
     if let Some(token) = refusal.token() {
@@ -201,25 +203,26 @@ fn say_end<E: Sink>(refusal: &Refusal, err: &mut E) -> Result<(), Failed>
     if let Some(node) = refusal.node() {
         return say_node(node, err);
     }
-    say_last(refusal, err)
+    say_last(refusal, corners, err)
 }
 
-fn say_refusal<E: Sink>(refusal: &Refusal, err: &mut E) -> Result<(), Failed>
-    ensures writes { Writes (refusal_line refusal.now) (E.written err.old) (E.written err.new) (E.faults err.old)
+fn say_refusal<E: Sink>(refusal: &Refusal, corners: usize, err: &mut E) -> Result<(), Failed>
+    ensures writes { Writes (refusal_line corners refusal.now) (E.written err.old) (E.written err.new) (E.faults err.old)
         (E.faults err.new) result }
 {
-    write_3(err, b"gdc: ", refusal.head(), refusal.field())?;
-    say_end(refusal, err)?;
+    write_3(err, b"gdc: ", refusal.head(), refusal.field(corners))?;
+    say_end(refusal, corners, err)?;
     Ok(())
 }
 
-/// Writes the line of an answer, and nothing where the run is done.
-pub fn say<E: Sink>(outcome: &Outcome, err: &mut E) -> Result<(), Failed>
-    ensures writes { Writes (line_of outcome.now) (E.written err.old) (E.written err.new) (E.faults err.old) (E.faults err.new) result }
+/// Writes the line of an answer of a run with so many corners, and nothing where the run is done.
+pub fn say<E: Sink>(outcome: &Outcome, corners: usize, err: &mut E) -> Result<(), Failed>
+    ensures writes { Writes (line_of corners outcome.now) (E.written err.old) (E.written err.new) (E.faults err.old)
+        (E.faults err.new) result }
 {
     match outcome {
         Outcome::Done => Ok(()),
-        Outcome::Refused(refusal) => say_refusal(refusal, err),
+        Outcome::Refused(refusal) => say_refusal(refusal, corners, err),
         Outcome::Usage(fault) => say_usage(fault, err),
         Outcome::ReadFault(key) => write_3(err, b"gdc: read fault ", key.word(), b"\n"),
         Outcome::WriteFault => write_2(err, b"gdc: write fault", b"\n"),

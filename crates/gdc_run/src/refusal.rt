@@ -1,7 +1,7 @@
 //! The refusals of the program: what is wrong with an input that was read.
 ghost use Rattle.std.specs.Prelude.{◌≡◌};
 ghost use Rattle.std.specs.Option.{option_copied};
-ghost use Rattle.gdc_run.specs.RefusalText.{key_text, edge_text, part_text, limit_head, limit_field, number_text, index_text, head_text, field_text, token_in, node_in};
+ghost use Rattle.gdc_run.specs.RefusalText.{key_text, edge_text, part_text, limit_head, limit_field, number_text, index_text, head_text, corner_text, field_text, token_in, node_in};
 
 use edge_io::Text;
 use liberty_groups::Cause;
@@ -233,6 +233,21 @@ impl IndexKind {
     }
 }
 
+/// How a corner of a run is printed: `only` where the run has one, and else as the member of a triple that counts at it.
+pub fn corner_text(corners: usize, corner: usize) -> &'static [u8]
+    ensures { result.now ≡ corner_text corners corner }
+{
+    if corners == 1 {
+        b"only"
+    } else if corner == 0 {
+        b"min"
+    } else if corner == 1 {
+        b"typ"
+    } else {
+        b"max"
+    }
+}
+
 impl Refusal {
     /// The line's first words, up to the field.
     pub fn head(&self) -> &'static [u8]
@@ -258,12 +273,12 @@ impl Refusal {
         }
     }
 
-    /// What the line names first: a word, a kind, a file's key, or a net.
-    pub fn field(&self) -> &[u8]
-        ensures { result.now ≡ field_text self.now }
+    /// What the line names first in a run with so many corners: a corner, a word, a kind, a file's key, or a net.
+    pub fn field(&self, corners: usize) -> &[u8]
+        ensures { result.now ≡ field_text corners self.now }
     {
         match self {
-            Refusal::LibrarySyntax { .. } => b"only",
+            Refusal::LibrarySyntax { corner, .. } => corner_text(corners, *corner),
             Refusal::SpefSyntax { .. } => b"",
             Refusal::SpefForm { word, .. } => word.bytes(),
             Refusal::UnknownCell { cell, .. } => cell.bytes(),

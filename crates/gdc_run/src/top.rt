@@ -18,6 +18,7 @@ use crate::outcome::Outcome;
 use crate::output::{Output, write_output};
 use crate::performing::perform;
 use crate::refusal::{FileKey, Refusal};
+use corner_set::{CornerSet, Single};
 use edge_io::{Failed, Shelf, Sink, Steps};
 use gdc_words::{UsageFault, Words, WordsEnd, read_words};
 use std::alloc::Global;
@@ -156,8 +157,8 @@ pub fn run<H: Shelf, O: Sink, E: Sink, L: Ledger>(
     // The verdict is one.
     ensures one_verdict { OneVerdict }
 
-    // The answer's line stands behind what `err` held.
-    ensures said { Says result (E.written err.old) (E.written err.new) (E.faults err.old) (E.faults err.new) }
+    // The answer's line stands behind what `err` held. Each command has one corner.
+    ensures said { Says 1 result (E.written err.old) (E.written err.new) (E.faults err.old) (E.faults err.new) }
 
     // No more steps than 16 for each resistor, capacitance to ground and connection of the sections that were read, and none
     // before the first of them.
@@ -168,6 +169,6 @@ pub fn run<H: Shelf, O: Sink, E: Sink, L: Ledger>(
     one_verdict();
     let outcome = answer(alloc, words, shelf, out, steps);
     // The answer stays where its line could not be written.
-    let _ = say(&outcome, err);
+    let _ = say(&outcome, Single::COUNT, err);
     outcome
 }

@@ -12,7 +12,8 @@ pub returns-in_err-say_edge-in-Outside : goal.returns-in_err-say_edge-in-Outside
 returns-in_err-say_edge-in-Outside g c =
     let p = err_from_is_err_and c.from_residual-in_err-say_edge-in-Outside.result c.from_residual-in_err-say_edge-in-Outside.ensures.1 in
     rw (c.in-Outside.is, p.1) record {
-      writes = writes_then _ _ (rw (c.bytes.ensures, c.bytes-in-Outside.ensures) at c.in_ok-say_pins-in-Outside.ensures.writes) (writes_cut _ _ c.in_err-say_edge-in-Outside.ensures.writes);
+      writes = writes_then _ _ (rw (c.bytes.ensures, c.bytes-in-Outside.ensures) at c.in_ok-say_pins-in-Outside.ensures.writes)
+          (writes_cut _ _ (rw (c.corner_text-in-Outside.ensures) at c.in_err-say_edge-in-Outside.ensures.writes));
     }
 
 pub returns-in_err-say_value-in-Outside : goal.returns-in_err-say_value-in-Outside
@@ -20,5 +21,5 @@ returns-in_err-say_value-in-Outside g c =
     let p = err_from_is_err_and c.from_residual-in_err-say_value-in-Outside.result c.from_residual-in_err-say_value-in-Outside.ensures.1 in
     rw (c.in-Outside.is, p.1) record {
       writes = writes_then _ _ (rw (c.bytes.ensures, c.bytes-in-Outside.ensures) at c.in_ok-say_pins-in-Outside.ensures.writes)
-          (writes_then _ _ c.in_ok-say_edge-in-Outside.ensures.writes c.in_err-say_value-in-Outside.ensures.writes);
+          (writes_then _ _ (rw (c.corner_text-in-Outside.ensures) at c.in_ok-say_edge-in-Outside.ensures.writes) c.in_err-say_value-in-Outside.ensures.writes);
     }
