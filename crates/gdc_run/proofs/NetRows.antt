@@ -15,27 +15,11 @@ use Rattle.rc_tree.specs.Nodes.{Node, node_of}
 use Rattle.rc_tree.specs.Pins.{Pins}
 use Rattle.rc_tree.specs.SectionNets.{net_elements, on_net, sink_node}
 use Rattle.rc_tree.specs.Builds.{IsTreeOf}
-use Rattle.rc_tree.specs.SectionNets.{AreListed, IsFirstStrange}
-use Rattle.rc_tree.specs.Pins.{pin_nodes}
 use Rattle.gdc_run.specs.AnnotationRows.{Wire, IsWireDelay, IsAnnotationRow, AreAnnotationRows}
 use Rattle.rc_tree.specs.ListedPins.{without, conn_name, listed_pins}
 use Rattle.gdc_run.specs.WireNets.{HasDriver, wires_of, is_tree}
 use Rattle.gdc_run.specs.NetRows.{IsTreeRow, AddsRows, AddsNetRows}
-use Rattle.verdict_phases.specs.declared.ends.NoFileEnd.{NoFileEnd}
-use Rattle.gdc_run.specs.declared.refusal.Refusal.{Refusal}
 use Rattle.gdc_run.proofs.Places.{some_is, within, index_is, map_get, zipped}
-
-abbrev pub failed : NoFileEnd Refusal → Result (Unit {0}) (NoFileEnd Refusal)
-failed end = Err end
-
--- a connection that is no pin is none where all are pins
-pub none_strange : (net : NetElements) (pins : Pins) (name : NodeName) → AreListed net (pin_nodes pins) → IsFirstStrange net (pin_nodes pins) name → ⊥
-none_strange net pins name listed strange =
-    let here = listed strange.place strange.conn (within net.conns strange.place strange.conn strange.here) in
-    let is : slice_index_or net.conns strange.place strange.conn ≡ strange.conn = index_is net.conns strange.place strange.conn strange.conn strange.here in
-    let stands : slice_get net.nodes strange.conn.node ≡ Some here.0 = subst (λ (c : Listed). slice_get net.nodes c.node ≡ Some here.0) is here.1 in
-    let same : here.0 ≡ name = some_is here.0 name (sym stands ∙ strange.named) in
-    strange.strange (subst (λ n. Contains (pin_nodes pins) (node_of n)) same here.2)
 
 -- the delay of a wire's row, once it is alone in it
 sole_delay : (wire : Wire) (net : ElementsOf Node) (times : List Femto) (time : Femto) → wire.corners ≡ net ∷ [] → times ≡ time ∷ [] → IsWireDelay wire.at net time → AllZip (IsWireDelay wire.at) wire.corners times
@@ -63,7 +47,7 @@ pub net_rows_added : (net : NetElements) (driver : ℕ) (arena : Arena) (old new
 net_rows_added net driver arena old new sole tree added = record {
   rows = added.rows;
   is = added.is;
-  given = is_tree driver added.rows sole tree.fit (tree.tree 0 (omega arith)) annotated;
+  given = is_tree driver added.rows sole tree.fit tree.tree annotated;
 }
   where
     pins : Pins
@@ -72,7 +56,7 @@ net_rows_added net driver arena old new sole tree added = record {
     wire_to : NodeName → Wire
     wire_to sink = record { driver = pins.driver; sink = sink; at = on_net net pins (node_of sink); corners = net_elements 1 net pins 0 ∷ [] }
 
-    annotated : AreAnnotationRows (wires_of net pins) added.rows
+    annotated : AreAnnotationRows (wires_of 1 net pins) added.rows
     annotated = zipped IsAnnotationRow (map wire_to pins.sinks) added.rows (length-map pins.sinks wire_to ∙ sym added.counted)
         (λ k wire row at stands.
         let sink = map_get wire_to pins.sinks k wire at in

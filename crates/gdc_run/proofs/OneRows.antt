@@ -193,7 +193,7 @@ module _ (net : NetElements) (whole : AreWhole 1 net) (driver : ℕ) (has : HasD
   shape : (node : Node) → IsUnreached (net_elements 1 net pins 0) node → IsMesh (net_elements 1 net pins 0) → ⊥
   shape = (one_shape (net_elements 1 net pins 0)).2
 
-  one_no_tree : (one other : Refusal) → IsNoTree net pins one → IsNoTree net pins other → SameRefusal one other
+  one_no_tree : (one other : Refusal) → IsNoTree 1 net pins one → IsNoTree 1 net pins other → SameRefusal one other
   one_no_tree one other (too_large a) (too_large b) = inl refl
   one_no_tree one other (too_large a) (unreached node b) = absurd (b.0.1 a.1)
   one_no_tree one other (too_large a) (mesh place b) = absurd (b.0.1 a.1)
@@ -205,7 +205,7 @@ module _ (net : NetElements) (whole : AreWhole 1 net) (driver : ℕ) (has : HasD
   one_no_tree one other (mesh place b) (unreached node a) = absurd (shape (node_of node) (a.2 0 (omega arith)) (b.2 0 (omega arith)).0)
   one_no_tree one other (mesh place a) (mesh more b) = inr (record { net = net.net; first = place; second = more; one_is = refl; other_is = refl })
 
-  no_tree_beside : (refusal : Refusal) → IsNoTree net pins refusal → IsFit net pins → IsTree (net_elements 1 net pins 0) → ⊥
+  no_tree_beside : (refusal : Refusal) → IsNoTree 1 net pins refusal → IsFit net pins → IsTree (net_elements 1 net pins 0) → ⊥
   no_tree_beside refusal (too_large a) fit tree = fit.1 a.1
   no_tree_beside refusal (unreached node a) fit tree = (one_shape (net_elements 1 net pins 0)).1 (node_of node) (a.2 0 (omega arith)) tree
   no_tree_beside refusal (mesh place a) fit tree = (one_shape (net_elements 1 net pins 0)).0 tree (a.2 0 (omega arith)).0
@@ -224,7 +224,7 @@ empty_or_some xs x later e f = cc
 one_or_more : {X : Type 0} (xs : List X) (x y z : X) (later : List X) → xs ≡ x ∷ [] → xs ≡ y ∷ z ∷ later → ⊥
 one_or_more xs x y z later e f = cc
 
-pub one_net_answer : (net : NetElements) → AreWhole 1 net → (one other : Result (List WireRow) Refusal) → NetGives net one → NetGives net other → SameAnswer one other
+pub one_net_answer : (net : NetElements) → AreWhole 1 net → (one other : Result (List WireRow) Refusal) → NetGives 1 net one → NetGives 1 net other → SameAnswer one other
 one_net_answer net whole one other (no_driver e) (no_driver f) = inl refl
 one_net_answer net whole one other (no_driver e) (many_drivers x y more f) = absurd (empty_or_some (filter drives net.conns) x (y ∷ more) e f)
 one_net_answer net whole one other (no_driver e) (no_tree driver refusal has not) = absurd (empty_or_some (filter drives net.conns) has.driver [] e has.sole)
@@ -236,20 +236,20 @@ one_net_answer net whole one other (many_drivers x y more f) (is_tree driver row
 one_net_answer net whole one other (no_tree driver refusal has not) (no_driver e) = absurd (empty_or_some (filter drives net.conns) has.driver [] e has.sole)
 one_net_answer net whole one other (no_tree driver refusal has not) (many_drivers x y more f) = absurd (one_or_more (filter drives net.conns) has.driver x y more has.sole f)
 one_net_answer net whole one other (no_tree driver refusal has not) (no_tree place its holds never) =
-    one_no_tree net whole driver has refusal its not (subst (λ (p : ℕ). IsNoTree net (listed_pins 1 net p) its) (one_driver net place driver holds has) never)
+    one_no_tree net whole driver has refusal its not (subst (λ (p : ℕ). IsNoTree 1 net (listed_pins 1 net p) its) (one_driver net place driver holds has) never)
 one_net_answer net whole one other (no_tree driver refusal has not) (is_tree place rows holds fit tree are) =
     absurd (no_tree_beside net whole driver has refusal not
     (subst (λ (p : ℕ). IsFit net (listed_pins 1 net p)) (one_driver net place driver holds has) fit)
-    (subst (λ (p : ℕ). IsTree (net_elements 1 net (listed_pins 1 net p) 0)) (one_driver net place driver holds has) tree))
+    (subst (λ (p : ℕ). IsTree (net_elements 1 net (listed_pins 1 net p) 0)) (one_driver net place driver holds has) (tree 0 (omega arith))))
 one_net_answer net whole one other (is_tree driver rows has fit tree are) (no_driver e) = absurd (empty_or_some (filter drives net.conns) has.driver [] e has.sole)
 one_net_answer net whole one other (is_tree driver rows has fit tree are) (many_drivers x y more f) = absurd (one_or_more (filter drives net.conns) has.driver x y more has.sole f)
 one_net_answer net whole one other (is_tree place rows holds fit tree are) (no_tree driver refusal has not) =
     absurd (no_tree_beside net whole driver has refusal not
     (subst (λ (p : ℕ). IsFit net (listed_pins 1 net p)) (one_driver net place driver holds has) fit)
-    (subst (λ (p : ℕ). IsTree (net_elements 1 net (listed_pins 1 net p) 0)) (one_driver net place driver holds has) tree))
+    (subst (λ (p : ℕ). IsTree (net_elements 1 net (listed_pins 1 net p) 0)) (one_driver net place driver holds has) (tree 0 (omega arith))))
 one_net_answer net whole one other (is_tree driver rows has fit tree are) (is_tree place more holds fits trees they) =
-    one_zip IsAnnotationRow one_annotation (wires_of net (listed_pins 1 net driver)) rows more are
-    (subst (λ (p : ℕ). AllZip IsAnnotationRow (wires_of net (listed_pins 1 net p)) more) (one_driver net place driver holds has) they)
+    one_zip IsAnnotationRow one_annotation (wires_of 1 net (listed_pins 1 net driver)) rows more are
+    (subst (λ (p : ℕ). AllZip IsAnnotationRow (wires_of 1 net (listed_pins 1 net p)) more) (one_driver net place driver holds has) they)
 
 -- ---- the nets
 
@@ -257,23 +257,23 @@ one_net_answer net whole one other (is_tree driver rows has fit tree are) (is_tr
 abbrev Answers : List NetElements → Result (List WireRow) Refusal → Type 0
 Answers [] (Ok rows) = rows ≡ []
 Answers [] (Err refusal) = ⊥
-Answers (net ∷ later) (Ok rows) = (first rest : List WireRow) × NetGives net (Ok first) × Answers later (Ok rest) × (rows ≡ first ++ rest)
-Answers (net ∷ later) (Err refusal) = NetGives net (Err refusal) ⊎ ((first : List WireRow) × NetGives net (Ok first) × Answers later (Err refusal))
+Answers (net ∷ later) (Ok rows) = (first rest : List WireRow) × NetGives 1 net (Ok first) × Answers later (Ok rest) × (rows ≡ first ++ rest)
+Answers (net ∷ later) (Err refusal) = NetGives 1 net (Err refusal) ⊎ ((first : List WireRow) × NetGives 1 net (Ok first) × Answers later (Err refusal))
 
-one_more : (nets : List NetElements) (net : NetElements) (rows more : List WireRow) → Answers nets (Ok rows) → NetGives net (Ok more) → Answers (nets ++ net ∷ []) (Ok (rows ++ more))
+one_more : (nets : List NetElements) (net : NetElements) (rows more : List WireRow) → Answers nets (Ok rows) → NetGives 1 net (Ok more) → Answers (nets ++ net ∷ []) (Ok (rows ++ more))
 one_more [] net rows more are gives = (more, [], gives, refl, ap (λ (l : List WireRow). l ++ more) are ∙ sym (append-nil more))
 one_more (first ∷ nets) net rows more are gives =
     (are.0, are.1 ++ more, are.2, one_more nets net are.1 more are.3 gives, ap (λ (l : List WireRow). l ++ more) are.4 ∙ append_assoc are.0 are.1 more)
 
-one_refused : (nets : List NetElements) (net : NetElements) (later : List NetElements) (rows : List WireRow) (refusal : Refusal) → Answers nets (Ok rows) → NetGives net (Err refusal) → Answers (nets ++ net ∷ later) (Err refusal)
+one_refused : (nets : List NetElements) (net : NetElements) (later : List NetElements) (rows : List WireRow) (refusal : Refusal) → Answers nets (Ok rows) → NetGives 1 net (Err refusal) → Answers (nets ++ net ∷ later) (Err refusal)
 one_refused [] net later rows refusal are refuses = inl refuses
 one_refused (first ∷ nets) net later rows refusal are refuses = inr (are.0, are.2, one_refused nets net later are.1 refusal are.3 refuses)
 
-answers_rows : (nets : List NetElements) (rows : List WireRow) → NetsGive nets (Ok rows) → Answers nets (Ok rows)
+answers_rows : (nets : List NetElements) (rows : List WireRow) → NetsGive 1 nets (Ok rows) → Answers nets (Ok rows)
 answers_rows nets rows no_net = refl
 answers_rows nets rows (and_net {nets = front} {rows = before} {more = more} {net = net} gives one) = one_more front net before more (answers_rows front before gives) one
 
-answers_refusal : (nets : List NetElements) (refusal : Refusal) → NetsGive nets (Err refusal) → Answers nets (Err refusal)
+answers_refusal : (nets : List NetElements) (refusal : Refusal) → NetsGive 1 nets (Err refusal) → Answers nets (Err refusal)
 answers_refusal nets refusal (refused {nets = front} {rows = before} {net = net} later gives refuses) = one_refused front net later before refusal (answers_rows front before gives) refuses
 
 one_answer : (nets : List NetElements) → AllByRecursion (AreWhole 1) nets → (one other : Result (List WireRow) Refusal) → Answers nets one → Answers nets other → SameAnswer one other
@@ -291,7 +291,7 @@ one_answer (net ∷ nets) whole (Err one) (Err other) r s =
     (λ x. ⊎_elim (λ y. absurd (one_net_answer net whole.0 (Ok x.0) (Err other) x.1 y)) (λ y. one_answer nets whole.1 (Err one) (Err other) x.2 y.2) s) r
 
 -- the nets of a design give one answer
-pub one_rows : (design : DesignNets) → All (AreWhole 1) design.nets → (one other : Result SdfRows Refusal) → RowsOf design one → RowsOf design other → SameAnswer one other
+pub one_rows : (design : DesignNets) → All (AreWhole 1) design.nets → (one other : Result SdfRows Refusal) → RowsOf 1 design one → RowsOf 1 design other → SameAnswer one other
 one_rows design whole (Ok one) (Ok other) r s =
     let name : one.design ≡ other.design = r.0 ∙ sym s.0 in
     let wires : one.wires ≡ other.wires = one_answer design.nets all (Ok one.wires) (Ok other.wires) (answers_rows design.nets one.wires r.1) (answers_rows design.nets other.wires s.1) in

@@ -26,7 +26,7 @@ use Rattle.gdc_run.specs.declared.refusal.NumberKind.TheVariants.{BadUnit, BadNu
 use Rattle.gdc_run.specs.declared.refusal.IndexKind.TheVariants.{Unknown, Repeated}
 use Rattle.gdc_run.specs.declared.refusal.Refusal.{Refusal}
 use Rattle.gdc_run.specs.declared.refusal.Refusal.TheVariants.{SpefSyntax, SpefForm, SpefNumber, NameIndex, RepeatedNet, ForeignCoupling}
-use Rattle.gdc_run.specs.SpefPhases.{DesignNets, ParsesSpef, is_spef, no_spef, no_form, HeadsSpef, is_head, bad_unit, repeated_index, NetsSpef, are_nets, unknown_index, bad_number, value_too_large, repeated_net, foreign_coupling}
+use Rattle.gdc_run.specs.SpefPhases.{sole_corner, DesignNets, ParsesSpef, is_spef, no_spef, no_form, HeadsSpef, is_head, bad_unit, repeated_index, NetsSpef, are_nets, unknown_index, bad_number, value_too_large, repeated_net, foreign_coupling}
 use Rattle.gdc_run.specs.Verdict.{ReadsNets, at_grammar, at_head, at_sections, through}
 use Rattle.gdc_run.specs.OneVerdict.{OneReading}
 use Rattle.gdc_run.proofs.Places.{some_is, got_below}
@@ -145,7 +145,7 @@ record HasSectionEnd (file : SpefText) (its : HeadText) (refusal : Refusal) : Ty
   holds : IsSectionEnd file its end
   is : of_section end ≡ Some refusal
 
-section_end : (pick : Pick) (file : SpefText) (its : HeadText) (refusal : Refusal) → NetsSpef pick file its (Err refusal) → HasSectionEnd file its refusal
+section_end : (pick : Pick) (file : SpefText) (its : HeadText) (refusal : Refusal) → NetsSpef (sole_corner pick) file its (Err refusal) → HasSectionEnd file its refusal
 section_end pick file its refusal (unknown_index token is) = record { end = section.UnknownIndex token; holds = is; is = refl }
 section_end pick file its refusal (bad_number token is) = record { end = section.BadNumber token; holds = is; is = refl }
 section_end pick file its refusal (value_too_large token is) = record { end = section.ValueTooLarge token; holds = is; is = refl }
@@ -155,7 +155,7 @@ section_end pick file its refusal (foreign_coupling net token is) = record { end
 no_section_want : (end : SectionEnd) (refusal : Refusal) → of_section end ≡ Some refusal → end ≡ section.OutOfMemory → ⊥
 no_section_want end refusal is want = let none : None ≡ Some refusal = ap of_section (sym want) ∙ is in cc
 
-pub one_section_refusal : (pick : Pick) (file : SpefText) (its : HeadText) (one other : Refusal) → NetsSpef pick file its (Err one) → NetsSpef pick file its (Err other) → one ≡ other
+pub one_section_refusal : (pick : Pick) (file : SpefText) (its : HeadText) (one other : Refusal) → NetsSpef (sole_corner pick) file its (Err one) → NetsSpef (sole_corner pick) file its (Err other) → one ≡ other
 one_section_refusal pick file its one other r s =
     let a = section_end pick file its one r in
     let b = section_end pick file its other s in
@@ -164,7 +164,7 @@ one_section_refusal pick file its one other r s =
     (λ same. some_is one other (sym a.is ∙ ap of_section same ∙ b.is)) rest)
     (sections.one_end file its a.end b.end a.holds b.holds)
 
-pub no_nets_beside : (pick : Pick) (file : SpefText) (its : HeadText) (refusal : Refusal) (nets : List NetElements) → NetsSpef pick file its (Err refusal) → NetsSpef pick file its (Ok nets) → ⊥
+pub no_nets_beside : (pick : Pick) (file : SpefText) (its : HeadText) (refusal : Refusal) (nets : List NetElements) → NetsSpef (sole_corner pick) file its (Err refusal) → NetsSpef (sole_corner pick) file its (Ok nets) → ⊥
 no_nets_beside pick file its refusal nets r (are_nets same faultless are sound) =
     let a = section_end pick file its refusal r in
     no_section_want a.end refusal a.is (sections.no_end file its a.end faultless a.holds)
@@ -195,11 +195,11 @@ module _ (bytes : List ℕ) (one other : SpefText) (r : ParsesSpef bytes (Ok one
     abbrev same_head : second ≡ first
     same_head = one_head_text one second first (moved (Ok second) k) h
 
-    moved_nets : (pick : Pick) (answer : Result (List NetElements) Refusal) → NetsSpef pick other second answer → NetsSpef pick one first answer
-    moved_nets pick answer nets = subst (λ (t : HeadText). NetsSpef pick one t answer) same_head (subst (λ (f : SpefText). NetsSpef pick f second answer) same_file nets)
+    moved_nets : (pick : Pick) (answer : Result (List NetElements) Refusal) → NetsSpef (sole_corner pick) other second answer → NetsSpef (sole_corner pick) one first answer
+    moved_nets pick answer nets = subst (λ (t : HeadText). NetsSpef (sole_corner pick) one t answer) same_head (subst (λ (f : SpefText). NetsSpef (sole_corner pick) f second answer) same_file nets)
 
 -- a file has one refusal
-pub one_file_refusal : (pick : Pick) (bytes : List ℕ) (one other : Refusal) → ReadsNets pick bytes (Err one) → ReadsNets pick bytes (Err other) → one ≡ other
+pub one_file_refusal : (pick : Pick) (bytes : List ℕ) (one other : Refusal) → ReadsNets (sole_corner pick) bytes (Err one) → ReadsNets (sole_corner pick) bytes (Err other) → one ≡ other
 one_file_refusal pick bytes one other (at_grammar f p) (at_grammar g q) = unread_same one other (one_parse bytes (Err one) (Err other) p q)
 one_file_refusal pick bytes one other (at_grammar f p) (at_head file g q h) = absurd (not_both file one (one_parse bytes (Ok file) (Err one) q p))
 one_file_refusal pick bytes one other (at_grammar f p) (at_sections file its g q h n) = absurd (not_both file one (one_parse bytes (Ok file) (Err one) q p))
@@ -212,7 +212,7 @@ one_file_refusal pick bytes one other (at_sections file its f p h n) (at_section
     one_section_refusal pick file its one other n (moved_nets bytes file more p q its second h k pick (Err other) m)
 
 -- and none where it gives nets
-pub no_design_beside : (pick : Pick) (bytes : List ℕ) (refusal : Refusal) (design : DesignNets) → ReadsNets pick bytes (Err refusal) → ReadsNets pick bytes (Ok design) → ⊥
+pub no_design_beside : (pick : Pick) (bytes : List ℕ) (refusal : Refusal) (design : DesignNets) → ReadsNets (sole_corner pick) bytes (Err refusal) → ReadsNets (sole_corner pick) bytes (Ok design) → ⊥
 no_design_beside pick bytes refusal design (at_grammar f p) (through file its nets q h n) = not_both file refusal (one_parse bytes (Ok file) (Err refusal) q p)
 no_design_beside pick bytes refusal design (at_head file f p h) (through more its nets q k n) = no_head_beside file refusal its h (moved bytes file more p q (Ok its) k)
 no_design_beside pick bytes refusal design (at_sections file its f p h n) (through more second nets q k m) =
@@ -225,7 +225,7 @@ nets_of design nets = record { design = design; nets = nets }
 at_place : {X : Type 0} (P : X → Type 0) (xs : List X) (k : ℕ) (x : X) → All P xs → slice_get xs k ≡ Some x → P x
 at_place P xs k x all at = subst P (get_or_from_slice_get xs k x x at) (all k x (slice_get_within xs k x at))
 
-nets_same : (pick : Pick) (file : SpefText) (its : HeadText) (one other : List NetElements) → NetsSpef pick file its (Ok one) → NetsSpef pick file its (Ok other) → one ≡ other
+nets_same : (pick : Pick) (file : SpefText) (its : HeadText) (one other : List NetElements) → NetsSpef (sole_corner pick) file its (Ok one) → NetsSpef (sole_corner pick) file its (Ok other) → one ≡ other
 nets_same pick file its one other (are_nets same faultless r sound) (are_nets more clean s whole) =
     by_places one other (r.count ∙ sym s.count) at
   where
@@ -235,7 +235,7 @@ nets_same pick file its one other (are_nets same faultless r sound) (are_nets mo
         let b = got_below other k (omega (arith, below, r.count, s.count)) in
         a.1 ∙ ap (λ n. Some n) (one_net pick file its (section_at file.reading.sections k) a.0 b.0 (r.each k a.0 a.1) (s.each k b.0 b.1) (at_place (AreWhole 1) one k a.0 sound a.1) (at_place (AreWhole 1) other k b.0 whole b.1)) ∙ sym b.1
 
-pub one_design : (pick : Pick) (bytes : List ℕ) (one other : DesignNets) → ReadsNets pick bytes (Ok one) → ReadsNets pick bytes (Ok other) → one ≡ other
+pub one_design : (pick : Pick) (bytes : List ℕ) (one other : DesignNets) → ReadsNets (sole_corner pick) bytes (Ok one) → ReadsNets (sole_corner pick) bytes (Ok other) → one ≡ other
 one_design pick bytes one other (through file its nets p h n) (through more second others q k m) =
     let head : its ≡ second = sym (same_head bytes file more p q its second h k) in
     ap₂ nets_of (ap (λ (t : HeadText). t.design) head) (nets_same pick file its nets others n (moved_nets bytes file more p q its second h k pick (Ok others) m))

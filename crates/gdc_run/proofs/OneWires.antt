@@ -11,7 +11,7 @@ use Rattle.verdict_phases.specs.Phases.{Stop, RefusedBy, Step, Go, Halt}
 use Rattle.gdc_run.specs.declared.refusal.FileKey.{FileKey}
 use Rattle.gdc_run.specs.declared.refusal.FileKey.TheVariants.{Spef}
 use Rattle.gdc_run.specs.declared.refusal.Refusal.{Refusal}
-use Rattle.gdc_run.specs.SpefPhases.{DesignNets, NetsSpef, are_nets}
+use Rattle.gdc_run.specs.SpefPhases.{sole_corner, DesignNets, NetsSpef, are_nets}
 use Rattle.gdc_run.specs.WireNets.{RowsOf}
 use Rattle.gdc_run.specs.WireRows.{TextGives, unread, of_design}
 use Rattle.gdc_run.specs.Verdict.{ReadsSpef, ReadsNets, through, WiresGives, at_reading, at_spef, at_nets, with_rows}
@@ -20,10 +20,10 @@ use Rattle.gdc_run.proofs.OneSpefFile.{one_file_refusal, no_design_beside, one_d
 use Rattle.gdc_run.proofs.OneRows.{SameAnswer, one_rows}
 use Rattle.gdc_run.proofs.OneText.{stops_alike, reads_or_stops, reads_alike}
 
-whole_nets : (pick : Pick) (file : SpefText) (head : HeadText) (nets : List NetElements) → NetsSpef pick file head (Ok nets) → All (AreWhole 1) nets
+whole_nets : (pick : Pick) (file : SpefText) (head : HeadText) (nets : List NetElements) → NetsSpef (sole_corner pick) file head (Ok nets) → All (AreWhole 1) nets
 whole_nets pick file head nets (are_nets same faultless are whole) = whole
 
-whole_design : (pick : Pick) (bytes : List ℕ) (design : DesignNets) → ReadsNets pick bytes (Ok design) → All (AreWhole 1) design.nets
+whole_design : (pick : Pick) (bytes : List ℕ) (design : DesignNets) → ReadsNets (sole_corner pick) bytes (Ok design) → All (AreWhole 1) design.nets
 whole_design pick bytes design (through file head nets parses heads says) = whole_nets pick file head nets says
 
 -- the text of a file has one answer
@@ -32,7 +32,7 @@ one_text_answer pick bytes one other (unread f r) (unread g s) = inl (one_file_r
 one_text_answer pick bytes one other (unread f r) (of_design design answer s rows) = absurd (no_design_beside pick bytes f design r s)
 one_text_answer pick bytes one other (of_design design answer s rows) (unread f r) = absurd (no_design_beside pick bytes f design r s)
 one_text_answer pick bytes one other (of_design design answer r rows) (of_design more its s others) =
-    one_rows design (whole_design pick bytes design r) answer its rows (subst (λ (d : DesignNets). RowsOf d its) (one_design pick bytes more design s r) others)
+    one_rows design (whole_design pick bytes design r) answer its rows (subst (λ (d : DesignNets). RowsOf 1 d its) (one_design pick bytes more design s r) others)
 
 abbrev step_of : Result SdfRows Refusal → Step Refusal FileKey SdfRows
 step_of (Ok rows) = Go rows

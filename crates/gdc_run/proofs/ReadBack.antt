@@ -28,7 +28,7 @@ use Rattle.verdict_phases.specs.Phases.{Go}
 use Rattle.gdc_run.specs.AnnotationRows.{Wire, IsWireDelay, IsAnnotationRow}
 use Rattle.gdc_run.specs.Outcomes.{OnDone, GivesText, GivesReadable}
 use Rattle.gdc_run.specs.ReadBack.{HasNoComment, IsReadable, IsAlwaysReadable}
-use Rattle.gdc_run.specs.SpefPhases.{DesignNets, ParsesSpef, is_spef, NetsSpef, are_nets}
+use Rattle.gdc_run.specs.SpefPhases.{sole_corner, DesignNets, ParsesSpef, is_spef, NetsSpef, are_nets}
 use Rattle.gdc_run.specs.Verdict.{ReadsNets, through, WiresGives, with_rows, CommandGives}
 use Rattle.gdc_run.specs.WireNets.{HasDriver, NetGives, is_tree, NetsGive, no_net, and_net}
 use Rattle.gdc_run.specs.declared.outcome.Outcome.{Outcome}
@@ -92,13 +92,13 @@ rows_sound driver at net settled small (sink ∷ sinks) [] all are = absurd are
 rows_sound driver at net settled small (sink ∷ sinks) (row ∷ rows) all are =
     (row_sound driver sink (at sink) net row settled all.0 (small (at sink)) are.0, rows_sound driver at net settled small sinks rows all.1 are.1)
 
-net_sound : (net : NetElements) (rows : List WireRow) → IsGoodNet net → NetGives net (Ok rows) → All IsSound rows
+net_sound : (net : NetElements) (rows : List WireRow) → IsGoodNet net → NetGives 1 net (Ok rows) → All IsSound rows
 net_sound net rows good (is_tree driver same has fit tree are) =
     let pins : Pins = listed_pins 1 net driver in
     All-from_recursion IsSound rows
     (rows_sound pins.driver (λ sink. on_net net pins (node_of sink)) (net_elements 1 net pins 0) (driver_settles net good driver has) (delay_within net good.1 driver fit) pins.sinks rows (sinks_settle net good driver has) are)
 
-nets_sound : (nets : List NetElements) (rows : List WireRow) → All IsGoodNet nets → NetsGive nets (Ok rows) → All IsSound rows
+nets_sound : (nets : List NetElements) (rows : List WireRow) → All IsGoodNet nets → NetsGive 1 nets (Ok rows) → All IsSound rows
 nets_sound nets rows good no_net = All-nil IsSound
 nets_sound nets rows good (and_net {nets = front} {rows = before} {more = more} {net = net} gives one) =
     let parts = All-pop IsGoodNet (front ++ net ∷ []) front (Some net) refl good in
@@ -117,10 +117,10 @@ formed_of : (bytes : List ℕ) (file : SpefText) → ParsesSpef bytes (Ok file) 
 formed_of bytes file (is_spef same reads) = reads.formed
 
 module _ (halves : HalvesSettle) (named : NamedSettles) (law : ReadBack IsSettled) (only : OnlyReadBack IsSettled) where
-  section_nets : (pick : Pick) (file : SpefText) (head : HeadText) (nets : List NetElements) → IsFormed file → NetsSpef pick file head (Ok nets) → All IsGoodNet nets
+  section_nets : (pick : Pick) (file : SpefText) (head : HeadText) (nets : List NetElements) → IsFormed file → NetsSpef (sole_corner pick) file head (Ok nets) → All IsGoodNet nets
   section_nets pick file head nets formed (are_nets same faultless are whole) = nets_settle halves named file formed pick head nets are whole
 
-  file_nets : (pick : Pick) (bytes : List ℕ) (design : DesignNets) → ReadsNets pick bytes (Ok design) → All IsGoodNet design.nets
+  file_nets : (pick : Pick) (bytes : List ℕ) (design : DesignNets) → ReadsNets (sole_corner pick) bytes (Ok design) → All IsGoodNet design.nets
   file_nets pick bytes design (through file head nets parses heads says) = section_nets pick file head nets (formed_of bytes file parses) says
 
   wires_readable : (held : Option Held) (pick : Pick) (name : List ℕ) (rows : SdfRows) → WiresGives held pick name (Go rows) → IsReadable (output.Sdf rows)

@@ -1,49 +1,61 @@
 -- The rows of the nets of a file are added one after another.
-use Rattle.std.proofs.Common.{◌≡◌, ℕ, List, [], ◌∷◌, ◌++◌, length, Option, Result, Ok, Err, refl, sym, subst, append_assoc, arith}
-use Rattle.std.proofs.lemmas.Option.{slice_get_within}
-use Rattle.std.specs.Prelude.{All, IsErrAnd}
+use Rattle.std.proofs.Common.{◌≡◌, ℕ, suc, ◌+◌, ◌≤◌, List, [], ◌∷◌, ◌++◌, length, take, drop, Option, Some, Result, Ok, Err, refl, sym, subst, arith}
+use Rattle.std.specs.Prelude.{IsErrAnd, slice_get}
+use Rattle.std.proofs.lemmas.List.{take_all}
 use Rattle.corner_set.specs.declared.pick.Pick.{Pick}
 use Rattle.edge_io.specs.Holding.{Held}
 use Rattle.sdf_writer.specs.SdfText.{SdfRows}
 use Rattle.spef_text.specs.SpefFiles.{SpefText}
 use Rattle.spef_text.specs.Heads.{HeadText}
-use Rattle.spef_nets.specs.NetElements.{NetElements, AreWhole}
-use Rattle.spef_nets.specs.Reading.{Reading, AreFaultlessBefore}
-use Rattle.spef_nets.proofs.ReadingLemmas.{AreRead, all_nets}
+use Rattle.spef_nets.specs.NetElements.{NetElements}
 use Rattle.verdict_phases.specs.Phases.{RefusedBy, Go, Halt, FollowsNoFile}
 use Rattle.verdict_phases.specs.declared.ends.NoFileEnd.{NoFileEnd}
 use Rattle.verdict_phases.specs.declared.ends.NoFileEnd.TheVariants as no_file
 use Rattle.gdc_run.specs.declared.refusal.Refusal.{Refusal}
-use Rattle.gdc_run.specs.NetRows.{OnRefusal}
-use Rattle.gdc_run.specs.SpefPhases.{DesignNets, sole_corner, ParsesSpef, HeadsSpef, NetsSpef, are_nets}
-use Rattle.gdc_run.specs.WireNets.{NetsGive, no_net, and_net, refused, RowsOf}
-use Rattle.gdc_run.specs.WireRows.{AddsNet, refused_before, refused_here, has_rows, SectionsGive, faulty_section, of_nets, TextGives, unread, of_design}
+use Rattle.gdc_run.specs.NetRows.{OnRefusal, AddsNetRows}
+use Rattle.gdc_run.specs.SpefPhases.{DesignNets, ParsesSpef, HeadsSpef}
+use Rattle.gdc_run.specs.WireNets.{NetGives, NetsGive, no_net, and_net, refused, RowsOf}
+use Rattle.gdc_run.specs.WireRows.{SectionsGive, faulty_section, of_nets, TextGives, unread, of_design}
 use Rattle.gdc_run.specs.Verdict.{ReadsSpef, at_sections, through, WiresGives, at_spef, at_nets, with_rows}
-
-abbrev pub failed : NoFileEnd Refusal → Result (Unit {0}) (NoFileEnd Refusal)
-failed end = Err end
-
-abbrev pub refused_by : NoFileEnd Refusal → Result SdfRows (NoFileEnd Refusal)
-refused_by end = Err end
+use Rattle.gdc_run.proofs.Places.{front_more, parts_at}
 
 abbrev pub design_of : List ℕ → List NetElements → DesignNets
 design_of design nets = record { design = design; nets = nets }
 
 -- no net gives no row
-pub no_rows_yet : (design : List ℕ) (answer : Result SdfRows Refusal) → answer ≡ Ok (record { design = design; wires = []; paths = [] }) → RowsOf (record { design = design; nets = [] }) answer
-no_rows_yet design answer is = subst (λ (r : Result SdfRows Refusal). RowsOf (design_of design []) r) (sym is) (refl, no_net, refl)
-
--- a refusal stays when there are more nets
-still_refused : (nets : List NetElements) (refusal : Refusal) (net : NetElements) → NetsGive nets (Err refusal) → NetsGive (nets ++ net ∷ []) (Err refusal)
-still_refused all refusal net (refused {nets} {rows} {net = first} later before refuses) =
-    subst (λ (l : List NetElements). NetsGive l (Err refusal)) (sym (append_assoc nets (first ∷ later) (net ∷ []))) (refused (later ++ net ∷ []) before refuses)
+pub no_rows_yet : (design : List ℕ) (nets : List NetElements) (rows : SdfRows) → rows ≡ record { design = design; wires = []; paths = [] } → RowsOf 1 (design_of design (take 0 nets)) (Ok rows)
+no_rows_yet design nets rows is = subst (λ (r : SdfRows). RowsOf 1 (design_of design []) (Ok r)) (sym is) (refl, no_net, refl)
 
 -- one net more
-pub one_net_more : (design : List ℕ) (nets : List NetElements) (net : NetElements) (old new : Result SdfRows Refusal) → RowsOf (record { design = design; nets = nets }) old → AddsNet net old new
-    → RowsOf (record { design = design; nets = nets ++ net ∷ [] }) new
-one_net_more design nets net old new is (refused_before refusal) = still_refused nets refusal net is
-one_net_more design nets net old new is (refused_here rows refusal refuses) = refused [] is.1 refuses
-one_net_more design nets net old new is (has_rows rows more gives) = (is.0, and_net is.1 gives, is.2)
+pub one_net_more : (design : List ℕ) (nets : List NetElements) (i : ℕ) (net : NetElements) (old new : SdfRows) → slice_get nets i ≡ Some net → RowsOf 1 (design_of design (take i nets)) (Ok old) → AddsNetRows net old new
+    → RowsOf 1 (design_of design (take (i + 1) nets)) (Ok new)
+one_net_more design nets i net old new here front added =
+    subst (λ (l : List NetElements). RowsOf 1 (design_of design l) (Ok new)) (sym (front_more nets i net here))
+    (subst (λ (r : SdfRows). RowsOf 1 (design_of design (take i nets ++ net ∷ [])) (Ok r)) (sym added.is) (front.0, and_net front.1 added.given, front.2))
+
+-- a net is refused behind others that are not
+pub refused_there : (design : List ℕ) (nets : List NetElements) (i : ℕ) (net : NetElements) (rows : SdfRows) (refusal : Refusal) → slice_get nets i ≡ Some net → RowsOf 1 (design_of design (take i nets)) (Ok rows) → NetGives 1 net (Err refusal)
+    → RowsOf 1 (design_of design nets) (Err refusal)
+refused_there design nets i net rows refusal here front refuses =
+    let whole : nets ≡ take i nets ++ net ∷ drop (suc i) nets = parts_at nets i net here in
+    subst (λ (l : List NetElements). NetsGive 1 l (Err refusal)) (sym whole) (refused (drop (suc i) nets) front.1 refuses)
+
+-- the same of the code's answer
+abbrev pub refused_by : NoFileEnd Refusal → Result SdfRows (NoFileEnd Refusal)
+refused_by end = Err end
+
+pub refusal_follows : (design : List ℕ) (nets : List NetElements) (i : ℕ) (net : NetElements) (rows : SdfRows) (result : Result SdfRows (NoFileEnd Refusal)) (end : NoFileEnd Refusal) → slice_get nets i ≡ Some net → RowsOf 1 (design_of design (take i nets)) (Ok rows)
+    → IsErrAnd result (λ other. other ≡ end) → OnRefusal {A = Unit {0}} (Err end) (λ refusal. NetGives 1 net (Err refusal)) → FollowsNoFile (RowsOf 1 (design_of design nets)) result
+refusal_follows design nets i net rows (Ok value) end here front is refuses = absurd is
+refusal_follows design nets i net rows (Err other) end here front is refuses = subst (λ (e : NoFileEnd Refusal). FollowsNoFile (RowsOf 1 (design_of design nets)) (refused_by e)) (sym is) (by end refuses)
+  where
+    by : (end : NoFileEnd Refusal) → OnRefusal {A = Unit {0}} (Err end) (λ refusal. NetGives 1 net (Err refusal)) → FollowsNoFile (RowsOf 1 (design_of design nets)) (refused_by end)
+    by (no_file.Refused refusal) refuses = refused_there design nets i net rows refusal here front refuses
+    by no_file.OutOfMemory refuses = tt
+
+-- the rows of all nets
+pub all_nets_added : (design : List ℕ) (nets : List NetElements) (i : ℕ) (rows : SdfRows) → length nets ≤ i → RowsOf 1 (design_of design (take i nets)) (Ok rows) → RowsOf 1 (design_of design nets) (Ok rows)
+all_nets_added design nets i rows all front = subst (λ (l : List NetElements). RowsOf 1 (design_of design l) (Ok rows)) (take_all i nets all) front
 
 -- the rows of the nets are those of the text, as far as it is one
 pub text_gives : (pick : Pick) (bytes : List ℕ) (file : SpefText) (head : HeadText) (answer : Result SdfRows Refusal) → ParsesSpef bytes (Ok file) → HeadsSpef file (Ok head) → SectionsGive pick file head answer → TextGives pick bytes answer
@@ -56,21 +68,3 @@ text_refused held pick name bytes refusal reads (of_design design answer parsed 
 
 pub text_rows : (held : Option Held) (pick : Pick) (name bytes : List ℕ) (rows : SdfRows) → ReadsSpef held name (Go bytes) → TextGives pick bytes (Ok rows) → WiresGives held pick name (Go rows)
 text_rows held pick name bytes rows reads (of_design design answer parsed gives) = with_rows bytes design rows reads parsed gives
-
--- all sections were read
-pub all_nets_added : (pick : Pick) (file : SpefText) (head : HeadText) (reading : Reading) (nets : List NetElements) (many : ℕ) (answer : Result SdfRows Refusal) → AreRead sole_corner file head pick reading nets many
-    → many ≡ length file.reading.sections → AreFaultlessBefore file head many → All (AreWhole 1) nets → RowsOf (record { design = head.design; nets = nets }) answer → SectionsGive pick file head answer
-all_nets_added pick file head reading nets many answer read whole good sound rows =
-    of_nets nets answer (are_nets nets (λ place section at. good place section (omega (arith, slice_get_within file.reading.sections place section at, whole)) at) (all_nets sole_corner file head pick reading nets many read whole) sound) rows
-
--- a section was refused
-pub section_refused : (pick : Pick) (file : SpefText) (head : HeadText) (reading : Reading) (nets : List NetElements) (many : ℕ) (end : NoFileEnd Refusal) → AreRead sole_corner file head pick reading nets many
-    → OnRefusal (failed end) (λ refusal. NetsSpef reading.pick reading.file reading.head (Err refusal)) → FollowsNoFile (SectionsGive pick file head) (refused_by end)
-section_refused pick file head reading nets many (no_file.Refused refusal) read faulty =
-    faulty_section refusal (subst (λ (r : Reading). NetsSpef r.pick r.file r.head (Err refusal)) read.is faulty)
-section_refused pick file head reading nets many no_file.OutOfMemory read faulty = tt
-
--- want of memory says nothing of a phase
-pub want_of_memory : (phase : Result SdfRows Refusal → Type 0) (r : Result SdfRows (NoFileEnd Refusal)) → IsErrAnd r (λ e. e ≡ no_file.OutOfMemory) → FollowsNoFile phase r
-want_of_memory phase (Ok rows) is = absurd is
-want_of_memory phase (Err end) is = subst (λ (e : NoFileEnd Refusal). FollowsNoFile phase (refused_by e)) (sym is) tt

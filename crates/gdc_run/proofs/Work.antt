@@ -1,103 +1,72 @@
--- The work of a run, section after section.
-use Rattle.std.proofs.Common.{◌≡◌, ℕ, ◌+◌, ◌*◌, ◌<◌, ◌≤◌, ◌⊎◌, inl, inr, List, [], ◌∷◌, ◌++◌, length, Ok, Err, refl, sym, ◌∙◌, ap, subst, arith}
-use Rattle.std.specs.Prelude.{IsTrue, slice_get, Option}
-use Rattle.std.proofs.lemmas.Bool.{cases_eq}
-use Rattle.std.proofs.lemmas.List.Sums.{sum_by_push}
+-- The work of a run.
+use Rattle.std.proofs.Common.{◌≡◌, ℕ, ◌+◌, ◌*◌, ◌≤◌, List, [], ◌∷◌, ◌++◌, length, take, drop, Ok, Err, refl, sym, ◌∙◌, ap, arith}
+use Rattle.std.specs.Prelude.{IsTrue, slice_get, Option, Some, Result}
+use Rattle.std.proofs.lemmas.List.{take-append-drop}
+use Rattle.std.proofs.lemmas.List.Sums.{sum_by_push, sum_by-append}
 use Rattle.corner_set.specs.declared.pick.Pick.{Pick}
 use Rattle.edge_io.specs.Holding.{Held}
-use Rattle.spef_text.specs.Entries.{Section, section_at}
 use Rattle.spef_text.specs.SpefFiles.{SpefText}
 use Rattle.spef_text.specs.Heads.{HeadText}
 use Rattle.spef_nets.specs.NetElements.{NetElements}
-use Rattle.spef_nets.specs.Faults.{IsFaultless}
-use Rattle.spef_nets.specs.Reading.{Reading, AreFaultlessBefore, next_section}
-use Rattle.spef_nets.proofs.ReadingLemmas.{AreRead, its_place, section_stands}
-use Rattle.verdict_phases.specs.Phases.{Go}
+use Rattle.sdf_writer.specs.SdfText.{SdfRows}
+use Rattle.verdict_phases.specs.Phases.{Go, FollowsNoFile}
+use Rattle.verdict_phases.specs.declared.ends.NoFileEnd.{NoFileEnd}
+use Rattle.verdict_phases.specs.declared.ends.NoFileEnd.TheVariants as no_file
 use Rattle.gdc_words.specs.declared.commands.Command.{Command}
 use Rattle.gdc_words.specs.declared.commands.Command.TheVariants.{Wires, Show, Lookup, Help, Version}
 use Rattle.gdc_words.specs.CommandLine.{Request, Asks}
 use Rattle.gdc_run.specs.declared.refusal.Refusal.{Refusal}
-use Rattle.gdc_run.specs.SpefPhases.{sole_corner, ParsesSpef, HeadsSpef, NetsSpef, unknown_index, bad_number, value_too_large, repeated_net, foreign_coupling}
-use Rattle.gdc_run.specs.WireNets.{too_large, unreached, mesh, NetGives, no_driver, many_drivers, no_tree, NetsGive, refused}
-use Rattle.gdc_run.specs.WireRows.{SectionsGive, faulty_section, of_nets}
-use Rattle.gdc_run.specs.NetRows.{most_steps}
+use Rattle.gdc_run.specs.SpefPhases.{sole_corner, DesignNets, ParsesSpef, HeadsSpef, NetsSpef}
+use Rattle.gdc_run.specs.WireNets.{too_large, unreached, mesh, NetGives, no_driver, many_drivers, no_tree, NetsGive, refused, RowsOf}
+use Rattle.gdc_run.specs.NetRows.{most_steps, OnRefusal}
 use Rattle.liberty_groups.specs.Groups.{Group}
 use Rattle.cell_models.specs.Cells.{TimedCell}
 use Rattle.gdc_run.specs.ArcRows.{arc_edges}
 use Rattle.gdc_run.specs.LibraryPhases.{ParsesLibrary, ModelsCell}
 use Rattle.gdc_run.specs.Verdict.{ReadsSpef, ReadsLib}
-use Rattle.gdc_run.specs.Work.{total_steps, SectionsWork, of_sections, TextWork, no_head, of_head, WiresWork, no_file, of_file, CellWork, no_model_yet, of_model, LookupWork, no_library, of_library, CommandWork, WordsWork, no_words, of_words, IsWithin, is_early}
-use Rattle.gdc_run.proofs.Places.{some_is}
+use Rattle.gdc_run.specs.Work.{total_steps, SectionsWork, no_sections, of_sections, TextWork, no_head, of_head, WiresWork, no_file, of_file, CellWork, no_model_yet, of_model, LookupWork, no_library, of_library, CommandWork, WordsWork, no_words, of_words, IsWithin, is_early}
+use Rattle.gdc_run.proofs.Places.{front_more}
 
--- one section more has no fault
-pub faultless_more : (pick : Pick) (file : SpefText) (head : HeadText) (reading : Reading) (nets : List NetElements) (many : ℕ) → AreRead sole_corner file head pick reading nets many → many < length file.reading.sections
-    → AreFaultlessBefore file head many → IsFaultless reading.file reading.head (length reading.nets) (next_section reading) → AreFaultlessBefore file head (many + 1)
-faultless_more pick file head reading nets many read left before good other its less there = by (cases_eq other many)
-  where
-    at_file : IsFaultless file head (length reading.nets) (section_at file.reading.sections (length reading.nets))
-    at_file = subst (λ (r : Reading). IsFaultless r.file r.head (length reading.nets) (section_at r.file.reading.sections (length reading.nets))) read.is good
+-- no section is read without a fault yet, or all are, and the work is that of their nets
+pub no_sections_work : (pick : Pick) (file : SpefText) (head : HeadText) (steps : ℕ) → IsWithin (SectionsWork pick file head) steps steps
+no_sections_work pick file head steps = record { work = 0; given = no_sections; bound = omega arith }
 
-    here : IsFaultless file head many (section_at file.reading.sections many)
-    here = subst (λ (n : ℕ). IsFaultless file head n (section_at file.reading.sections n)) (its_place sole_corner file head pick reading nets many read) at_file
-
-    by : (other ≡ many) ⊎ (other ≡ many → ⊥) → IsFaultless file head other its
-    by (inl same) =
-        let equal : section_at file.reading.sections many ≡ its = some_is (section_at file.reading.sections many) its
-        (sym (section_stands file.reading.sections many left) ∙ ap (slice_get file.reading.sections) (sym same) ∙ there) in
-        subst (λ (s : Section). IsFaultless file head other s) equal (subst (λ (n : ℕ). IsFaultless file head n (section_at file.reading.sections many)) (sym same) here)
-    by (inr differ) = before other its (omega (arith, less, differ)) there
-
--- the nets that were read are those of the first sections
-pub front_read : (pick : Pick) (file : SpefText) (head : HeadText) (reading : Reading) (nets : List NetElements) (many before after : ℕ) → AreRead sole_corner file head pick reading nets many → many ≤ length file.reading.sections
-    → AreFaultlessBefore file head many → after ≤ before + total_steps nets → IsWithin (SectionsWork pick file head) before after
-front_read pick file head reading nets many before after read few faultless bound = record {
-  work = total_steps nets;
-  given = of_sections nets (record {
-    few = subst (λ (n : ℕ). n ≤ length file.reading.sections) (sym read.count) few;
-    each = read.each;
-    faultless = subst (AreFaultlessBefore file head) (sym read.count) faultless;
-  });
-  bound = bound;
-}
-
--- no section was read
-pub of_no_section : (file : SpefText) (head : HeadText) → AreFaultlessBefore file head 0
-of_no_section file head other section below at = absurd (omega (arith, below))
-
-pub none_read : (pick : Pick) (file : SpefText) (head : HeadText) (steps : ℕ) → IsWithin (SectionsWork pick file head) steps steps
-none_read pick file head steps = record {
-  work = 0;
-  given = of_sections [] (record { few = omega arith; each = λ place net at. absurd (cc); faultless = of_no_section file head });
-  bound = omega arith;
-}
+pub sections_work : (pick : Pick) (file : SpefText) (head : HeadText) (nets : List NetElements) (before after : ℕ) → NetsSpef (sole_corner pick) file head (Ok nets) → after ≤ before + total_steps 1 nets → IsWithin (SectionsWork pick file head) before after
+sections_work pick file head nets before after reads bound = record { work = total_steps 1 nets; given = of_sections nets reads; bound = bound }
 
 -- the steps of one net more
-pub steps_more : (nets : List NetElements) (net : NetElements) (before middle after : ℕ) → middle ≤ before + total_steps nets → after ≤ middle + most_steps net → after ≤ before + total_steps (nets ++ net ∷ [])
-steps_more nets net before middle after front more =
-    let total : total_steps (nets ++ net ∷ []) ≡ total_steps nets + most_steps net = sum_by_push most_steps nets net in
+pub steps_more : (nets : List NetElements) (i : ℕ) (net : NetElements) (before middle after : ℕ) → slice_get nets i ≡ Some net → middle ≤ before + total_steps 1 (take i nets) → after ≤ middle + most_steps 1 net → after ≤ before + total_steps 1 (take (i + 1) nets)
+steps_more nets i net before middle after here front more =
+    let taken : take (i + 1) nets ≡ take i nets ++ net ∷ [] = front_more nets i net here in
+    let total : total_steps 1 (take (i + 1) nets) ≡ total_steps 1 (take i nets) + most_steps 1 net = ap (total_steps 1) taken ∙ sum_by_push (most_steps 1) (take i nets) net in
     omega (arith, front, more, total)
 
--- a refusal of a section, or of a net, is none that comes before a section is read
-section_late : (pick : Pick) (file : SpefText) (head : HeadText) (refusal : Refusal) → NetsSpef pick file head (Err refusal) → IsTrue (is_early refusal) → ⊥
-section_late pick file head refusal (unknown_index token is) early = cc
-section_late pick file head refusal (bad_number token is) early = cc
-section_late pick file head refusal (value_too_large token is) early = cc
-section_late pick file head refusal (repeated_net net token is) early = cc
-section_late pick file head refusal (foreign_coupling net token is) early = cc
+-- the steps of the first nets are no more than those of all
+pub front_steps : (nets : List NetElements) (i : ℕ) → total_steps 1 (take i nets) ≤ total_steps 1 nets
+front_steps nets i =
+    let parts : total_steps 1 nets ≡ total_steps 1 (take i nets) + total_steps 1 (drop i nets) = ap (total_steps 1) (sym (take-append-drop i nets)) ∙ sum_by-append (most_steps 1) (take i nets) (drop i nets) in
+    omega (arith, parts)
 
-net_late : (net : NetElements) (refusal : Refusal) → NetGives net (Err refusal) → IsTrue (is_early refusal) → ⊥
+-- a refusal of a net is none that comes before a tree is built
+net_late : (net : NetElements) (refusal : Refusal) → NetGives 1 net (Err refusal) → IsTrue (is_early refusal) → ⊥
 net_late net refusal (no_driver is) early = cc
 net_late net refusal (many_drivers one other others is) early = cc
 net_late net refusal (no_tree driver same sole (too_large is)) early = cc
 net_late net refusal (no_tree driver same sole (unreached node is)) early = cc
 net_late net refusal (no_tree driver same sole (mesh resistor is)) early = cc
 
-nets_late : (nets : List NetElements) (refusal : Refusal) → NetsGive nets (Err refusal) → IsTrue (is_early refusal) → ⊥
-nets_late all refusal (refused {nets} {rows} {net} later before refuses) early = net_late net refusal refuses early
+pub nets_late : (design : DesignNets) (refusal : Refusal) → RowsOf 1 design (Err refusal) → IsTrue (is_early refusal) → ⊥
+nets_late design refusal gives early = by design.nets gives
+  where
+    by : (nets : List NetElements) → NetsGive 1 nets (Err refusal) → ⊥
+    by all (refused {nets} {rows} {net} later before refuses) = net_late net refusal refuses early
 
-pub rows_late : (pick : Pick) (file : SpefText) (head : HeadText) (refusal : Refusal) → SectionsGive pick file head (Err refusal) → IsTrue (is_early refusal) → ⊥
-rows_late pick file head refusal (faulty_section same faulty) early = section_late pick file head refusal faulty early
-rows_late pick file head refusal (of_nets nets answer reads gives) early = nets_late nets refusal gives early
+-- so no step is asked of such a refusal where the nets gave the answer
+pub late_refusal : (design : DesignNets) (before after : ℕ) (result : Result SdfRows (NoFileEnd Refusal)) → FollowsNoFile (RowsOf 1 design) result
+    → OnRefusal result (λ refusal. IsTrue (is_early refusal) → after ≡ before)
+late_refusal design before after (Ok rows) follows = tt
+late_refusal design before after (Err (no_file.Refused refusal)) follows = λ early. absurd (nets_late design refusal follows early)
+late_refusal design before after (Err no_file.OutOfMemory) follows = tt
 
 -- the work of the sections is that of the text, and the work of the text that of the file
 pub no_text_work : (pick : Pick) (bytes : List ℕ) (steps : ℕ) → IsWithin (TextWork pick bytes) steps steps

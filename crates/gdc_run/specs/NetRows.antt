@@ -14,9 +14,10 @@ use Rattle.verdict_phases.specs.declared.ends.NoFileEnd.TheVariants as no_file
 use Rattle.gdc_run.specs.declared.refusal.Refusal.{Refusal}
 use Rattle.gdc_run.specs.WireNets.{NetGives}
 
--- the most steps that a net takes at one corner: 16 for each of its resistors, of its capacitances to ground and of its connections
-abbrev pub most_steps : NetElements → ℕ
-most_steps net = 16 * (length net.joints + length net.caps + length net.conns)
+-- the most steps that a net takes at so many corners: 16 at each for each of its resistors, of its capacitances to ground and of its
+-- connections
+abbrev pub most_steps : ℕ → NetElements → ℕ
+most_steps count net = 16 * count * (length net.joints + length net.caps + length net.conns)
 
 -- the delay of each node of a tree stands at its place
 abbrev pub HasDelays : Arena → List ℕ → Type 0
@@ -58,7 +59,7 @@ pub record AddsRows (pins : Pins) (arena : Arena) (count : ℕ) (old new : SdfRo
 pub record AddsNetRows (net : NetElements) (old new : SdfRows) : Type 0 where
   pub rows : List WireRow
   pub is : new ≡ with_rows old rows
-  pub given : NetGives net (Ok rows)
+  pub given : NetGives 1 net (Ok rows)
 
 -- a fact of a refusal; want of memory says nothing
 abbrev pub OnRefusal : {A : Type 0} → Result A (NoFileEnd Refusal) → (Refusal → Type 0) → Type 0

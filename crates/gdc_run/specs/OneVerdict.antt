@@ -6,7 +6,7 @@ use Rattle.gdc_run.specs.declared.refusal.FileKey.{FileKey}
 use Rattle.gdc_run.specs.declared.refusal.Refusal.{Refusal}
 use Rattle.gdc_run.specs.declared.refusal.Refusal.TheVariants.{Mesh}
 use Rattle.corner_set.specs.declared.pick.Pick.{Pick}
-use Rattle.gdc_run.specs.SpefPhases.{DesignNets}
+use Rattle.gdc_run.specs.SpefPhases.{sole_corner, DesignNets}
 use Rattle.gdc_run.specs.Verdict.{ReadsNets, Verdict, Faulty, Answers, Gives}
 
 -- a stop decides, other than one at the reading of a file, where a fault of the outside may come or not
@@ -69,5 +69,5 @@ OneVerdict = (words : List (List ℕ)) (held : Held) → HasOneVerdict words hel
 
 -- the bytes of a SPEF file have one answer: nets, or a refusal
 abbrev pub OneReading : Type 0
-OneReading = (pick : Pick) (bytes : List ℕ) (one other : Result DesignNets Refusal) → ReadsNets pick bytes one
-    → ReadsNets pick bytes other → one ≡ other
+OneReading = (pick : Pick) (bytes : List ℕ) (one other : Result DesignNets Refusal) → ReadsNets (sole_corner pick) bytes one
+    → ReadsNets (sole_corner pick) bytes other → one ≡ other

@@ -64,17 +64,21 @@ name_of request Sdf = value_of request.given key.Sdf
 name_of request Lib = value_of request.given key.Lib
 
 -- the place of the file of a key in the order in which a command reads its files, from 1; 0 where it does not read it
-abbrev pub reading_place : Command → FileKey → ℕ
-reading_place Wires Spef = 1
-reading_place Show Sdf = 1
-reading_place Lookup Lib = 1
-reading_place _ _ = 0
+abbrev pub place_for : Command → FileKey → ℕ
+place_for Wires Spef = 1
+place_for Show Sdf = 1
+place_for Lookup Lib = 1
+place_for _ _ = 0
+
+-- the same by what is asked for
+abbrev pub reading_place : Request → FileKey → ℕ
+reading_place request key = place_for request.command key
 
 -- Why the file of a key could not be read: the shelf's count of faults rose, or the shelf tells that it does not hold the
 -- file. So many files were opened as stand up to it.
 pub record HasCause (held : Option Held) (request : Request) (faults faults' opens opens' : ℕ) (key : FileKey) : Type 0 where
   pub cause : Rose faults faults' ⊎ TellsMissing held (name_of request key)
-  pub opened : RoseBy (reading_place request.command key) opens opens'
+  pub opened : RoseBy (reading_place request key) opens opens'
 
 -- A read fault at the file of a key: the phases of the command come to its reading, and it has its cause.
 pub record HasReadFault (words : List (List ℕ)) (held : Option Held) (key : FileKey) (faults faults' opens opens' : ℕ) : Type 0 where

@@ -37,15 +37,17 @@ pub record DesignNets : Type 0 where
   pub nets : List NetElements
 
 -- the sections have no fault and say this of their nets, each with its elements and no others, or they have a first fault
-pub data NetsSpef (pick : Pick) (file : SpefText) (head : HeadText) : Result (List NetElements) Refusal → Type 0 where
-  are_nets : (nets : List NetElements) → AreFaultless file head → AreNets (sole_corner pick) file head nets → All (AreWhole 1) nets
-      → NetsSpef pick file head (Ok nets)
+pub data NetsSpef {I : Type 0} (corners : Corners I) (file : SpefText) (head : HeadText) : Result (List NetElements) Refusal
+    → Type 0 where
+  are_nets : (nets : List NetElements) → AreFaultless file head → AreNets corners file head nets → All (AreWhole corners.count) nets
+      → NetsSpef corners file head (Ok nets)
   unknown_index : (token : ℕ) → IsSectionEnd file head (section.UnknownIndex token)
-      → NetsSpef pick file head (Err (NameIndex Unknown token))
-  bad_number : (token : ℕ) → IsSectionEnd file head (section.BadNumber token) → NetsSpef pick file head (Err (SpefNumber BadNumber token))
+      → NetsSpef corners file head (Err (NameIndex Unknown token))
+  bad_number : (token : ℕ) → IsSectionEnd file head (section.BadNumber token)
+      → NetsSpef corners file head (Err (SpefNumber BadNumber token))
   value_too_large : (token : ℕ) → IsSectionEnd file head (section.ValueTooLarge token)
-      → NetsSpef pick file head (Err (SpefNumber ValueTooLarge token))
+      → NetsSpef corners file head (Err (SpefNumber ValueTooLarge token))
   repeated_net : (net : List ℕ) (token : ℕ) → IsSectionEnd file head (section.RepeatedNet net token)
-      → NetsSpef pick file head (Err (RepeatedNet net))
+      → NetsSpef corners file head (Err (RepeatedNet net))
   foreign_coupling : (net : List ℕ) (token : ℕ) → IsSectionEnd file head (section.ForeignCoupling net token)
-      → NetsSpef pick file head (Err (ForeignCoupling net token))
+      → NetsSpef corners file head (Err (ForeignCoupling net token))

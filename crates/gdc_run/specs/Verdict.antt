@@ -24,7 +24,8 @@ use Rattle.corner_set.specs.declared.pick.Pick.{Pick}
 use Rattle.spef_text.specs.SpefFiles.{SpefText}
 use Rattle.spef_text.specs.Heads.{HeadText}
 use Rattle.spef_nets.specs.NetElements.{NetElements}
-use Rattle.gdc_run.specs.SpefPhases.{DesignNets, ParsesSpef, HeadsSpef, NetsSpef}
+use Rattle.spef_nets.specs.Sections.{Corners}
+use Rattle.gdc_run.specs.SpefPhases.{sole_corner, DesignNets, ParsesSpef, HeadsSpef, NetsSpef}
 use Rattle.gdc_words.specs.Decimals.{IsGrains}
 use Rattle.liberty_groups.specs.Groups.{Group}
 use Rattle.cell_models.specs.Cells.{TimedCell}
@@ -47,25 +48,27 @@ ReadsSpef held name step = ReadsFile file_limit held Spef (Limit (File Spef)) na
 abbrev pub ReadsSdf : Option Held → List ℕ → Step Refusal FileKey (List ℕ) → Type 0
 ReadsSdf held name step = ReadsFile file_limit held Sdf (Limit (File Sdf)) name step
 
--- what the bytes of a SPEF file say of their nets: its grammar, its head and its sections are read
-pub data ReadsNets (pick : Pick) (bytes : List ℕ) : Result DesignNets Refusal → Type 0 where
-  at_grammar : (refusal : Refusal) → ParsesSpef bytes (Err refusal) → ReadsNets pick bytes (Err refusal)
+-- what the bytes of a SPEF file say of their nets at these corners: its grammar, its head and its sections are read
+pub data ReadsNets {I : Type 0} (corners : Corners I) (bytes : List ℕ) : Result DesignNets Refusal → Type 0 where
+  at_grammar : (refusal : Refusal) → ParsesSpef bytes (Err refusal) → ReadsNets corners bytes (Err refusal)
   at_head : (file : SpefText) (refusal : Refusal) → ParsesSpef bytes (Ok file) → HeadsSpef file (Err refusal)
-      → ReadsNets pick bytes (Err refusal)
+      → ReadsNets corners bytes (Err refusal)
   at_sections : (file : SpefText) (head : HeadText) (refusal : Refusal) → ParsesSpef bytes (Ok file) → HeadsSpef file (Ok head)
-      → NetsSpef pick file head (Err refusal) → ReadsNets pick bytes (Err refusal)
+      → NetsSpef corners file head (Err refusal) → ReadsNets corners bytes (Err refusal)
   through : (file : SpefText) (head : HeadText) (nets : List NetElements) → ParsesSpef bytes (Ok file) → HeadsSpef file (Ok head)
-      → NetsSpef pick file head (Ok nets) → ReadsNets pick bytes (Ok (record { design = head.design; nets = nets }))
+      → NetsSpef corners file head (Ok nets) → ReadsNets corners bytes (Ok (record { design = head.design; nets = nets }))
 
 -- `wires`: the SPEF file is read, then its nets, in its order, and each gives its rows
 pub data WiresGives (held : Option Held) (pick : Pick) (name : List ℕ) : Step Refusal FileKey SdfRows → Type 0 where
   at_reading : (why : Stop Refusal FileKey) → ReadsSpef held name (Halt why) → WiresGives held pick name (Halt why)
-  at_spef : (bytes : List ℕ) (refusal : Refusal) → ReadsSpef held name (Go bytes) → ReadsNets pick bytes (Err refusal)
+  at_spef : (bytes : List ℕ) (refusal : Refusal) → ReadsSpef held name (Go bytes) → ReadsNets (sole_corner pick) bytes (Err refusal)
       → WiresGives held pick name (Halt (RefusedBy refusal))
-  at_nets : (bytes : List ℕ) (design : DesignNets) (refusal : Refusal) → ReadsSpef held name (Go bytes) → ReadsNets pick bytes (Ok design)
-      → RowsOf design (Err refusal) → WiresGives held pick name (Halt (RefusedBy refusal))
-  with_rows : (bytes : List ℕ) (design : DesignNets) (rows : SdfRows) → ReadsSpef held name (Go bytes) → ReadsNets pick bytes (Ok design)
-      → RowsOf design (Ok rows) → WiresGives held pick name (Go rows)
+  at_nets : (bytes : List ℕ) (design : DesignNets) (refusal : Refusal) → ReadsSpef held name (Go bytes)
+      → ReadsNets (sole_corner pick) bytes (Ok design)
+      → RowsOf 1 design (Err refusal) → WiresGives held pick name (Halt (RefusedBy refusal))
+  with_rows : (bytes : List ℕ) (design : DesignNets) (rows : SdfRows) → ReadsSpef held name (Go bytes)
+      → ReadsNets (sole_corner pick) bytes (Ok design)
+      → RowsOf 1 design (Ok rows) → WiresGives held pick name (Go rows)
 
 -- the bytes are an SDF file (IEEE 1497), which says these rows, or its dead token is this one
 pub data ParsesSdf (bytes : List ℕ) : Result (List SdfRow) Refusal → Type 0 where
@@ -116,7 +119,8 @@ As put phase (Halt why) = phase (Halt why)
 
 -- the phases of a command over its keys
 abbrev pub CommandGives : Option Held → Command → Request → Step Refusal FileKey Output → Type 0
-CommandGives held Wires request step = As output.Sdf (WiresGives held (pick_from request.given) (value_of request.given key.Spef)) step
+CommandGives held Wires request step = As output.Sdf
+    (WiresGives held (pick_from request.given) (value_of request.given key.Spef)) step
 CommandGives held Show request step = As output.Listing (ShowGives held (value_of request.given key.Sdf)) step
 CommandGives held Lookup request step = ReadsPoint request
     (λ slew load. As output.Arcs (LookupGives held (value_of request.given key.Lib) (value_of request.given key.Cell) slew load) step)

@@ -1,5 +1,6 @@
 -- The nets of a file, in its order: each gives a row for each of its wires, or is refused.
-use Rattle.std.specs.Prelude.{◌≡◌, ℕ, ◌==◌, Bool, if◌then◌else◌, List, [], ◌∷◌, ◌++◌, filter, map, slice_get, Some, Result, Ok, Err}
+use Rattle.std.specs.Prelude.{◌≡◌, ℕ, ◌<◌, ◌==◌, Bool, if◌then◌else◌, List, [], ◌∷◌, ◌++◌, filter, map, slice_get, Some, Result, Ok, Err}
+use Rattle.std.specs.List.{range_with_len}
 use Rattle.name_table.specs.declared.spef_names.NodeName.{NodeName}
 use Rattle.sdf_writer.specs.SdfText.{WireRow, SdfRows}
 use Rattle.spef_nets.specs.NetElements.{NetElements}
@@ -21,13 +22,13 @@ use Rattle.gdc_run.specs.declared.refusal.Refusal.TheVariants.{Unreached, Mesh, 
 abbrev pub drives : Listed → Bool
 drives conn = if conn.port then conn.direction == 73 else conn.direction == 79
 
--- the wires of a net with these pins, one for each sink, at one corner
-abbrev pub wires_of : NetElements → Pins → List Wire
-wires_of net pins = map (λ sink. record {
+-- the wires of a net with these pins, one for each sink, at so many corners
+abbrev pub wires_of : ℕ → NetElements → Pins → List Wire
+wires_of count net pins = map (λ sink. record {
   driver = pins.driver;
   sink = sink;
   at = on_net net pins (node_of sink);
-  corners = net_elements 1 net pins 0 ∷ [];
+  corners = map (net_elements count net pins) (range_with_len 0 count);
 }) pins.sinks
 
 -- the connection at this place drives the net, and no other does
@@ -37,32 +38,32 @@ pub record HasDriver (net : NetElements) (place : ℕ) : Type 0 where
   pub sole : filter drives net.conns ≡ driver ∷ []
 
 -- A net with these pins has no tree: it is too large, or a node of it is not reached, or its resistors close a loop.
-pub data IsNoTree (net : NetElements) (pins : Pins) : Refusal → Type 0 where
-  too_large : IsTreeEnd 1 net pins tree.TooLarge → IsNoTree net pins (Limit (Net net.net))
-  unreached : (node : NodeName) → IsTreeEnd 1 net pins (tree.Unreached node) → IsNoTree net pins (Unreached net.net node)
-  mesh : (resistor : ℕ) → IsTreeEnd 1 net pins (tree.Mesh resistor) → IsNoTree net pins (Mesh net.net resistor)
+pub data IsNoTree (count : ℕ) (net : NetElements) (pins : Pins) : Refusal → Type 0 where
+  too_large : IsTreeEnd count net pins tree.TooLarge → IsNoTree count net pins (Limit (Net net.net))
+  unreached : (node : NodeName) → IsTreeEnd count net pins (tree.Unreached node) → IsNoTree count net pins (Unreached net.net node)
+  mesh : (resistor : ℕ) → IsTreeEnd count net pins (tree.Mesh resistor) → IsNoTree count net pins (Mesh net.net resistor)
 
--- A net gives the rows of its wires, or is refused: no connection drives it, or several do, or it has no tree. All connections but
--- the one that drives are its sinks.
-pub data NetGives (net : NetElements) : Result (List WireRow) Refusal → Type 0 where
-  no_driver : filter drives net.conns ≡ [] → NetGives net (Err (NoDriver net.net))
+-- A net gives the rows of its wires at so many corners, or is refused: no connection drives it, or several do, or it has no tree. All
+-- connections but the one that drives are its sinks.
+pub data NetGives (count : ℕ) (net : NetElements) : Result (List WireRow) Refusal → Type 0 where
+  no_driver : filter drives net.conns ≡ [] → NetGives count net (Err (NoDriver net.net))
   many_drivers : (one other : Listed) (others : List Listed) → filter drives net.conns ≡ one ∷ other ∷ others
-      → NetGives net (Err (ManyDrivers net.net))
-  no_tree : (driver : ℕ) (refusal : Refusal) → HasDriver net driver → IsNoTree net (listed_pins 1 net driver) refusal
-      → NetGives net (Err refusal)
-  is_tree : (driver : ℕ) (rows : List WireRow) → HasDriver net driver → IsFit net (listed_pins 1 net driver)
-      → IsTree (net_elements 1 net (listed_pins 1 net driver) 0)
-      → AreAnnotationRows (wires_of net (listed_pins 1 net driver)) rows → NetGives net (Ok rows)
+      → NetGives count net (Err (ManyDrivers net.net))
+  no_tree : (driver : ℕ) (refusal : Refusal) → HasDriver net driver → IsNoTree count net (listed_pins count net driver) refusal
+      → NetGives count net (Err refusal)
+  is_tree : (driver : ℕ) (rows : List WireRow) → HasDriver net driver → IsFit net (listed_pins count net driver)
+      → ((number : ℕ) → number < count → IsTree (net_elements count net (listed_pins count net driver) number))
+      → AreAnnotationRows (wires_of count net (listed_pins count net driver)) rows → NetGives count net (Ok rows)
 
 -- the nets, up to the first that is refused
-pub data NetsGive : List NetElements → Result (List WireRow) Refusal → Type 0 where
-  no_net : NetsGive [] (Ok [])
-  and_net : {nets : List NetElements} {rows more : List WireRow} {net : NetElements} → NetsGive nets (Ok rows) → NetGives net (Ok more)
-      → NetsGive (nets ++ net ∷ []) (Ok (rows ++ more))
+pub data NetsGive (count : ℕ) : List NetElements → Result (List WireRow) Refusal → Type 0 where
+  no_net : NetsGive count [] (Ok [])
+  and_net : {nets : List NetElements} {rows more : List WireRow} {net : NetElements} → NetsGive count nets (Ok rows)
+      → NetGives count net (Ok more) → NetsGive count (nets ++ net ∷ []) (Ok (rows ++ more))
   refused : {nets : List NetElements} {rows : List WireRow} {net : NetElements} {refusal : Refusal} (later : List NetElements)
-      → NetsGive nets (Ok rows) → NetGives net (Err refusal) → NetsGive (nets ++ net ∷ later) (Err refusal)
+      → NetsGive count nets (Ok rows) → NetGives count net (Err refusal) → NetsGive count (nets ++ net ∷ later) (Err refusal)
 
 -- the rows of a design's nets, those of wires alone
-abbrev pub RowsOf : DesignNets → Result SdfRows Refusal → Type 0
-RowsOf design (Ok rows) = (rows.design ≡ design.design) × NetsGive design.nets (Ok rows.wires) × (rows.paths ≡ [])
-RowsOf design (Err refusal) = NetsGive design.nets (Err refusal)
+abbrev pub RowsOf : ℕ → DesignNets → Result SdfRows Refusal → Type 0
+RowsOf count design (Ok rows) = (rows.design ≡ design.design) × NetsGive count design.nets (Ok rows.wires) × (rows.paths ≡ [])
+RowsOf count design (Err refusal) = NetsGive count design.nets (Err refusal)

@@ -1,14 +1,11 @@
 -- How many steps a run takes at the most: the work that its input gives.
-use Rattle.std.specs.Prelude.{◌≡◌, ℕ, ◌+◌, ◌*◌, ◌≤◌, Bool, true, false, IsTrue, List, length, slice_get, Option, Some, Result, Ok, Err}
+use Rattle.std.specs.Prelude.{◌≡◌, ℕ, ◌+◌, ◌*◌, ◌≤◌, Bool, true, false, IsTrue, List, length, Option, Result, Ok, Err}
 use Rattle.std.specs.List.{sum_by}
 use Rattle.edge_io.specs.Holding.{Held}
 use Rattle.corner_set.specs.declared.pick.Pick.{Pick}
-use Rattle.spef_text.specs.Entries.{section_at}
 use Rattle.spef_text.specs.SpefFiles.{SpefText}
 use Rattle.spef_text.specs.Heads.{HeadText}
 use Rattle.spef_nets.specs.NetElements.{NetElements}
-use Rattle.spef_nets.specs.Reading.{AreFaultlessBefore}
-use Rattle.spef_nets.specs.Sections.{IsNet}
 use Rattle.verdict_phases.specs.Phases.{Go}
 use Rattle.verdict_phases.specs.declared.ends.PhaseEnd.{PhaseEnd}
 use Rattle.verdict_phases.specs.declared.ends.PhaseEnd.TheVariants as phase
@@ -17,17 +14,15 @@ use Rattle.gdc_words.specs.declared.commands.Command.TheVariants.{Wires, Show, L
 use Rattle.gdc_words.specs.declared.commands.Key.TheVariants as key
 use Rattle.gdc_words.specs.CommandLine.{Request, Asks, value_of, pick_from}
 use Rattle.gdc_run.specs.declared.refusal.FileKey.{FileKey}
-use Rattle.gdc_run.specs.declared.refusal.IndexKind.TheVariants.{Repeated}
 use Rattle.gdc_run.specs.declared.refusal.LimitKind.TheVariants.{File}
-use Rattle.gdc_run.specs.declared.refusal.NumberKind.TheVariants.{BadUnit}
 use Rattle.gdc_run.specs.declared.refusal.Refusal.{Refusal}
-use Rattle.gdc_run.specs.declared.refusal.Refusal.TheVariants.{LibrarySyntax, SpefSyntax, SpefForm, UnknownCell, SpefNumber, NameIndex, SdfSyntax, Limit}
+use Rattle.gdc_run.specs.declared.refusal.Refusal.TheVariants.{LibrarySyntax, SpefSyntax, SpefForm, UnknownCell, SpefNumber, NameIndex, RepeatedNet, ForeignCoupling, SdfSyntax, Limit}
 use Rattle.gdc_run.specs.declared.refusal.Refusal.TheVariants as refusal
 use Rattle.gdc_run.specs.declared.outcome.Outcome.{Outcome}
 use Rattle.gdc_run.specs.declared.outcome.Outcome.TheVariants as outcome
 use Rattle.gdc_run.specs.declared.top.End.{End}
 use Rattle.gdc_run.specs.declared.top.End.TheVariants as end
-use Rattle.gdc_run.specs.SpefPhases.{sole_corner, ParsesSpef, HeadsSpef}
+use Rattle.gdc_run.specs.SpefPhases.{sole_corner, ParsesSpef, HeadsSpef, NetsSpef}
 use Rattle.gdc_run.specs.Verdict.{ReadsSpef, ReadsLib}
 use Rattle.liberty_groups.specs.Groups.{Group}
 use Rattle.cell_models.specs.Cells.{TimedCell}
@@ -35,22 +30,17 @@ use Rattle.gdc_run.specs.ArcRows.{arc_edges}
 use Rattle.gdc_run.specs.LibraryPhases.{ParsesLibrary, ModelsCell}
 use Rattle.gdc_run.specs.NetRows.{most_steps}
 
--- the most steps of these nets at one corner
-abbrev pub total_steps : List NetElements → ℕ
-total_steps nets = sum_by most_steps nets
+-- the most steps of these nets at so many corners
+abbrev pub total_steps : ℕ → List NetElements → ℕ
+total_steps count nets = sum_by (most_steps count) nets
 
--- the nets of the first sections of a file, in its order, none of which has a fault
-pub record AreFrontNets (pick : Pick) (file : SpefText) (head : HeadText) (nets : List NetElements) : Type 0 where
-  pub few : length nets ≤ length file.reading.sections
-  pub each : (place : ℕ) (net : NetElements) → slice_get nets place ≡ Some net
-      → IsNet (sole_corner pick) file head (section_at file.reading.sections place) net
-  pub faultless : AreFaultlessBefore file head (length nets)
-
--- the work of the first sections of a file
+-- the work of the sections of a file: none before all are read, and then that of their nets
 pub data SectionsWork (pick : Pick) (file : SpefText) (head : HeadText) : ℕ → Type 0 where
-  of_sections : (nets : List NetElements) → AreFrontNets pick file head nets → SectionsWork pick file head (total_steps nets)
+  no_sections : SectionsWork pick file head 0
+  of_sections : (nets : List NetElements) → NetsSpef (sole_corner pick) file head (Ok nets)
+      → SectionsWork pick file head (total_steps 1 nets)
 
--- the work of a SPEF file's bytes: none before its head is read, and then that of its first sections
+-- the work of a SPEF file's bytes: none before its head is read, and then that of its sections
 pub data TextWork (pick : Pick) (bytes : List ℕ) : ℕ → Type 0 where
   no_head : TextWork pick bytes 0
   of_head : {work : ℕ} (file : SpefText) (head : HeadText) → ParsesSpef bytes (Ok file) → HeadsSpef file (Ok head)
@@ -92,12 +82,15 @@ pub record IsWithin (Work : ℕ → Type 0) (before after : ℕ) : Type 0 where
   pub given : Work work
   pub bound : after ≤ before + work
 
--- a refusal that comes before a section or a table is read: of a file's length, of a grammar, of the head, or of a cell
+-- a refusal that comes before a tree is built or a table is looked up: of a file's length, of a grammar, of the head, of a section, or of
+-- a cell
 abbrev pub is_early : Refusal → Bool
 is_early (SpefSyntax token) = true
 is_early (SpefForm word token) = true
-is_early (SpefNumber BadUnit token) = true
-is_early (NameIndex Repeated token) = true
+is_early (SpefNumber kind token) = true
+is_early (NameIndex kind token) = true
+is_early (RepeatedNet net) = true
+is_early (ForeignCoupling net token) = true
 is_early (SdfSyntax token) = true
 is_early (Limit (File key)) = true
 is_early (LibrarySyntax corner token line cause) = true
@@ -105,7 +98,7 @@ is_early (UnknownCell cell corner) = true
 is_early (refusal.CellFault cell corner fault) = true
 is_early _ = false
 
--- a fact of an end that comes before a section is read
+-- a fact of an end that comes before a tree is built
 abbrev pub OnEarly : {A : Type 0} → Result A (PhaseEnd Refusal FileKey) → Type 0 → Type 0
 OnEarly (Ok value) fact = Unit {0}
 OnEarly (Err (phase.Refused refusal)) fact = IsTrue (is_early refusal) → fact
@@ -120,11 +113,11 @@ OnEarlyEnd (Err (end.Phase (phase.ReadFault key))) fact = fact
 OnEarlyEnd (Err (end.Phase phase.OutOfMemory)) fact = Unit {0}
 OnEarlyEnd (Err end.OutOfMemory) fact = Unit {0}
 
--- a fact of every answer that comes before a section is read
-abbrev pub BeforeSections : Outcome → Type 0 → Type 0
-BeforeSections outcome.Done fact = Unit {0}
-BeforeSections (outcome.Refused refusal) fact = IsTrue (is_early refusal) → fact
-BeforeSections (outcome.Usage fault) fact = fact
-BeforeSections (outcome.ReadFault key) fact = fact
-BeforeSections outcome.WriteFault fact = Unit {0}
-BeforeSections outcome.OutOfMemory fact = Unit {0}
+-- a fact of every answer that comes before a tree is built
+abbrev pub BeforeTrees : Outcome → Type 0 → Type 0
+BeforeTrees outcome.Done fact = Unit {0}
+BeforeTrees (outcome.Refused refusal) fact = IsTrue (is_early refusal) → fact
+BeforeTrees (outcome.Usage fault) fact = fact
+BeforeTrees (outcome.ReadFault key) fact = fact
+BeforeTrees outcome.WriteFault fact = Unit {0}
+BeforeTrees outcome.OutOfMemory fact = Unit {0}

@@ -12,7 +12,7 @@ use corner_set::{Grid, Single};
 use delay_units::Femto;
 use edge_io::{OutOfMemory, Steps, Text};
 use elmore_pass::{elmore_into, sink_femto};
-use rc_tree::{ListedPins, RcTree, Scratch, TreeEnd, Workspace, build_listed};
+use rc_tree::{ListedPins, RcTree, Scratch, TreeEnd, Workspace, no_stranger};
 use sdf_writer::Rows;
 use spef_nets::Net;
 use std::alloc::Global;
@@ -92,49 +92,51 @@ fn add_rows<L: Ledger>(
 fn sole_driver(alloc: Global, net: &Net<Single>) -> Result<usize, NoFileEnd<Refusal>>
     ensures driver { IfOk result (HasDriver net.now) }
     ensures within { IfOk result (λ driver. driver < length net.now.conns) }
-    ensures refused { OnRefusal result (λ refusal. NetGives net.now (Err refusal)) }
+    ensures refused { OnRefusal result (λ refusal. NetGives 1 net.now (Err refusal)) }
 {
     match driver_of(net) {
         Ok(driver) => Ok(driver),
         Err(DriverEnd::NoDriver) => {
-            let net = Text::from_bytes(alloc, net.net().bytes())?;
+            let net = Text::from_bytes(alloc, net.net())?;
             Err(NoFileEnd::Refused(Refusal::NoDriver { net }))
         }
         Err(DriverEnd::ManyDrivers) => {
-            let net = Text::from_bytes(alloc, net.net().bytes())?;
+            let net = Text::from_bytes(alloc, net.net())?;
             Err(NoFileEnd::Refused(Refusal::ManyDrivers { net }))
         }
     }
 }
 
-// The tree of a net, which is refused without one. Each of its connections is a pin.
+// Makes the tree that of a net, which is refused without one. Each of its connections is a pin.
 #[tactic(auto, using(crate::specs::WireNets::too_large, crate::specs::WireNets::unreached, crate::specs::WireNets::mesh))]
-fn tree_of<L: Ledger>(
+fn put_tree<L: Ledger>(
     alloc: Global,
     workspace: &mut Workspace,
+    tree: &mut RcTree<Single>,
     net: &Net<Single>,
-    driver: usize,
+    pins: &ListedPins,
     steps: &mut Steps<L>,
-) -> Result<RcTree<Single>, NoFileEnd<Refusal>>
-    requires { driver < length net.now.conns }
-    ensures tree { IfOk result (IsTreeOf 1 net.now (listed_pins 1 net.now driver)) }
-    ensures refused { OnRefusal result (IsNoTree net.now (listed_pins 1 net.now driver)) }
-    ensures nodes { IfOk result (λ tree. node_count tree ≤ length net.now.joints + 1) }
+) -> Result<(), NoFileEnd<Refusal>>
+    requires { pins.now.driver < length net.now.conns }
+    ensures tree { OnOk result (IsTreeOf 1 net.now (listed_pins 1 net.now pins.now.driver) tree.new) }
+    ensures refused { OnRefusal result (IsNoTree 1 net.now (listed_pins 1 net.now pins.now.driver)) }
+    ensures nodes { OnOk result (node_count tree.new ≤ length net.now.joints + 1) }
     ensures steps { steps.new ≤ steps.old + 2 * length net.now.joints + length net.now.caps }
 {
-    match build_listed(alloc, workspace, net, driver, steps) {
-        Ok(tree) => Ok(tree),
+    no_stranger();
+    match tree.rebuild(alloc, workspace, net, pins, steps) {
+        Ok(()) => Ok(()),
         Err(TreeEnd::StrangePin(_)) => unreachable!(),
         Err(TreeEnd::TooLarge) => {
-            let net = Text::from_bytes(alloc, net.net().bytes())?;
+            let net = Text::from_bytes(alloc, net.net())?;
             Err(NoFileEnd::Refused(Refusal::Limit(LimitKind::Net(net))))
         }
         Err(TreeEnd::Unreached(node)) => {
-            let net = Text::from_bytes(alloc, net.net().bytes())?;
+            let net = Text::from_bytes(alloc, net.net())?;
             Err(NoFileEnd::Refused(Refusal::Unreached { net, node }))
         }
         Err(TreeEnd::Mesh(resistor)) => {
-            let net = Text::from_bytes(alloc, net.net().bytes())?;
+            let net = Text::from_bytes(alloc, net.net())?;
             Err(NoFileEnd::Refused(Refusal::Mesh { net, resistor }))
         }
         Err(TreeEnd::OutOfMemory) => Err(NoFileEnd::OutOfMemory),
@@ -151,19 +153,19 @@ fn put_delays<L: Ledger>(
     ensures delays { OnOk result (HasDelays tree.now delays.new) }
     ensures steps { steps.new ≤ steps.old + 12 * node_count tree.now }
 {
-    if delays.room() < tree.len() {
-        *delays = Scratch::reserve(alloc, tree.len())?;
-    }
+    delays.make_room(alloc, tree.len())?;
     elmore_into(tree, delays, steps);
     Ok(())
 }
 
-/// Adds the rows of a net's wires, one for each sink, or refuses the net. One workspace, one scratch and one grid serve all nets.
+/// Adds the rows of a net's wires, one for each sink, or refuses the net. One workspace, one tree, one scratch and one grid serve all
+/// nets.
 #[tactic(auto, using(crate::specs::WireNets::no_tree, crate::specs::WireNets::is_tree))]
 pub fn add_net_rows<L: Ledger>(
     alloc: Global,
     net: &Net<Single>,
     workspace: &mut Workspace,
+    tree: &mut RcTree<Single>,
     delays: &mut Scratch<Single>,
     delay: &mut Grid<Single, Femto>,
     rows: &mut Rows<Single>,
@@ -171,14 +173,14 @@ pub fn add_net_rows<L: Ledger>(
 ) -> Result<(), NoFileEnd<Refusal>>
     requires one_row { length delay.old.values ≡ 1 }
     ensures rows { OnOk result (AddsNetRows net.now rows.old rows.new) }
-    ensures refused { OnRefusal result (λ refusal. NetGives net.now (Err refusal)) }
+    ensures refused { OnRefusal result (λ refusal. NetGives 1 net.now (Err refusal)) }
     ensures one_row { length delay.new.values ≡ 1 }
-    ensures steps { steps.new ≤ steps.old + most_steps net.now }
+    ensures steps { steps.new ≤ steps.old + most_steps 1 net.now }
 {
     let driver = sole_driver(alloc, net)?;
-    let tree = tree_of(alloc, workspace, net, driver, steps)?;
-    put_delays(alloc, &tree, delays, steps)?;
     let pins = ListedPins { driver };
-    add_rows(alloc, net, &pins, &tree, delays, delay, rows, steps)?;
+    put_tree(alloc, workspace, tree, net, &pins, steps)?;
+    put_delays(alloc, tree, delays, steps)?;
+    add_rows(alloc, net, &pins, tree, delays, delay, rows, steps)?;
     Ok(())
 }

@@ -1,16 +1,12 @@
-//! The phases that read a SPEF file: its grammar, its head, and its nets one after another.
-ghost use Rattle.std.specs.Prelude.{◌≡◌, ◌^◌, ◌<◌, length, IfOk, OnOk, Err};
+//! The phases that read a SPEF file: its grammar, its head, and the nets of its sections.
+ghost use Rattle.std.specs.Prelude.{◌^◌, ◌<◌, length};
 ghost use Rattle.verdict_phases.specs.Phases.{FollowsNoFile};
-ghost use Rattle.spef_nets.specs.NetElements.{AreWhole};
-ghost use Rattle.spef_nets.specs.Reading.{next_section, with_net};
-ghost use Rattle.spef_nets.specs.Sections.{IsNet};
-ghost use Rattle.spef_nets.specs.Faults.{IsFaultless};
+ghost use Rattle.spef_text.specs.Heads.{IsHeadOf};
 ghost use Rattle.gdc_run.specs.SpefPhases.{sole_corner, ParsesSpef, HeadsSpef, NetsSpef};
-ghost use Rattle.gdc_run.specs.NetRows.{OnRefusal};
 
 use crate::refusal::{IndexKind, NumberKind, Refusal};
-use corner_set::Single;
-use spef_nets::{SectionEnd, SectionReader, SpelledSection};
+use corner_set::{Pick, Single};
+use spef_nets::{SectionEnd, Sections, read_sections};
 use spef_text::{Head, HeadEnd, SpefEnd, SpefFile, parse, read_head};
 use std::alloc::Global;
 use verdict_phases::NoFileEnd;
@@ -50,20 +46,22 @@ pub fn head_of(alloc: Global, file: &SpefFile) -> Result<Head, NoFileEnd<Refusal
     }
 }
 
-/// Reads the next net of a SPEF file, at one corner.
-#[tactic(auto, using(crate::specs::SpefPhases::unknown_index, crate::specs::SpefPhases::bad_number, crate::specs::SpefPhases::value_too_large, crate::specs::SpefPhases::repeated_net, crate::specs::SpefPhases::foreign_coupling))]
-pub fn next_net<'r, 'f>(
-    reader: &mut SectionReader<'r, 'f>,
-) -> Result<SpelledSection<'r, 'f, Single>, NoFileEnd<Refusal>>
-    requires { length reader.old.nets < length reader.old.file.reading.sections }
-    ensures ok { IfOk result (IsNet (sole_corner reader.old.pick) reader.old.file reader.old.head (next_section reader.old)) }
-    ensures whole { IfOk result (AreWhole 1) }
-    ensures read { IfOk result (λ net. reader.new ≡ with_net reader.old net.net) }
-    ensures faultless { OnOk result (IsFaultless reader.old.file reader.old.head (length reader.old.nets) (next_section reader.old)) }
-    ensures refused { OnRefusal result (λ refusal. NetsSpef reader.old.pick reader.old.file reader.old.head (Err refusal)) }
+/// Reads the nets of all sections of a SPEF file at one corner, where this member of each triple counts.
+#[tactic(auto, using(crate::specs::SpefPhases::are_nets, crate::specs::SpefPhases::unknown_index, crate::specs::SpefPhases::bad_number, crate::specs::SpefPhases::value_too_large, crate::specs::SpefPhases::repeated_net, crate::specs::SpefPhases::foreign_coupling))]
+pub fn nets_of<'r, 'f>(
+    alloc: Global,
+    file: &'r SpefFile<'f>,
+    head: &'r Head,
+    pick: Pick,
+) -> Result<Sections<'r, 'f, Single>, NoFileEnd<Refusal>>
+    requires { IsHeadOf file.now head.now }
+    ensures follows { FollowsNoFile (NetsSpef (sole_corner pick) file.now head.now) result }
 {
-    match reader.read::<Single>() {
-        Ok(net) => Ok(net),
+    match read_sections(alloc, file, head, pick) {
+        Ok(sections) => {
+            sections.whole();
+            Ok(sections)
+        }
         Err(SectionEnd::UnknownIndex { token }) => Err(NoFileEnd::Refused(Refusal::NameIndex {
             kind: IndexKind::Unknown,
             token,

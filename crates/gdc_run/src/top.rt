@@ -9,7 +9,7 @@ ghost use Rattle.gdc_run.specs.OneVerdict.{OneVerdict};
 ghost use Rattle.gdc_run.specs.Saying.{Says};
 ghost use Rattle.gdc_run.specs.Completeness.{IsComplete};
 ghost use Rattle.gdc_run.specs.Ends.{MeansEnd, FollowsTop};
-ghost use Rattle.gdc_run.specs.Work.{WordsWork, IsWithin, OnEarlyEnd, BeforeSections};
+ghost use Rattle.gdc_run.specs.Work.{WordsWork, IsWithin, OnEarlyEnd, BeforeTrees};
 ghost use Rattle.verdict_phases.specs.Phases.{RefusedBy, Halt};
 
 use crate::laws::{always_readable, one_verdict};
@@ -97,7 +97,7 @@ fn answer<H: Shelf, O: Sink, L: Ledger>(
         (λ text. AppendsFrontOf text (O.written out.old) (O.written out.new))) }
     ensures untouched { UnlessWritten result (O.written out.new ≡ O.written out.old) }
     ensures steps { IsWithin (WordsWork words.now (H.held shelf.old)) steps.old steps.new }
-    ensures no_steps { BeforeSections result (steps.new ≡ steps.old) }
+    ensures no_steps { BeforeTrees result (steps.new ≡ steps.old) }
 {
     match decide(alloc, words, shelf, steps) {
         Err(End::Usage(fault)) => Outcome::Usage(fault),
@@ -160,10 +160,10 @@ pub fn run<H: Shelf, O: Sink, E: Sink, L: Ledger>(
     // The answer's line stands behind what `err` held. Each command has one corner.
     ensures said { Says 1 result (E.written err.old) (E.written err.new) (E.faults err.old) (E.faults err.new) }
 
-    // No more steps than 16 for each resistor, capacitance to ground and connection of the sections that were read, and none
-    // before the first of them.
+    // No more steps than 16 for each resistor, capacitance to ground and connection of the nets, and none before all sections are
+    // read without a fault, or before the model of a cell is made.
     ensures steps { IsWithin (WordsWork words.now (H.held shelf.old)) steps.old steps.new }
-    ensures no_steps { BeforeSections result (steps.new ≡ steps.old) }
+    ensures no_steps { BeforeTrees result (steps.new ≡ steps.old) }
 {
     always_readable();
     one_verdict();

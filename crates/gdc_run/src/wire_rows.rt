@@ -1,47 +1,45 @@
-//! The rows of the wires of a SPEF file, added net by net while its sections are read.
-ghost use Rattle.std.specs.Prelude.{◌≡◌, ◌+◌, ◌^◌, ◌<◌, ◌≤◌, [], length, IfOk, OnOk, OnErr, IsTrue, Ok};
+//! The rows of the wires of a SPEF file, added net by net once all sections are read.
+ghost use Rattle.std.specs.Prelude.{◌≡◌, ◌+◌, ◌^◌, ◌<◌, ◌≤◌, [], length, IfOk, OnOk, IsTrue, Err};
 ghost use Rattle.verdict_phases.specs.Phases.{FollowsNoFile};
 ghost use Rattle.spef_text.specs.Heads.{IsHeadOf};
-ghost use Rattle.gdc_run.specs.NetRows.{OnRefusal, most_steps};
-ghost use Rattle.gdc_run.specs.WireRows.{AddsNet, SectionsGive, TextGives};
-ghost use Rattle.gdc_run.specs.Work.{SectionsWork, TextWork, IsWithin, is_early};
+ghost use Rattle.gdc_run.specs.NetRows.{OnRefusal, most_steps, AddsNetRows};
+ghost use Rattle.gdc_run.specs.WireNets.{NetGives, RowsOf};
+ghost use Rattle.gdc_run.specs.WireRows.{SectionsGive, TextGives};
+ghost use Rattle.gdc_run.specs.Work.{total_steps, SectionsWork, TextWork, IsWithin, is_early};
 
 use crate::net_rows::add_net_rows;
 use crate::refusal::Refusal;
-use crate::spef_phases::{head_of, next_net, parse_spef};
+use crate::spef_phases::{head_of, nets_of, parse_spef};
 use corner_set::{Grid, Pick, Single};
 use delay_units::Femto;
 use edge_io::{OutOfMemory, Steps, Text};
-use rc_tree::{Scratch, Workspace};
+use rc_tree::{RcTree, Scratch, Workspace};
 use sdf_writer::Rows;
-use spef_nets::{Net, SectionReader};
+use spef_nets::{Net, Sections};
 use spef_text::{Head, SpefFile};
 use std::alloc::Global;
 use std::marker::Model;
 use std::sync::ledger::Ledger;
 use verdict_phases::NoFileEnd;
 
-// The rows of the nets so far, and the lists that serve net after net. Contracts see the rows, or the refusal of the first net that
-// is refused.
+// The rows of the nets so far, and the lists that serve net after net. Contracts see the rows.
 #[derive(Drop)]
 struct WireRows {
     rows: Rows<Single>,
-    refused: Option<Refusal>,
     // the delay of one row
     delay: Grid<Single, Femto>,
     workspace: Workspace,
+    tree: RcTree<Single>,
     delays: Scratch<Single>,
 }
 
 impl Model for WireRows {
-    ghost use Rattle.std.specs.Prelude.{◌≡◌, Result, length};
+    ghost use Rattle.std.specs.Prelude.{◌≡◌, length};
     ghost use Rattle.sdf_writer.specs.SdfText.{SdfRows};
-    ghost use Rattle.gdc_run.specs.declared.refusal.Refusal.{Refusal};
-    ghost use Rattle.gdc_run.specs.WireRows.{rows_so_far};
 
-    ghost Value = { Result SdfRows Refusal };
+    ghost Value = { SdfRows };
 
-    ghost view = { λ w. rows_so_far w.rows w.refused };
+    ghost view = { λ w. w.rows };
 
     ghost invariant = { λ w. length w.delay.values ≡ 1 };
 }
@@ -49,73 +47,78 @@ impl Model for WireRows {
 impl WireRows {
     // No row yet, of the design that a head names.
     fn new(alloc: Global, head: &Head) -> Result<WireRows, OutOfMemory>
-        ensures { IfOk result (λ rows. rows ≡ Ok (record { design = head.now.design; wires = []; paths = [] })) }
+        ensures { IfOk result (λ rows. rows ≡ record { design = head.now.design; wires = []; paths = [] }) }
     {
         let delay = Grid::with_rows(alloc, 1, Femto(0))?;
         let delays = Scratch::reserve(alloc, 0)?;
+        let tree = RcTree::new(alloc)?;
         let design = Text::from_bytes(alloc, head.design().bytes())?;
         Ok(WireRows {
             rows: Rows::new(alloc, design),
-            refused: None,
             delay,
             workspace: Workspace::new(alloc),
+            tree,
             delays,
         })
     }
 
-    // Adds the rows of a net, unless one before it was refused.
-    #[tactic(auto, using(crate::specs::WireRows::refused_before, crate::specs::WireRows::refused_here, crate::specs::WireRows::has_rows))]
+    // Adds the rows of a net, or refuses it.
     fn add<L: Ledger>(
         &mut self,
         alloc: Global,
         net: &Net<Single>,
         steps: &mut Steps<L>,
-    ) -> Result<(), OutOfMemory>
-        ensures next { OnOk result (AddsNet net.now self.old self.new) }
-        ensures steps { steps.new ≤ steps.old + most_steps net.now }
-        ensures no_steps { OnErr self.old (steps.new ≡ steps.old) }
+    ) -> Result<(), NoFileEnd<Refusal>>
+        ensures rows { OnOk result (AddsNetRows net.now self.old self.new) }
+        ensures refused { OnRefusal result (λ refusal. NetGives 1 net.now (Err refusal)) }
+        ensures steps { steps.new ≤ steps.old + most_steps 1 net.now }
     {
-        if self.refused.is_some() {
-            return Ok(());
-        }
-        match add_net_rows(
+        add_net_rows(
             alloc,
             net,
             &mut self.workspace,
+            &mut self.tree,
             &mut self.delays,
             &mut self.delay,
             &mut self.rows,
             steps,
-        ) {
-            Ok(()) => Ok(()),
-            Err(NoFileEnd::Refused(refusal)) => {
-                self.refused = Some(refusal);
-                Ok(())
-            }
-            Err(NoFileEnd::OutOfMemory) => Err(OutOfMemory),
-        }
+        )
     }
 
-    // The rows of all nets, or the refusal.
-    fn finish(self) -> Result<Rows<Single>, Refusal>
+    // The rows of all nets.
+    fn finish(self) -> Rows<Single>
         ensures { result ≡ self }
     {
         let WireRows {
             rows,
-            refused,
             delay: _,
             workspace: _,
+            tree: _,
             delays: _,
         } = self;
-        match refused {
-            Some(refusal) => Err(refusal),
-            None => Ok(rows),
-        }
+        rows
     }
 }
 
-// Reads the nets of a SPEF file one after another, where this member of each triple counts, and adds the rows of each before the
-// next is read. After a net that is refused the others are still read, since a fault of their sections comes first.
+// Adds the rows of the nets one after another, up to the first that is refused.
+fn rows_of_nets<L: Ledger>(
+    alloc: Global,
+    head: &Head,
+    nets: &Sections<'_, '_, Single>,
+    steps: &mut Steps<L>,
+) -> Result<Rows<Single>, NoFileEnd<Refusal>>
+    ensures follows { FollowsNoFile (RowsOf 1 (record { design = head.now.design; nets = nets.now })) result }
+    ensures steps { steps.new ≤ steps.old + total_steps 1 nets.now }
+{
+    let mut rows = WireRows::new(alloc, head)?;
+    for s in 0..nets.len() {
+        rows.add(alloc, &nets.get(s), steps)?;
+    }
+    Ok(rows.finish())
+}
+
+// Reads the nets of all sections of a SPEF file, where this member of each triple counts, and then adds the rows of each.
+#[tactic(auto, using(crate::specs::WireRows::faulty_section, crate::specs::WireRows::of_nets, crate::proofs::Work::no_sections_work, crate::proofs::Work::sections_work))]
 fn wire_rows_of_sections<L: Ledger>(
     alloc: Global,
     file: &SpefFile,
@@ -126,26 +129,15 @@ fn wire_rows_of_sections<L: Ledger>(
     requires { IsHeadOf file.now head.now }
     ensures follows { FollowsNoFile (SectionsGive pick file.now head.now) result }
     ensures steps { IsWithin (SectionsWork pick file.now head.now) steps.old steps.new }
+    ensures no_steps { OnRefusal result (λ refusal. IsTrue (is_early refusal) → steps.new ≡ steps.old) }
 {
-    let mut rows = WireRows::new(alloc, head)?;
-    let mut reader = SectionReader::new(alloc, file, head, pick);
-    for _ in 0..file.section_count() {
-        let net = match next_net(&mut reader) {
-            Ok(net) => net,
-            Err(end) => return Err(end),
-        };
-        rows.add(alloc, &net.as_net(), steps)?;
-        reader.reuse(net);
-    }
-    match rows.finish() {
-        Ok(rows) => Ok(rows),
-        Err(refusal) => Err(NoFileEnd::Refused(refusal)),
-    }
+    let nets = nets_of(alloc, file, head, pick)?;
+    rows_of_nets(alloc, head, &nets, steps)
 }
 
 /// The rows of the nets of a SPEF file's text, one for each wire: net after net, and in each its sinks in their order. This member
 /// of each triple counts.
-#[tactic(auto, using(crate::specs::Verdict::at_grammar, crate::specs::Verdict::at_head, crate::specs::WireRows::unread, crate::proofs::WireRows::text_gives, crate::proofs::Work::no_text_work, crate::proofs::Work::text_work, crate::proofs::Work::rows_late))]
+#[tactic(auto, using(crate::specs::Verdict::at_grammar, crate::specs::Verdict::at_head, crate::specs::WireRows::unread, crate::proofs::WireRows::text_gives, crate::proofs::Work::no_text_work, crate::proofs::Work::text_work))]
 pub fn wire_rows_of_file<L: Ledger>(
     alloc: Global,
     text: Text,
