@@ -4,4 +4,3 @@ mod endings;
 mod nets;
 mod plain_sums;
 mod random_trees;
-mod rebuilds;
