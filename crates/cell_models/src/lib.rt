@@ -6,6 +6,7 @@ mod cell;
 mod cell_list;
 mod cell_set;
 mod cell_sets;
+mod edge;
 mod joining;
 mod shape;
 
@@ -13,5 +14,6 @@ pub use cell::{Arc, ArcKind, Cell, Direction, EdgeTables, Pin};
 pub use cell_list::CellList;
 pub use cell_set::CellSet;
 pub use cell_sets::CellSets;
+pub use edge::{Edge, Part};
 pub use joining::{JoinEnd, join_corners, one_shape_fault};
 pub use shape::{Entry, ShapeFault};
