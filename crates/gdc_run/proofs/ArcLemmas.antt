@@ -21,14 +21,14 @@ use Rattle.verdict_phases.specs.declared.ends.NoFileEnd.{NoFileEnd}
 use Rattle.verdict_phases.specs.declared.ends.NoFileEnd.TheVariants as no_file
 use Rattle.gdc_run.specs.declared.arc_rows.ArcRow.{ArcRow}
 use Rattle.gdc_run.specs.declared.arc_rows.Looked.{Looked}
-use Rattle.gdc_run.specs.declared.refusal.Edge.{Edge}
-use Rattle.gdc_run.specs.declared.refusal.Part.{Part}
-use Rattle.gdc_run.specs.declared.refusal.Refusal.{Refusal}
-use Rattle.gdc_run.specs.declared.refusal.Refusal.TheVariants as refusal
+use Rattle.cell_models.specs.declared.edge.Edge.{Edge}
+use Rattle.cell_models.specs.declared.edge.Part.{Part}
+use Rattle.delay_core.specs.declared.refusal.Refusal.{Refusal}
+use Rattle.delay_core.specs.declared.refusal.Refusal.TheVariants as refusal
 use Rattle.gdc_run.specs.ArcRows.{ArcEdge, IsNamed, edges_of, arc_edges, IsArcRow, IsInside, IsEdgeOutside, IsEdgeRefusal, IsFirstOutside, AddsEdges, CellGives, all_inside, some_outside, outside_at}
-use Rattle.gdc_run.specs.Work.{is_early}
+use Rattle.delay_core.specs.SpefWork.{is_early}
 use Rattle.gdc_run.specs.Looking.{IsLooked, IsRowOf}
-use Rattle.gdc_run.specs.NetRows.{OnRefusal}
+use Rattle.delay_core.specs.Refused.{OnRefusal}
 
 zip_append : {X Y : Type 0} (R : X → Y → Type 0) (xs more : List X) (ys others : List Y) → AllZip R xs ys → AllZip R more others → AllZip R (xs ++ more) (ys ++ others)
 zip_append R [] more [] others are then = then

@@ -9,8 +9,8 @@ use Rattle.gdc_words.specs.declared.commands.Command.{Command}
 use Rattle.gdc_words.specs.declared.commands.Command.TheVariants.{Wires, Show, Lookup, Help, Version}
 use Rattle.gdc_words.specs.declared.faults.UsageFault.{UsageFault}
 use Rattle.gdc_words.proofs.Pairs.{one_request}
-use Rattle.gdc_run.specs.declared.refusal.FileKey.{FileKey}
-use Rattle.gdc_run.specs.declared.refusal.FileKey.TheVariants.{Spef, Sdf, Lib}
+use Rattle.delay_core.specs.declared.refusal.FileKey.{FileKey}
+use Rattle.delay_core.specs.declared.refusal.FileKey.TheVariants.{Netlist, Lib, LibMin, LibTyp, LibMax, Spef, Sdf}
 use Rattle.gdc_run.specs.declared.outcome.Outcome.{Outcome}
 use Rattle.gdc_run.specs.declared.outcome.Outcome.TheVariants.{Done, Refused, Usage, ReadFault, WriteFault, OutOfMemory}
 use Rattle.gdc_words.specs.CommandLine.{Request, Asks}
@@ -31,13 +31,25 @@ lookup_reads held file name slew load key (at_library_reading why reads) = reads
 -- the phases of a command come to the file that the shelf tells is not held
 unread_file : (held : Option Held) (command : Command) (request : Request) (key : FileKey) → CommandGives held command request (Halt (Reads key)) → TellsMissing held (name_of request key) → CommandGives held command request (Halt (Unread key))
 unread_file held Wires request Spef reached missing = at_reading (Unread Spef) (missing, refl)
-unread_file held Wires request Sdf reached missing = cc (wires_reads _ _ _ Sdf reached)
+unread_file held Wires request Netlist reached missing = cc (wires_reads _ _ _ Netlist reached)
 unread_file held Wires request Lib reached missing = cc (wires_reads _ _ _ Lib reached)
+unread_file held Wires request LibMin reached missing = cc (wires_reads _ _ _ LibMin reached)
+unread_file held Wires request LibTyp reached missing = cc (wires_reads _ _ _ LibTyp reached)
+unread_file held Wires request LibMax reached missing = cc (wires_reads _ _ _ LibMax reached)
+unread_file held Wires request Sdf reached missing = cc (wires_reads _ _ _ Sdf reached)
 unread_file held Show request Sdf reached missing = at_sdf_reading (Unread Sdf) (missing, refl)
-unread_file held Show request Spef reached missing = cc (show_reads _ _ Spef reached)
+unread_file held Show request Netlist reached missing = cc (show_reads _ _ Netlist reached)
 unread_file held Show request Lib reached missing = cc (show_reads _ _ Lib reached)
+unread_file held Show request LibMin reached missing = cc (show_reads _ _ LibMin reached)
+unread_file held Show request LibTyp reached missing = cc (show_reads _ _ LibTyp reached)
+unread_file held Show request LibMax reached missing = cc (show_reads _ _ LibMax reached)
+unread_file held Show request Spef reached missing = cc (show_reads _ _ Spef reached)
 unread_file held Lookup request Lib reached missing =
     record { slew = reached.slew; load = reached.load; slew_reads = reached.slew_reads; load_reads = reached.load_reads; holds = at_library_reading (Unread Lib) (missing, refl) }
+unread_file held Lookup request Netlist reached missing = cc (lookup_reads _ _ _ _ _ Netlist reached.holds)
+unread_file held Lookup request LibMin reached missing = cc (lookup_reads _ _ _ _ _ LibMin reached.holds)
+unread_file held Lookup request LibTyp reached missing = cc (lookup_reads _ _ _ _ _ LibTyp reached.holds)
+unread_file held Lookup request LibMax reached missing = cc (lookup_reads _ _ _ _ _ LibMax reached.holds)
 unread_file held Lookup request Spef reached missing = cc (lookup_reads _ _ _ _ _ Spef reached.holds)
 unread_file held Lookup request Sdf reached missing = cc (lookup_reads _ _ _ _ _ Sdf reached.holds)
 unread_file held Help request key reached missing = cc

@@ -1,5 +1,5 @@
 -- `lookup` has one answer.
-use Rattle.std.proofs.Common.{◌≡◌, ◌≢◌, inl, ℕ, List, [], ◌∷◌, ◌++◌, Option, Some, None, ℤ, pos, ◌+ℤ◌, Result, Ok, Err, refl, sym, ap, ◌∙◌, subst, arith}
+use Rattle.std.proofs.Common.{◌≡◌, inl, ℕ, List, [], ◌∷◌, ◌++◌, Option, Some, None, ℤ, pos, ◌+ℤ◌, Result, Ok, Err, refl, sym, ap, ◌∙◌, subst, arith}
 use Rattle.std.specs.Prelude.{All, IfSome}
 use Rattle.std.specs.List.{AllByRecursion, AllZip}
 use Rattle.std.proofs.lemmas.Int.{ints}
@@ -12,9 +12,6 @@ use Rattle.edge_io.specs.Holding.{Held}
 use Rattle.edge_io.specs.Zipping.{one_zip}
 use Rattle.gdc_words.specs.Decimals.{IsGrains}
 use Rattle.liberty_groups.specs.Groups.{Group}
-use Rattle.liberty_groups.specs.declared.faults.SyntaxFault.{SyntaxFault}
-use Rattle.liberty_groups.proofs.OneFault.{one_fault}
-use Rattle.liberty_groups.proofs.SoFar.{one_tree}
 use Rattle.nldm_lookup.specs.Interpolant.{IsOutside, slew_past, load_past}
 use Rattle.nldm_lookup.specs.declared.grain.Grain.TheVariants.{Atto, Femto}
 use Rattle.nldm_lookup.specs.declared.faults.Outside.{Outside}
@@ -24,27 +21,24 @@ use Rattle.cell_models.specs.Cells.{TimedCell}
 use Rattle.cell_models.specs.declared.cell.Arc.{Arc}
 use Rattle.cell_models.specs.declared.cell.EdgeTables.{EdgeTables}
 use Rattle.cell_models.specs.declared.cell.Pin.{Pin}
-use Rattle.liberty_tables.specs.declared.faults.CellFault.{CellFault}
-use Rattle.liberty_tables.specs.declared.faults.CellFault.TheVariants.{NoSuchCell, OutOfMemory}
 use Rattle.timing_arcs.proofs.ModelTables.{AreTables, HasTables, model_tables}
-use Rattle.timing_arcs.proofs.OneAnswer.{one_fault_lem, no_fault_beside_lem}
-use Rattle.timing_arcs.proofs.OneModel.{one_model_lem}
 use Rattle.verdict_phases.specs.Phases.{Stop, RefusedBy, Step, Go, Halt}
 use Rattle.gdc_run.specs.declared.arc_rows.ArcRow.{ArcRow}
-use Rattle.gdc_run.specs.declared.refusal.Edge.{Edge}
-use Rattle.gdc_run.specs.declared.refusal.Edge.TheVariants.{Rise, Fall}
-use Rattle.gdc_run.specs.declared.refusal.FileKey.{FileKey}
-use Rattle.gdc_run.specs.declared.refusal.FileKey.TheVariants.{Lib}
-use Rattle.gdc_run.specs.declared.refusal.Part.{Part}
-use Rattle.gdc_run.specs.declared.refusal.Refusal.{Refusal}
-use Rattle.gdc_run.specs.declared.refusal.Refusal.TheVariants as refusal
+use Rattle.cell_models.specs.declared.edge.Edge.{Edge}
+use Rattle.cell_models.specs.declared.edge.Edge.TheVariants.{Rise, Fall}
+use Rattle.delay_core.specs.declared.refusal.FileKey.{FileKey}
+use Rattle.delay_core.specs.declared.refusal.FileKey.TheVariants.{Lib}
+use Rattle.cell_models.specs.declared.edge.Part.{Part}
+use Rattle.delay_core.specs.declared.refusal.Refusal.{Refusal}
+use Rattle.delay_core.specs.declared.refusal.Refusal.TheVariants as refusal
 use Rattle.gdc_run.specs.ArcRows.{ArcEdge, edge_of, edges_of, arc_edges, IsNamed, IsArcRow, Reaches, IsInside, IsEdgeOutside, delay_outside, transition_outside, IsEdgeRefusal, outside_at, IsFirstOutside, AddsEdges, CellGives, all_inside, some_outside}
-use Rattle.gdc_run.specs.LibraryPhases.{ParsesLibrary, is_library, is_no_library, ModelsCell, has_model, no_cell, no_model}
+use Rattle.delay_core.specs.LibraryPhases.{ParsesLibrary, ModelsCell, has_model}
 use Rattle.gdc_run.specs.Verdict.{ReadsLib, ReadsArcs, at_library, at_cell, of_cell, LookupGives, at_library_reading, at_arcs, with_arc_rows}
 use Rattle.gdc_run.specs.OneVerdict.{IsDecided, SameStep, HasOneAnswer}
-use Rattle.gdc_run.proofs.OneRows.{first_without}
+use Rattle.delay_core.proofs.OneLibrary.{one_library_lem, one_cell_lem}
+use Rattle.delay_core.proofs.OneRows.{first_without}
 use Rattle.gdc_run.proofs.OneText.{stops_alike, reads_or_stops, reads_alike}
-use Rattle.gdc_run.proofs.Places.{some_is}
+use Rattle.delay_core.proofs.Places.{some_is}
 
 -- ---- the slew and the load that are asked for
 
@@ -56,32 +50,6 @@ one_grains value one other r s =
     (subst (λ (e : ℤ). IsRoundedPower r.number.digits (e +ℤ pos 6) (pos one)) number.1 r.rounds) in
     let same : pos one ≡ pos other = one_power s.number.digits (s.number.exponent +ℤ pos 6) (pos one) (pos other) moved s.rounds in
     omega (arith, ints, same)
-
--- ---- the library
-
-one_library : (bytes : List ℕ) (one other : Result Group Refusal) → ParsesLibrary bytes one → ParsesLibrary bytes other → one ≡ other
-one_library bytes _ _ (is_library tree says) (is_library also tells) = ap Ok (one_tree bytes tree also says tells)
-one_library bytes _ _ (is_library tree says) (is_no_library fault is) = absurd (is.nothing tree says)
-one_library bytes _ _ (is_no_library fault is) (is_library tree says) = absurd (is.nothing tree says)
-one_library bytes _ _ (is_no_library fault is) (is_no_library also its) =
-    ap (λ (f : SyntaxFault). Err (refusal.LibrarySyntax 0 f.token f.line f.cause)) (one_fault bytes fault also is its)
-
--- ---- the model of a cell
-
-is_no_memory : NoSuchCell ≢ OutOfMemory
-is_no_memory e = cc
-
-one_cell : (library : Group) (name : List ℕ) (one other : Result TimedCell Refusal) → ModelsCell library name one → ModelsCell library name other → one ≡ other
-one_cell library name _ _ (has_model cell is) (has_model also its) = ap Ok (one_model_lem library name cell also is its)
-one_cell library name _ _ (has_model cell is) (no_cell fault) = absurd (is_no_memory (no_fault_beside_lem library name cell NoSuchCell is fault))
-one_cell library name _ _ (has_model cell is) (no_model fault found known bad) = absurd (known (no_fault_beside_lem library name cell fault is bad))
-one_cell library name _ _ (no_cell fault) (has_model cell is) = absurd (is_no_memory (no_fault_beside_lem library name cell NoSuchCell is fault))
-one_cell library name _ _ (no_cell fault) (no_cell also) = refl
-one_cell library name _ _ (no_cell missing) (no_model fault found known bad) = absurd (found (one_fault_lem library name fault NoSuchCell bad missing known is_no_memory))
-one_cell library name _ _ (no_model fault found known bad) (has_model cell is) = absurd (known (no_fault_beside_lem library name cell fault is bad))
-one_cell library name _ _ (no_model fault found known bad) (no_cell missing) = absurd (found (one_fault_lem library name fault NoSuchCell bad missing known is_no_memory))
-one_cell library name _ _ (no_model fault found known bad) (no_model also there told worse) =
-    ap (λ (f : CellFault). Err (refusal.CellFault name 0 f)) (one_fault_lem library name fault also bad worse known told)
 
 -- ---- the rows
 
@@ -217,23 +185,23 @@ abbrev no_cell_model : Refusal → Result TimedCell Refusal
 no_cell_model refusal = Err refusal
 
 module _ (name : List ℕ) (slew load : ℕ) (bytes : List ℕ) where
-  same_tree : (one other : Group) → ParsesLibrary bytes (Ok one) → ParsesLibrary bytes (Ok other) → one ≡ other
-  same_tree one other r s = let same : tree one ≡ tree other = one_library bytes (Ok one) (Ok other) r s in cc
+  same_tree : (one other : Group) → ParsesLibrary 0 bytes (Ok one) → ParsesLibrary 0 bytes (Ok other) → one ≡ other
+  same_tree one other r s = let same : tree one ≡ tree other = one_library_lem 0 bytes (Ok one) (Ok other) r s in cc
 
-  tree_or_fault : (library : Group) (refusal : Refusal) → ParsesLibrary bytes (Ok library) → ParsesLibrary bytes (Err refusal) → ⊥
-  tree_or_fault library refusal r s = let same : tree library ≡ no_tree refusal = one_library bytes (Ok library) (Err refusal) r s in cc
+  tree_or_fault : (library : Group) (refusal : Refusal) → ParsesLibrary 0 bytes (Ok library) → ParsesLibrary 0 bytes (Err refusal) → ⊥
+  tree_or_fault library refusal r s = let same : tree library ≡ no_tree refusal = one_library_lem 0 bytes (Ok library) (Err refusal) r s in cc
 
-  model_or_fault : (library other : Group) (cell : TimedCell) (refusal : Refusal) → library ≡ other → ModelsCell library name (Ok cell) → ModelsCell other name (Err refusal) → ⊥
+  model_or_fault : (library other : Group) (cell : TimedCell) (refusal : Refusal) → library ≡ other → ModelsCell 0 library name (Ok cell) → ModelsCell 0 other name (Err refusal) → ⊥
   model_or_fault library other cell refusal same r s =
-      let equal : model cell ≡ no_cell_model refusal = one_cell other name (Ok cell) (Err refusal) (subst (λ (g : Group). ModelsCell g name (Ok cell)) same r) s in
+      let equal : model cell ≡ no_cell_model refusal = one_cell_lem 0 other name (Ok cell) (Err refusal) (subst (λ (g : Group). ModelsCell 0 g name (Ok cell)) same r) s in
       cc
 
-  has_tables : (library : Group) (cell : TimedCell) → ModelsCell library name (Ok cell) → AllByRecursion HasTables cell.arcs
+  has_tables : (library : Group) (cell : TimedCell) → ModelsCell 0 library name (Ok cell) → AllByRecursion HasTables cell.arcs
   has_tables library cell (has_model _ is) = model_tables library name cell is
 
   one_answer : (one other : Result (List ArcRow) Refusal) → ReadsArcs name slew load bytes one → ReadsArcs name slew load bytes other → one ≡ other
   one_answer _ _ (at_library refusal parses) (at_library also fails) =
-      let same : no_tree refusal ≡ no_tree also = one_library bytes (Err refusal) (Err also) parses fails in
+      let same : no_tree refusal ≡ no_tree also = one_library_lem 0 bytes (Err refusal) (Err also) parses fails in
       let equal : refusal ≡ also = cc in
       ap Err equal
   one_answer _ _ (at_library refusal parses) (at_cell library also says models) = absurd (tree_or_fault library refusal says parses)
@@ -241,14 +209,14 @@ module _ (name : List ℕ) (slew load : ℕ) (bytes : List ℕ) where
   one_answer _ _ (at_cell library refusal says models) (at_library also fails) = absurd (tree_or_fault library also says fails)
   one_answer _ _ (at_cell library refusal says models) (at_cell other also tells fails) =
       let same : no_cell_model refusal ≡ no_cell_model also =
-      one_cell other name (Err refusal) (Err also) (subst (λ (g : Group). ModelsCell g name (Err refusal)) (same_tree library other says tells) models) fails in
+      one_cell_lem 0 other name (Err refusal) (Err also) (subst (λ (g : Group). ModelsCell 0 g name (Err refusal)) (same_tree library other says tells) models) fails in
       let equal : refusal ≡ also = cc in
       ap Err equal
   one_answer _ _ (at_cell library refusal says models) (of_cell other cell answer tells makes gives) = absurd (model_or_fault other library cell refusal (same_tree other library tells says) makes models)
   one_answer _ _ (of_cell library cell answer says models gives) (at_library also fails) = absurd (tree_or_fault library also says fails)
   one_answer _ _ (of_cell library cell answer says models gives) (at_cell other also tells fails) = absurd (model_or_fault library other cell also (same_tree library other says tells) models fails)
   one_answer one other (of_cell library cell _ says models gives) (of_cell more also _ tells makes its) =
-      let equal : model cell ≡ model also = one_cell more name (Ok cell) (Ok also) (subst (λ (g : Group). ModelsCell g name (Ok cell)) (same_tree library more says tells) models) makes in
+      let equal : model cell ≡ model also = one_cell_lem 0 more name (Ok cell) (Ok also) (subst (λ (g : Group). ModelsCell 0 g name (Ok cell)) (same_tree library more says tells) models) makes in
       let same : cell ≡ also = cc in
       one_giving name also slew load one other (has_tables more also makes) (subst (λ (c : TimedCell). CellGives name c slew load one) same gives) its
 

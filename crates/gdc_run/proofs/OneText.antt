@@ -3,13 +3,13 @@ use Rattle.std.proofs.Common.{◌≡◌, ℕ, inl, List, length, Some, None, ref
 use Rattle.edge_io.specs.Holding.{Held}
 use Rattle.verdict_phases.specs.Phases.{Stop, RefusedBy, Unread, Reads, Step, Go, Halt}
 use Rattle.verdict_phases.specs.FileReading.{ReadsFile}
-use Rattle.gdc_run.specs.declared.refusal.FileKey.{FileKey}
-use Rattle.gdc_run.specs.declared.refusal.LimitKind.TheVariants.{File}
-use Rattle.gdc_run.specs.declared.refusal.Refusal.{Refusal}
-use Rattle.gdc_run.specs.declared.refusal.Refusal.TheVariants.{Limit}
-use Rattle.gdc_run.specs.Verdict.{file_limit}
+use Rattle.delay_core.specs.declared.refusal.FileKey.{FileKey}
+use Rattle.delay_core.specs.declared.refusal.LimitKind.TheVariants.{File}
+use Rattle.delay_core.specs.declared.refusal.Refusal.{Refusal}
+use Rattle.delay_core.specs.declared.refusal.Refusal.TheVariants.{Limit}
+use Rattle.delay_core.specs.InputFiles.{file_limit}
 use Rattle.gdc_run.specs.OneVerdict.{IsFinal, IsDecided, SameStop}
-use Rattle.gdc_run.proofs.Places.{some_is}
+use Rattle.delay_core.proofs.Places.{some_is}
 
 -- a file has one text, or one reason why it is not read
 pub one_text : {R K : Type 0} (limit : ℕ) (held : Held) (key : K) (too_long : R) (name : List ℕ) (one other : Step R K (List ℕ)) → ReadsFile limit (Some held) key too_long name one → ReadsFile limit (Some held) key too_long name other

@@ -12,14 +12,15 @@ use Rattle.gdc_words.specs.declared.commands.Command.TheVariants.{Wires, Show, L
 use Rattle.gdc_words.specs.declared.commands.Key.TheVariants as key
 use Rattle.gdc_words.specs.declared.faults.UsageFault.{UsageFault}
 use Rattle.gdc_words.proofs.Pairs.{one_request}
-use Rattle.gdc_run.specs.declared.refusal.FileKey.{FileKey}
-use Rattle.gdc_run.specs.declared.refusal.FileKey.TheVariants.{Sdf}
-use Rattle.gdc_run.specs.declared.refusal.LimitKind.TheVariants.{File}
-use Rattle.gdc_run.specs.declared.refusal.Refusal.{Refusal}
-use Rattle.gdc_run.specs.declared.refusal.Refusal.TheVariants.{Limit, SdfSyntax}
+use Rattle.delay_core.specs.declared.refusal.FileKey.{FileKey}
+use Rattle.delay_core.specs.declared.refusal.FileKey.TheVariants.{Sdf}
+use Rattle.delay_core.specs.declared.refusal.LimitKind.TheVariants.{File}
+use Rattle.delay_core.specs.declared.refusal.Refusal.{Refusal}
+use Rattle.delay_core.specs.declared.refusal.Refusal.TheVariants.{Limit, SdfSyntax}
 use Rattle.gdc_run.specs.declared.output.Output.{Output}
 use Rattle.gdc_run.specs.declared.output.Output.TheVariants as output
-use Rattle.gdc_run.specs.Verdict.{file_limit, ParsesSdf, is_sdf_file, is_no_sdf_file, ShowGives, WiresGives, LookupGives, at_sdf_reading, at_sdf, with_sdf_rows, As, CommandGives, Faulty, Answers}
+use Rattle.delay_core.specs.InputFiles.{file_limit}
+use Rattle.gdc_run.specs.Verdict.{ParsesSdf, is_sdf_file, is_no_sdf_file, ShowGives, WiresGives, LookupGives, at_sdf_reading, at_sdf, with_sdf_rows, As, CommandGives, Faulty, Answers}
 use Rattle.gdc_run.specs.OneVerdict.{SameStep, HasOneAnswer, OneVerdict}
 use Rattle.gdc_run.proofs.OneLookup.{one_grains, one_lookup}
 use Rattle.gdc_run.proofs.OneText.{read, stops_alike, reads_or_stops, reads_alike}

@@ -8,16 +8,16 @@ use Rattle.spef_text.specs.SpefFiles.{SpefText}
 use Rattle.spef_text.specs.Heads.{HeadText}
 use Rattle.spef_nets.specs.NetElements.{NetElements, AreWhole}
 use Rattle.verdict_phases.specs.Phases.{Stop, RefusedBy, Step, Go, Halt}
-use Rattle.gdc_run.specs.declared.refusal.FileKey.{FileKey}
-use Rattle.gdc_run.specs.declared.refusal.FileKey.TheVariants.{Spef}
-use Rattle.gdc_run.specs.declared.refusal.Refusal.{Refusal}
-use Rattle.gdc_run.specs.SpefPhases.{sole_corner, DesignNets, NetsSpef, are_nets}
-use Rattle.gdc_run.specs.WireNets.{RowsOf}
-use Rattle.gdc_run.specs.WireRows.{TextGives, unread, of_design}
-use Rattle.gdc_run.specs.Verdict.{ReadsSpef, ReadsNets, through, WiresGives, at_reading, at_spef, at_nets, with_rows}
+use Rattle.delay_core.specs.declared.refusal.FileKey.{FileKey}
+use Rattle.delay_core.specs.declared.refusal.FileKey.TheVariants.{Spef}
+use Rattle.delay_core.specs.declared.refusal.Refusal.{Refusal}
+use Rattle.delay_core.specs.SpefPhases.{sole_corner, DesignNets, NetsSpef, are_nets, ReadsNets, through}
+use Rattle.delay_core.specs.WireNets.{RowsOf}
+use Rattle.delay_core.specs.WireRows.{TextGives, unread, of_design}
+use Rattle.gdc_run.specs.Verdict.{ReadsSpef, WiresGives, at_reading, at_spef, at_nets, with_rows}
 use Rattle.gdc_run.specs.OneVerdict.{IsDecided, SameStep, HasOneAnswer}
-use Rattle.gdc_run.proofs.OneSpefFile.{one_file_refusal, no_design_beside, one_design}
-use Rattle.gdc_run.proofs.OneRows.{SameAnswer, one_rows}
+use Rattle.delay_core.proofs.OneSpefFile.{one_file_refusal, no_design_beside, one_design}
+use Rattle.delay_core.proofs.OneRows.{SameAnswer, one_rows}
 use Rattle.gdc_run.proofs.OneText.{stops_alike, reads_or_stops, reads_alike}
 
 whole_nets : (pick : Pick) (file : SpefText) (head : HeadText) (nets : List NetElements) → NetsSpef (sole_corner pick) file head (Ok nets) → All (AreWhole 1) nets

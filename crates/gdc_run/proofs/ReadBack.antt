@@ -25,18 +25,18 @@ use Rattle.spef_nets.specs.NetElements.{NetElements, AreWhole}
 use Rattle.spef_text.specs.SpefFiles.{SpefText, IsFormed}
 use Rattle.spef_text.specs.Heads.{HeadText}
 use Rattle.verdict_phases.specs.Phases.{Go}
-use Rattle.gdc_run.specs.AnnotationRows.{Wire, IsWireDelay, IsAnnotationRow}
+use Rattle.delay_core.specs.AnnotationRows.{Wire, IsWireDelay, IsAnnotationRow}
 use Rattle.gdc_run.specs.Outcomes.{OnDone, GivesText, GivesReadable}
 use Rattle.gdc_run.specs.ReadBack.{HasNoComment, IsReadable, IsAlwaysReadable}
-use Rattle.gdc_run.specs.SpefPhases.{sole_corner, DesignNets, ParsesSpef, is_spef, NetsSpef, are_nets}
-use Rattle.gdc_run.specs.Verdict.{ReadsNets, through, WiresGives, with_rows, CommandGives}
-use Rattle.gdc_run.specs.WireNets.{HasDriver, NetGives, is_tree, NetsGive, no_net, and_net}
+use Rattle.delay_core.specs.SpefPhases.{sole_corner, DesignNets, ParsesSpef, is_spef, NetsSpef, are_nets, ReadsNets, through}
+use Rattle.gdc_run.specs.Verdict.{WiresGives, with_rows, CommandGives}
+use Rattle.delay_core.specs.WireNets.{HasDriver, NetGives, is_tree, NetsGive, no_net, and_net}
 use Rattle.gdc_run.specs.declared.outcome.Outcome.{Outcome}
 use Rattle.gdc_run.specs.declared.outcome.Outcome.TheVariants.{Done, Refused, Usage, ReadFault, WriteFault, OutOfMemory}
 use Rattle.gdc_run.specs.declared.output.Output.{Output}
 use Rattle.gdc_run.specs.declared.output.Output.TheVariants as output
-use Rattle.gdc_run.proofs.OneRows.{IsNamed, driver_named, sinks_named}
-use Rattle.gdc_run.proofs.Places.{at_contains}
+use Rattle.delay_core.proofs.OneRows.{IsNamed, driver_named, sinks_named}
+use Rattle.delay_core.proofs.Places.{at_contains}
 use Rattle.gdc_run.proofs.SettledNames.{Settles, nets_settle}
 use Rattle.gdc_run.proofs.SmallDelays.{delay_within}
 

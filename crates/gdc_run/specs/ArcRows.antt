@@ -11,12 +11,12 @@ use Rattle.cell_models.specs.declared.cell.Arc.{Arc}
 use Rattle.cell_models.specs.declared.cell.EdgeTables.{EdgeTables}
 use Rattle.cell_models.specs.declared.cell.Pin.{Pin}
 use Rattle.gdc_run.specs.declared.arc_rows.ArcRow.{ArcRow}
-use Rattle.gdc_run.specs.declared.refusal.Edge.{Edge}
-use Rattle.gdc_run.specs.declared.refusal.Edge.TheVariants.{Rise, Fall}
-use Rattle.gdc_run.specs.declared.refusal.Part.{Part}
-use Rattle.gdc_run.specs.declared.refusal.Part.TheVariants.{Delay, Transition}
-use Rattle.gdc_run.specs.declared.refusal.Refusal.{Refusal}
-use Rattle.gdc_run.specs.declared.refusal.Refusal.TheVariants as refusal
+use Rattle.cell_models.specs.declared.edge.Edge.{Edge}
+use Rattle.cell_models.specs.declared.edge.Edge.TheVariants.{Rise, Fall}
+use Rattle.cell_models.specs.declared.edge.Part.{Part}
+use Rattle.cell_models.specs.declared.edge.Part.TheVariants.{Delay, Transition}
+use Rattle.delay_core.specs.declared.refusal.Refusal.{Refusal}
+use Rattle.delay_core.specs.declared.refusal.Refusal.TheVariants as refusal
 
 -- an edge that an arc has, with its tables
 pub record ArcEdge : Type 0 where

@@ -4,8 +4,8 @@ use Rattle.edge_io.specs.Holding.{Held}
 use Rattle.verdict_phases.specs.Phases.{RefusedBy, Reads, Go, Halt}
 use Rattle.verdict_phases.specs.declared.ends.PhaseEnd.{PhaseEnd}
 use Rattle.verdict_phases.specs.declared.ends.PhaseEnd.TheVariants as phase
-use Rattle.gdc_run.specs.declared.refusal.FileKey.{FileKey}
-use Rattle.gdc_run.specs.declared.refusal.Refusal.{Refusal}
+use Rattle.delay_core.specs.declared.refusal.FileKey.{FileKey}
+use Rattle.delay_core.specs.declared.refusal.Refusal.{Refusal}
 use Rattle.gdc_words.specs.declared.faults.WordsEnd.{WordsEnd}
 use Rattle.gdc_words.specs.declared.faults.WordsEnd.TheVariants as words
 use Rattle.gdc_run.specs.declared.top.End.{End}

@@ -8,7 +8,7 @@ use Rattle.cell_models.specs.declared.cell.Pin.{Pin}
 use Rattle.gdc_run.specs.ArcRows.{IsNamed}
 use Rattle.gdc_run.specs.declared.arc_rows.ArcRow.{ArcRow}
 use Rattle.gdc_run.specs.declared.arc_rows.Looked.{Looked}
-use Rattle.gdc_run.specs.declared.refusal.Edge.{Edge}
+use Rattle.cell_models.specs.declared.edge.Edge.{Edge}
 
 -- what both tables say
 pub record IsLooked (slew load : ℕ) (tables : EdgeTables) (looked : Looked) : Type 0 where

@@ -1,13 +1,11 @@
 -- That the verdict is one: what two verdicts on the same words and on the same files have in common.
-use Rattle.std.specs.Prelude.{◌≡◌, ℕ, ◌⊎◌, List, Some, Result}
+use Rattle.std.specs.Prelude.{◌≡◌, ℕ, List, Some}
 use Rattle.edge_io.specs.Holding.{Held}
 use Rattle.verdict_phases.specs.Phases.{Stop, RefusedBy, Unread, Reads, Step, Go, Halt}
-use Rattle.gdc_run.specs.declared.refusal.FileKey.{FileKey}
-use Rattle.gdc_run.specs.declared.refusal.Refusal.{Refusal}
-use Rattle.gdc_run.specs.declared.refusal.Refusal.TheVariants.{Mesh}
-use Rattle.corner_set.specs.declared.pick.Pick.{Pick}
-use Rattle.gdc_run.specs.SpefPhases.{sole_corner, DesignNets}
-use Rattle.gdc_run.specs.Verdict.{ReadsNets, Verdict, Faulty, Answers, Gives}
+use Rattle.delay_core.specs.declared.refusal.FileKey.{FileKey}
+use Rattle.delay_core.specs.declared.refusal.Refusal.{Refusal}
+use Rattle.delay_core.specs.OneAnswer.{SameRefusal}
+use Rattle.gdc_run.specs.Verdict.{Verdict, Faulty, Answers, Gives}
 
 -- a stop decides, other than one at the reading of a file, where a fault of the outside may come or not
 abbrev pub IsFinal : {R K : Type 0} → Stop R K → Type 0
@@ -18,18 +16,6 @@ IsFinal (Reads key) = ⊥
 abbrev pub IsDecided : {R K A : Type 0} → Step R K A → Type 0
 IsDecided (Go value) = Unit {0}
 IsDecided (Halt why) = IsFinal why
-
--- both refuse one net for a mesh, each by some resistor that cuts no node off
-pub record AreMeshes (one other : Refusal) : Type 0 where
-  pub net : List ℕ
-  pub first : ℕ
-  pub second : ℕ
-  pub one_is : one ≡ Mesh net first
-  pub other_is : other ≡ Mesh net second
-
--- two refusals are one, the resistor of a mesh aside
-abbrev pub SameRefusal : Refusal → Refusal → Type 0
-SameRefusal one other = (one ≡ other) ⊎ AreMeshes one other
 
 -- two stops are one, the resistor of a mesh aside
 abbrev pub SameStop : Stop Refusal FileKey → Stop Refusal FileKey → Type 0
@@ -66,8 +52,3 @@ HasOneVerdict words held = (one other : Verdict) → Gives words (Some held) one
 -- the verdict is one
 abbrev pub OneVerdict : Type 0
 OneVerdict = (words : List (List ℕ)) (held : Held) → HasOneVerdict words held
-
--- the bytes of a SPEF file have one answer: nets, or a refusal
-abbrev pub OneReading : Type 0
-OneReading = (pick : Pick) (bytes : List ℕ) (one other : Result DesignNets Refusal) → ReadsNets (sole_corner pick) bytes one
-    → ReadsNets (sole_corner pick) bytes other → one ≡ other

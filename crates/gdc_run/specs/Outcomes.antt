@@ -1,5 +1,5 @@
 -- What each way in which a run ends says of the verdict, and of what was written.
-use Rattle.std.specs.Prelude.{◌≡◌, ℕ, ◌⊎◌, List, Option, Ok, Err}
+use Rattle.std.specs.Prelude.{◌≡◌, ℕ, ◌⊎◌, List, [], Option, Ok, Err}
 use Rattle.edge_io.specs.Counts.{Rose, RoseBy}
 use Rattle.edge_io.specs.Holding.{Held, TellsMissing}
 use Rattle.verdict_phases.specs.Phases.{Reads, Go, Halt}
@@ -7,9 +7,9 @@ use Rattle.gdc_words.specs.declared.commands.Command.{Command}
 use Rattle.gdc_words.specs.declared.commands.Command.TheVariants.{Wires, Show, Lookup}
 use Rattle.gdc_words.specs.declared.commands.Key.TheVariants as key
 use Rattle.gdc_words.specs.declared.faults.UsageFault.{UsageFault}
-use Rattle.gdc_run.specs.declared.refusal.FileKey.{FileKey}
-use Rattle.gdc_run.specs.declared.refusal.FileKey.TheVariants.{Spef, Sdf, Lib}
-use Rattle.gdc_run.specs.declared.refusal.Refusal.{Refusal}
+use Rattle.delay_core.specs.declared.refusal.FileKey.{FileKey}
+use Rattle.delay_core.specs.declared.refusal.FileKey.TheVariants.{Spef, Sdf, Lib}
+use Rattle.delay_core.specs.declared.refusal.Refusal.{Refusal}
 use Rattle.gdc_run.specs.declared.outcome.Outcome.{Outcome}
 use Rattle.gdc_run.specs.declared.outcome.Outcome.TheVariants.{Done, Refused, Usage, ReadFault, WriteFault, OutOfMemory}
 use Rattle.gdc_words.specs.CommandLine.{Request, Asks, value_of}
@@ -57,11 +57,12 @@ GivesText words held fact = (output : Output) × Gives words held (Answers (Go o
 abbrev pub GivesReadable : List (List ℕ) → Option Held → (List ℕ → Type 0) → Type 0
 GivesReadable words held fact = (output : Output) × Gives words held (Answers (Go output)) × IsReadable output × fact (output_text output)
 
--- the name of the file of a key
+-- the name of the file of a key, and nothing where no command has the key
 abbrev pub name_of : Request → FileKey → List ℕ
 name_of request Spef = value_of request.given key.Spef
 name_of request Sdf = value_of request.given key.Sdf
 name_of request Lib = value_of request.given key.Lib
+name_of request _ = []
 
 -- the place of the file of a key in the order in which a command reads its files, from 1; 0 where it does not read it
 abbrev pub place_for : Command → FileKey → ℕ

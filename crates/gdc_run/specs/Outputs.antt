@@ -8,7 +8,7 @@ use Rattle.gdc_words.specs.HelpText.{help_text, version_text}
 use Rattle.gdc_run.specs.declared.output.Output.{Output}
 use Rattle.gdc_run.specs.declared.output.Output.TheVariants.{Sdf, Listing, Arcs, Help, Version}
 use Rattle.gdc_run.specs.declared.arc_rows.ArcRow.{ArcRow}
-use Rattle.gdc_run.specs.RefusalText.{edge_text}
+use Rattle.delay_core.specs.RefusalLine.{edge_text}
 
 -- the lines of rows, and then their summary
 abbrev pub listing_text : List SdfRow → List ℕ

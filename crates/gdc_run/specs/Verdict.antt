@@ -1,7 +1,7 @@
 -- The verdict on the words and on what a shelf holds: what a run has to answer.
 --
 -- The phases are asked in order, and the first that stops decides. Each is a relation, named for what it relates.
-use Rattle.std.specs.Prelude.{◌≡◌, ℕ, ◌^◌, List, Option, Result, Ok, Err}
+use Rattle.std.specs.Prelude.{◌≡◌, ℕ, List, Option, Result, Ok, Err}
 use Rattle.edge_io.specs.Holding.{Held}
 use Rattle.sdf_writer.specs.SdfText.{SdfRows}
 use Rattle.sdf_reader.specs.Answers.{SaysRows}
@@ -14,31 +14,24 @@ use Rattle.gdc_words.specs.declared.commands.Command.{Command}
 use Rattle.gdc_words.specs.declared.commands.Command.TheVariants.{Wires, Show, Lookup, Help, Version}
 use Rattle.gdc_words.specs.declared.commands.Key.TheVariants as key
 use Rattle.gdc_words.specs.declared.faults.UsageFault.{UsageFault}
-use Rattle.gdc_run.specs.declared.refusal.FileKey.{FileKey}
-use Rattle.gdc_run.specs.declared.refusal.FileKey.TheVariants.{Spef, Sdf, Lib}
-use Rattle.gdc_run.specs.declared.refusal.LimitKind.TheVariants.{File}
-use Rattle.gdc_run.specs.declared.refusal.Refusal.{Refusal}
-use Rattle.gdc_run.specs.declared.refusal.Refusal.TheVariants.{Limit, SdfSyntax}
+use Rattle.delay_core.specs.declared.refusal.FileKey.{FileKey}
+use Rattle.delay_core.specs.declared.refusal.FileKey.TheVariants.{Spef, Sdf, Lib}
+use Rattle.delay_core.specs.declared.refusal.LimitKind.TheVariants.{File}
+use Rattle.delay_core.specs.declared.refusal.Refusal.{Refusal}
+use Rattle.delay_core.specs.declared.refusal.Refusal.TheVariants.{Limit, SdfSyntax}
 use Rattle.gdc_words.specs.CommandLine.{Request, Asks, value_of, pick_from}
 use Rattle.corner_set.specs.declared.pick.Pick.{Pick}
-use Rattle.spef_text.specs.SpefFiles.{SpefText}
-use Rattle.spef_text.specs.Heads.{HeadText}
-use Rattle.spef_nets.specs.NetElements.{NetElements}
-use Rattle.spef_nets.specs.Sections.{Corners}
-use Rattle.gdc_run.specs.SpefPhases.{sole_corner, DesignNets, ParsesSpef, HeadsSpef, NetsSpef}
+use Rattle.delay_core.specs.InputFiles.{file_limit}
+use Rattle.delay_core.specs.SpefPhases.{sole_corner, DesignNets, ReadsNets}
 use Rattle.gdc_words.specs.Decimals.{IsGrains}
 use Rattle.liberty_groups.specs.Groups.{Group}
 use Rattle.cell_models.specs.Cells.{TimedCell}
 use Rattle.gdc_run.specs.ArcRows.{CellGives}
-use Rattle.gdc_run.specs.LibraryPhases.{ParsesLibrary, ModelsCell}
+use Rattle.delay_core.specs.LibraryPhases.{ParsesLibrary, ModelsCell}
 use Rattle.gdc_run.specs.declared.arc_rows.ArcRow.{ArcRow}
-use Rattle.gdc_run.specs.WireNets.{RowsOf}
+use Rattle.delay_core.specs.WireNets.{RowsOf}
 use Rattle.gdc_run.specs.declared.output.Output.{Output}
 use Rattle.gdc_run.specs.declared.output.Output.TheVariants as output
-
--- how many bytes of a file are read at the most
-abbrev pub file_limit : ℕ
-file_limit = 2 ^ 28
 
 -- the phase that reads the SPEF file
 abbrev pub ReadsSpef : Option Held → List ℕ → Step Refusal FileKey (List ℕ) → Type 0
@@ -47,16 +40,6 @@ ReadsSpef held name step = ReadsFile file_limit held Spef (Limit (File Spef)) na
 -- the phase that reads the SDF file
 abbrev pub ReadsSdf : Option Held → List ℕ → Step Refusal FileKey (List ℕ) → Type 0
 ReadsSdf held name step = ReadsFile file_limit held Sdf (Limit (File Sdf)) name step
-
--- what the bytes of a SPEF file say of their nets at these corners: its grammar, its head and its sections are read
-pub data ReadsNets {I : Type 0} (corners : Corners I) (bytes : List ℕ) : Result DesignNets Refusal → Type 0 where
-  at_grammar : (refusal : Refusal) → ParsesSpef bytes (Err refusal) → ReadsNets corners bytes (Err refusal)
-  at_head : (file : SpefText) (refusal : Refusal) → ParsesSpef bytes (Ok file) → HeadsSpef file (Err refusal)
-      → ReadsNets corners bytes (Err refusal)
-  at_sections : (file : SpefText) (head : HeadText) (refusal : Refusal) → ParsesSpef bytes (Ok file) → HeadsSpef file (Ok head)
-      → NetsSpef corners file head (Err refusal) → ReadsNets corners bytes (Err refusal)
-  through : (file : SpefText) (head : HeadText) (nets : List NetElements) → ParsesSpef bytes (Ok file) → HeadsSpef file (Ok head)
-      → NetsSpef corners file head (Ok nets) → ReadsNets corners bytes (Ok (record { design = head.design; nets = nets }))
 
 -- `wires`: the SPEF file is read, then its nets, in its order, and each gives its rows
 pub data WiresGives (held : Option Held) (pick : Pick) (name : List ℕ) : Step Refusal FileKey SdfRows → Type 0 where
@@ -90,11 +73,11 @@ ReadsLib held name step = ReadsFile file_limit held Lib (Limit (File Lib)) name 
 -- what the bytes of a library say of the cell of a name at a slew and a load: its grammar is read, then the model of the cell, and then
 -- each of its tables is looked up
 pub data ReadsArcs (name : List ℕ) (slew load : ℕ) (bytes : List ℕ) : Result (List ArcRow) Refusal → Type 0 where
-  at_library : (refusal : Refusal) → ParsesLibrary bytes (Err refusal) → ReadsArcs name slew load bytes (Err refusal)
-  at_cell : (library : Group) (refusal : Refusal) → ParsesLibrary bytes (Ok library) → ModelsCell library name (Err refusal)
+  at_library : (refusal : Refusal) → ParsesLibrary 0 bytes (Err refusal) → ReadsArcs name slew load bytes (Err refusal)
+  at_cell : (library : Group) (refusal : Refusal) → ParsesLibrary 0 bytes (Ok library) → ModelsCell 0 library name (Err refusal)
       → ReadsArcs name slew load bytes (Err refusal)
-  of_cell : (library : Group) (cell : TimedCell) (answer : Result (List ArcRow) Refusal) → ParsesLibrary bytes (Ok library)
-      → ModelsCell library name (Ok cell) → CellGives name cell slew load answer → ReadsArcs name slew load bytes answer
+  of_cell : (library : Group) (cell : TimedCell) (answer : Result (List ArcRow) Refusal) → ParsesLibrary 0 bytes (Ok library)
+      → ModelsCell 0 library name (Ok cell) → CellGives name cell slew load answer → ReadsArcs name slew load bytes answer
 
 -- `lookup`: the library is read, and then what it says of the cell
 pub data LookupGives (held : Option Held) (file name : List ℕ) (slew load : ℕ) : Step Refusal FileKey (List ArcRow) → Type 0 where

@@ -2,11 +2,12 @@
 ghost use Rattle.std.specs.Prelude.{◌≡◌, ◌+◌, ◌*◌, ◌<◌, ◌≤◌, [], ◌∷◌, ◌++◌, ℤ, pos, ◌≤ℤ◌, length, unsigned_abs, IfOk, IfErr, OnOk};
 ghost use Rattle.verdict_phases.specs.Phases.{FollowsNoFile};
 ghost use Rattle.nldm_lookup.specs.Axes.{most};
-ghost use Rattle.gdc_run.specs.NetRows.{OnRefusal};
+ghost use Rattle.delay_core.specs.Refused.{OnRefusal};
 ghost use Rattle.gdc_run.specs.ArcRows.{arc_edges, edge_of, edges_of, IsInside, IsEdgeOutside, IsEdgeRefusal, IsFirstOutside, AddsEdges, CellGives};
 ghost use Rattle.gdc_run.specs.Looking.{IsLooked, IsRowOf};
 
-use crate::refusal::{Edge, Part, Refusal};
+use cell_models::{Edge, Part};
+use delay_core::Refusal;
 use delay_units::{Atto, Farads};
 use edge_io::{OutOfMemory, Steps, Text};
 use nldm_lookup::{Grain, Outside};

@@ -1,5 +1,5 @@
 //! The laws of the verdict, and of what the program writes.
-ghost use Rattle.gdc_run.specs.OneVerdict.{OneReading, OneVerdict};
+ghost use Rattle.gdc_run.specs.OneVerdict.{OneVerdict};
 ghost use Rattle.gdc_run.specs.ReadBack.{IsAlwaysReadable};
 
 use sdf_read_back::{nodes_settle, settled_read_back};
@@ -13,13 +13,6 @@ pub fn always_readable()
     nodes_settle();
     settled_read_back();
 }
-
-/// The law of SPEF files, which its contract states: the bytes of a file have one answer. They say nets, all of whose sections are
-/// without a fault, or they have one refusal. It does nothing when it is called.
-#[tactic(auto, using(crate::proofs::OneSpefFile::one_reading))]
-pub fn one_reading()
-    ensures law { OneReading }
-{}
 
 /// The law of verdicts, which its contract states: on words and on files that are told there is one verdict.
 /// A net whose resistors close a loop may be refused by any resistor of it. That the phases come to the reading of a

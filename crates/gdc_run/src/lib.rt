@@ -5,22 +5,15 @@
 
 mod arc_rows;
 mod laws;
-mod library_phases;
 mod lines;
 mod lookup;
-mod net_pins;
-mod net_rows;
 mod outcome;
 mod output;
 mod performing;
-mod refusal;
 mod show;
-mod spef_phases;
 mod top;
-mod wire_rows;
 mod wires;
 
-pub use laws::{one_reading, one_verdict};
+pub use laws::one_verdict;
 pub use outcome::Outcome;
-pub use refusal::{Edge, FileKey, IndexKind, LimitKind, NumberKind, Part, Refusal};
 pub use top::run;

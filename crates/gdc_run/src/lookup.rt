@@ -4,19 +4,21 @@ ghost use Rattle.edge_io.specs.Counts.{Rose, RoseBy};
 ghost use Rattle.edge_io.specs.Holding.{TellsMissing};
 ghost use Rattle.verdict_phases.specs.Phases.{Follows, FollowsNoFile};
 ghost use Rattle.gdc_run.specs.Ends.{AtReadFault};
-ghost use Rattle.gdc_run.specs.declared.refusal.FileKey.TheVariants.{Lib};
-ghost use Rattle.gdc_run.specs.NetRows.{OnRefusal};
+ghost use Rattle.delay_core.specs.declared.refusal.FileKey.TheVariants.{Lib};
+ghost use Rattle.delay_core.specs.Refused.{OnRefusal};
 ghost use Rattle.gdc_run.specs.Verdict.{ReadsArcs, LookupGives};
-ghost use Rattle.gdc_run.specs.Work.{CellWork, LookupWork, IsWithin, OnEarly, is_early};
+ghost use Rattle.delay_core.specs.SpefWork.{IsWithin, is_early};
+ghost use Rattle.gdc_run.specs.Work.{CellWork, LookupWork, OnEarly};
 
 use crate::arc_rows::{ArcRows, Point, arc_rows};
-use crate::library_phases::{model_cell, parse_library};
-use crate::refusal::{FileKey, LimitKind, Refusal};
-use crate::wires::FILE_LIMIT;
+use delay_core::{FILE_LIMIT, FileKey, LimitKind, Refusal, model_cell, parse_library};
 use edge_io::{Shelf, Steps, Text};
 use std::alloc::Global;
 use std::sync::ledger::Ledger;
 use verdict_phases::{NoFileEnd, PhaseEnd, read_phase};
+
+// The number of the corner of a run with one library.
+const SOLE_CORNER: usize = 0;
 
 /// The rows of the cell of that name in the text of a library, at a slew and a load.
 #[tactic(auto, using(crate::specs::Verdict::at_library, crate::specs::Verdict::at_cell, crate::specs::Verdict::of_cell, crate::proofs::Work::no_cell_work, crate::proofs::Work::cell_work, crate::proofs::ArcLemmas::rows_late))]
@@ -32,8 +34,8 @@ fn arc_rows_of_library<L: Ledger>(
     ensures steps { IsWithin (CellWork cell.now text) steps.old steps.new }
     ensures no_steps { OnRefusal result (λ refusal. IsTrue (is_early refusal) → steps.new ≡ steps.old) }
 {
-    let tree = parse_library(alloc, text.bytes())?;
-    let model = model_cell(alloc, &tree, cell)?;
+    let tree = parse_library(alloc, SOLE_CORNER, text.bytes())?;
+    let model = model_cell(alloc, SOLE_CORNER, &tree, cell)?;
     arc_rows(alloc, cell, &model, at, steps)
 }
 

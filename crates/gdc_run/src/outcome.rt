@@ -2,7 +2,7 @@
 ghost use Rattle.std.specs.Prelude.{◌≡◌};
 ghost use Rattle.gdc_run.specs.Statuses.{status_of};
 
-use crate::refusal::{FileKey, Refusal};
+use delay_core::{FileKey, Refusal};
 use gdc_words::UsageFault;
 
 /// How a run ends.

@@ -2,11 +2,12 @@
 ghost use Rattle.edge_io.specs.Writing.{Writes};
 ghost use Rattle.std.specs.Prelude.{◌≡◌, ◌≤◌, ◌^◌, ◌∷◌, ◌++◌, [], codes, take, unsigned_abs, flat_map};
 ghost use Rattle.delay_units.specs.Printing.{signed_fixed_text, atto_text};
-ghost use Rattle.gdc_run.specs.RefusalText.{edge_text};
+ghost use Rattle.delay_core.specs.RefusalLine.{edge_text};
 ghost use Rattle.gdc_run.specs.Outputs.{listing_text, names_text, times_text, arc_line, arcs_text, output_text};
 
 use crate::arc_rows::{ArcRow, ArcRows};
 use corner_set::Single;
+use delay_core::edge_word;
 use delay_units::{Femto, Text32, write_atto, write_femto};
 use edge_io::{Failed, Sink, write_5, write_all};
 use gdc_words::{help_text, version_text};
@@ -47,7 +48,7 @@ fn write_names<O: Sink>(row: &ArcRow, out: &mut O) -> Result<(), Failed>
         b" ",
         row.to.bytes(),
         b" ",
-        row.edge.word(),
+        edge_word(&row.edge),
     )
 }
 

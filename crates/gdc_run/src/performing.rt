@@ -4,14 +4,15 @@ ghost use Rattle.verdict_phases.specs.Phases.{Follows};
 ghost use Rattle.gdc_run.specs.Ends.{AtReadFault};
 ghost use Rattle.gdc_run.specs.Outcomes.{HasCause};
 ghost use Rattle.gdc_run.specs.Verdict.{CommandGives};
-ghost use Rattle.gdc_run.specs.Work.{CommandWork, IsWithin, OnEarly};
+ghost use Rattle.delay_core.specs.SpefWork.{IsWithin};
+ghost use Rattle.gdc_run.specs.Work.{CommandWork, OnEarly};
 
 use crate::arc_rows::Point;
 use crate::lookup::lookup;
 use crate::output::Output;
-use crate::refusal::{FileKey, Refusal};
 use crate::show::show;
 use crate::wires::wires;
+use delay_core::{FileKey, Refusal};
 use edge_io::{Shelf, Steps};
 use gdc_words::{Asked, Command, Key};
 use std::alloc::Global;

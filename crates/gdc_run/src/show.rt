@@ -5,10 +5,9 @@ ghost use Rattle.edge_io.specs.Holding.{TellsMissing};
 ghost use Rattle.verdict_phases.specs.Phases.{Follows, FollowsNoFile};
 ghost use Rattle.gdc_run.specs.Ends.{AtReadFault};
 ghost use Rattle.gdc_run.specs.Verdict.{ParsesSdf, ShowGives};
-ghost use Rattle.gdc_run.specs.declared.refusal.FileKey.TheVariants.{Sdf};
+ghost use Rattle.delay_core.specs.declared.refusal.FileKey.TheVariants.{Sdf};
 
-use crate::refusal::{FileKey, LimitKind, Refusal};
-use crate::wires::FILE_LIMIT;
+use delay_core::{FILE_LIMIT, FileKey, LimitKind, Refusal};
 use edge_io::{Shelf, Text};
 use sdf_reader::{SdfEnd, SdfRows, read};
 use std::alloc::Global;

@@ -4,24 +4,21 @@ ghost use Rattle.edge_io.specs.Counts.{Rose, RoseBy};
 ghost use Rattle.edge_io.specs.Holding.{TellsMissing};
 ghost use Rattle.verdict_phases.specs.Phases.{Follows};
 ghost use Rattle.gdc_run.specs.Ends.{AtReadFault};
-ghost use Rattle.gdc_run.specs.declared.refusal.FileKey.TheVariants.{Spef};
+ghost use Rattle.delay_core.specs.declared.refusal.FileKey.TheVariants.{Spef};
 ghost use Rattle.gdc_run.specs.Verdict.{WiresGives};
-ghost use Rattle.gdc_run.specs.Work.{WiresWork, IsWithin, OnEarly};
+ghost use Rattle.delay_core.specs.SpefWork.{IsWithin};
+ghost use Rattle.gdc_run.specs.Work.{WiresWork, OnEarly};
 
-use crate::refusal::{FileKey, LimitKind, Refusal};
-use crate::wire_rows::wire_rows_of_file;
 use corner_set::{Pick, Single};
+use delay_core::{FILE_LIMIT, FileKey, LimitKind, Refusal, wire_rows_of_file};
 use edge_io::{Shelf, Steps, Text};
 use sdf_writer::Rows;
 use std::alloc::Global;
 use std::sync::ledger::Ledger;
 use verdict_phases::{PhaseEnd, read_phase};
 
-/// How many bytes of a file are read at the most: 2^28.
-pub const FILE_LIMIT: usize = 268_435_456;
-
 /// The rows of the wires of the SPEF file of that name, where this member of each triple counts.
-#[tactic(auto, using(crate::specs::Verdict::at_reading, crate::proofs::WireRows::text_refused, crate::proofs::WireRows::text_rows, crate::proofs::Work::no_file_work, crate::proofs::Work::file_work))]
+#[tactic(auto, using(crate::specs::Verdict::at_reading, crate::proofs::WireTexts::text_refused, crate::proofs::WireTexts::text_rows, crate::proofs::Work::no_file_work, crate::proofs::Work::file_work))]
 pub fn wires<H: Shelf, L: Ledger>(
     alloc: Global,
     shelf: &mut H,

@@ -1,6 +1,6 @@
 -- The rise of an arc, and then its fall.
 use Rattle.std.proofs.Common.{unsigned_abs}
-use Rattle.gdc_run.specs.declared.refusal.Edge.TheVariants.{Rise, Fall}
+use Rattle.cell_models.specs.declared.edge.Edge.TheVariants.{Rise, Fall}
 use Rattle.gdc_run.specs.ArcRows.{edge_of, IsFirstOutside}
 use Rattle.gdc_run.proofs.ArcLemmas.{adds_then, outside_then, refusal_on}
 use Rattle.gdc_run.proofs.arc_rows.add_arc.Goals as goal

@@ -1,0 +1,11 @@
+pub mod LineLemmas
+pub mod NetRows
+pub mod OneLibrary
+pub mod OneNet
+pub mod OneRows
+pub mod OneSpefFile
+pub mod PinLists
+pub mod Places
+pub mod SpefWork
+pub mod TreeRows
+pub mod WireRows

@@ -1,0 +1,13 @@
+pub mod AnnotationRows
+pub mod InputFiles
+pub mod LibraryPhases
+pub mod NetPins
+pub mod NetRows
+pub mod OneAnswer
+pub mod RefusalLine
+pub mod Refused
+pub mod SpefPhases
+pub mod SpefWork
+pub mod WireNets
+pub mod WireRows
+pub mod Words

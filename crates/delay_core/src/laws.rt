@@ -1,0 +1,22 @@
+//! The laws of the phases: each has one answer.
+ghost use Rattle.delay_core.specs.OneAnswer.{OneReading, OneLibrary, OneCell};
+
+/// The law of SPEF files, which its contract states: the bytes of a file have one answer. They say nets, all of whose sections are
+/// without a fault, or they have one refusal. It does nothing when it is called.
+#[tactic(auto, using(crate::proofs::OneSpefFile::one_reading))]
+pub fn one_reading()
+    ensures law { OneReading }
+{}
+
+/// The law of libraries, which its contract states: the bytes of a file have one tree, or one refusal. It does nothing when it is
+/// called.
+#[tactic(auto, using(crate::proofs::OneLibrary::one_library_lem))]
+pub fn one_library()
+    ensures law { OneLibrary }
+{}
+
+/// The law of cells, which its contract states: a cell has one model, or one refusal. It does nothing when it is called.
+#[tactic(auto, using(crate::proofs::OneLibrary::one_cell_lem))]
+pub fn one_cell()
+    ensures law { OneCell }
+{}

@@ -1,0 +1,24 @@
+//! What the commands of gdc share: the refusals with their lines, and the phases that read SPEF files and libraries, up to the rows of
+//! a file's wires. Each phase answers a value, or refuses.
+#![tactic(auto)]
+
+mod input_files;
+mod kinds;
+mod laws;
+mod library_phases;
+mod lines;
+mod net_pins;
+mod net_rows;
+mod refusal;
+mod spef_phases;
+mod wire_rows;
+mod words;
+
+pub use input_files::FILE_LIMIT;
+pub use kinds::edge_word;
+pub use laws::{one_cell, one_library, one_reading};
+pub use library_phases::{model_cell, parse_library};
+pub use lines::write_refusal;
+pub use refusal::{FileKey, IndexKind, LimitKind, NumberKind, Refusal};
+pub use spef_phases::{head_of, nets_of, parse_spef};
+pub use wire_rows::wire_rows_of_file;
