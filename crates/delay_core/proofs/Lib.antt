@@ -1,7 +1,9 @@
+pub mod LibraryLemmas
 pub mod LineLemmas
 pub mod NetRows
 pub mod OneLibrary
 pub mod OneNet
+pub mod OneNetlist
 pub mod OneRows
 pub mod OneSpefFile
 pub mod PinLists

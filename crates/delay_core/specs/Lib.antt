@@ -1,8 +1,10 @@
 pub mod AnnotationRows
 pub mod InputFiles
 pub mod LibraryPhases
+pub mod LibraryReading
 pub mod NetPins
 pub mod NetRows
+pub mod NetlistPhase
 pub mod OneAnswer
 pub mod RefusalLine
 pub mod Refused

@@ -1,4 +1,5 @@
 //! The laws of the phases: each has one answer.
+ghost use Rattle.delay_core.specs.NetlistPhase.{OneNetlist};
 ghost use Rattle.delay_core.specs.OneAnswer.{OneReading, OneLibrary, OneCell};
 
 /// The law of SPEF files, which its contract states: the bytes of a file have one answer. They say nets, all of whose sections are
@@ -19,4 +20,11 @@ pub fn one_library()
 #[tactic(auto, using(crate::proofs::OneLibrary::one_cell_lem))]
 pub fn one_cell()
     ensures law { OneCell }
+{}
+
+/// The law of netlists, which its contract states: the bytes of a file have one list of modules, or one refusal. It does nothing when
+/// it is called.
+#[tactic(auto, using(crate::proofs::OneNetlist::one_netlist_lem))]
+pub fn one_netlist()
+    ensures law { OneNetlist }
 {}

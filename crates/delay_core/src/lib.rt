@@ -1,14 +1,16 @@
-//! What the commands of gdc share: the refusals with their lines, and the phases that read SPEF files and libraries, up to the rows of
-//! a file's wires. Each phase answers a value, or refuses.
+//! What the commands of gdc share: the refusals with their lines, and the phases that read netlists, libraries and SPEF files, up to the
+//! rows of a file's wires. Each phase answers a value, or refuses.
 #![tactic(auto)]
 
 mod input_files;
 mod kinds;
 mod laws;
 mod library_phases;
+mod library_reading;
 mod lines;
 mod net_pins;
 mod net_rows;
+mod netlist_phase;
 mod refusal;
 mod spef_phases;
 mod wire_rows;
@@ -16,9 +18,11 @@ mod words;
 
 pub use input_files::FILE_LIMIT;
 pub use kinds::edge_word;
-pub use laws::{one_cell, one_library, one_reading};
+pub use laws::{one_cell, one_library, one_netlist, one_reading};
 pub use library_phases::{model_cell, parse_library};
+pub use library_reading::{Libraries, library_key, read_libraries, read_library};
 pub use lines::write_refusal;
+pub use netlist_phase::parse_netlist;
 pub use refusal::{FileKey, IndexKind, LimitKind, NumberKind, Refusal};
 pub use spef_phases::{head_of, nets_of, parse_spef};
 pub use wire_rows::wire_rows_of_file;

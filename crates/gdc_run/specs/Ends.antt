@@ -2,10 +2,7 @@
 use Rattle.std.specs.Prelude.{ℕ, List, Option, Result, Ok, Err}
 use Rattle.edge_io.specs.Holding.{Held}
 use Rattle.verdict_phases.specs.Phases.{RefusedBy, Reads, Go, Halt}
-use Rattle.verdict_phases.specs.declared.ends.PhaseEnd.{PhaseEnd}
 use Rattle.verdict_phases.specs.declared.ends.PhaseEnd.TheVariants as phase
-use Rattle.delay_core.specs.declared.refusal.FileKey.{FileKey}
-use Rattle.delay_core.specs.declared.refusal.Refusal.{Refusal}
 use Rattle.gdc_words.specs.declared.faults.WordsEnd.{WordsEnd}
 use Rattle.gdc_words.specs.declared.faults.WordsEnd.TheVariants as words
 use Rattle.gdc_run.specs.declared.top.End.{End}
@@ -13,13 +10,6 @@ use Rattle.gdc_run.specs.declared.top.End.TheVariants.{Usage, Phase, OutOfMemory
 use Rattle.gdc_run.specs.declared.output.Output.{Output}
 use Rattle.gdc_run.specs.Verdict.{Gives, Faulty, Answers}
 use Rattle.gdc_run.specs.Outcomes.{HasReadFault}
-
--- a fact of the key where a file could not be read
-abbrev pub AtReadFault : {A : Type 0} → Result A (PhaseEnd Refusal FileKey) → (FileKey → Type 0) → Type 0
-AtReadFault (Ok value) fact = Unit {0}
-AtReadFault (Err (phase.Refused refusal)) fact = Unit {0}
-AtReadFault (Err (phase.ReadFault key)) fact = fact key
-AtReadFault (Err phase.OutOfMemory) fact = Unit {0}
 
 -- the end of the words, as one of the run
 abbrev pub end_of_words : WordsEnd → End

@@ -3,9 +3,8 @@ ghost use Rattle.std.specs.Prelude.{◌≡◌, ◌^◌, ◌<◌, ◌⊎◌, IsTr
 ghost use Rattle.edge_io.specs.Counts.{Rose, RoseBy};
 ghost use Rattle.edge_io.specs.Holding.{TellsMissing};
 ghost use Rattle.verdict_phases.specs.Phases.{Follows, FollowsNoFile};
-ghost use Rattle.gdc_run.specs.Ends.{AtReadFault};
+ghost use Rattle.delay_core.specs.Refused.{AtReadFault, OnRefusal};
 ghost use Rattle.delay_core.specs.declared.refusal.FileKey.TheVariants.{Lib};
-ghost use Rattle.delay_core.specs.Refused.{OnRefusal};
 ghost use Rattle.gdc_run.specs.Verdict.{ReadsArcs, LookupGives};
 ghost use Rattle.delay_core.specs.SpefWork.{IsWithin, is_early};
 ghost use Rattle.gdc_run.specs.Work.{CellWork, LookupWork, OnEarly};

@@ -1,7 +1,7 @@
 //! What each command does.
 ghost use Rattle.std.specs.Prelude.{◌≡◌};
 ghost use Rattle.verdict_phases.specs.Phases.{Follows};
-ghost use Rattle.gdc_run.specs.Ends.{AtReadFault};
+ghost use Rattle.delay_core.specs.Refused.{AtReadFault};
 ghost use Rattle.gdc_run.specs.Outcomes.{HasCause};
 ghost use Rattle.gdc_run.specs.Verdict.{CommandGives};
 ghost use Rattle.delay_core.specs.SpefWork.{IsWithin};

@@ -3,7 +3,7 @@ ghost use Rattle.std.specs.Prelude.{◌≡◌, ◌<◌, ◌≤◌, ◌^◌, ◌�
 ghost use Rattle.edge_io.specs.Counts.{Rose, RoseBy};
 ghost use Rattle.edge_io.specs.Holding.{TellsMissing};
 ghost use Rattle.verdict_phases.specs.Phases.{Follows, FollowsNoFile};
-ghost use Rattle.gdc_run.specs.Ends.{AtReadFault};
+ghost use Rattle.delay_core.specs.Refused.{AtReadFault};
 ghost use Rattle.gdc_run.specs.Verdict.{ParsesSdf, ShowGives};
 ghost use Rattle.delay_core.specs.declared.refusal.FileKey.TheVariants.{Sdf};
 

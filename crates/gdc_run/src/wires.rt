@@ -3,7 +3,7 @@ ghost use Rattle.std.specs.Prelude.{◌≡◌, ◌⊎◌};
 ghost use Rattle.edge_io.specs.Counts.{Rose, RoseBy};
 ghost use Rattle.edge_io.specs.Holding.{TellsMissing};
 ghost use Rattle.verdict_phases.specs.Phases.{Follows};
-ghost use Rattle.gdc_run.specs.Ends.{AtReadFault};
+ghost use Rattle.delay_core.specs.Refused.{AtReadFault};
 ghost use Rattle.delay_core.specs.declared.refusal.FileKey.TheVariants.{Spef};
 ghost use Rattle.gdc_run.specs.Verdict.{WiresGives};
 ghost use Rattle.delay_core.specs.SpefWork.{IsWithin};
