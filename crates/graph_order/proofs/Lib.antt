@@ -1,0 +1,4 @@
+pub mod Chains
+pub mod Waiting
+pub mod Orders
+pub mod Trails
