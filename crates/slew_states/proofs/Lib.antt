@@ -1,0 +1,6 @@
+pub mod Corners
+pub mod Graphs
+pub mod Depths
+pub mod Joins
+pub mod NetPass
+pub mod Edges
