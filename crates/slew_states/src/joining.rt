@@ -78,8 +78,9 @@ fn pin_state<T: Timing>(
     }
 }
 
-/// Known with the worst input slew of an arc for an edge of its output; absent or stuck where there is none.
-pub(crate) fn worst<T: Timing>(
+/// Known with the worst input slew of an arc for an edge of its output; absent or stuck where there is none. The states of all nets
+/// are given. It does not ask whether the arc has the edge, or is loaded.
+pub fn worst_input<T: Timing>(
     timing: &T,
     arc: usize,
     this: &FlatArc,
@@ -133,7 +134,7 @@ pub(crate) fn arc_state<T: Timing, L: Ledger>(
     if !this.has(edge) {
         return PinState::Absent;
     }
-    match worst(timing, arc, this, edge, states) {
+    match worst_input(timing, arc, this, edge, states) {
         PinState::Known(slew) => match timing.look(arc, edge, slew, steps) {
             Some(made) => PinState::Known(made),
             None => PinState::Stuck,

@@ -12,6 +12,7 @@ mod states;
 mod timing;
 
 pub use arcs::{Driver, FlatArc};
+pub use joining::worst_input;
 pub use ordering::order_nets;
 pub use refused::{Refused, first_refused};
 pub use settling::settle;

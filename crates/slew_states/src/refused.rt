@@ -7,7 +7,7 @@ ghost use Rattle.slew_states.specs.Settled.{states_in, CanAll, arc_edges, edges_
 ghost use Rattle.slew_states.specs.Refused.{IsRefused, NoneRefused, IsFirstEdge};
 
 use crate::arcs::FlatArc;
-use crate::joining::worst;
+use crate::joining::worst_input;
 use crate::states::{EdgeStates, PinState};
 use crate::timing::Timing;
 use cell_models::Edge;
@@ -87,7 +87,7 @@ fn refused_slew<T: Timing, L: Ledger>(
     if this.target.is_none() || !this.has(edge) {
         return None;
     }
-    match worst(timing, arc, this, edge, states) {
+    match worst_input(timing, arc, this, edge, states) {
         PinState::Known(slew) => match timing.look(arc, edge, slew, steps) {
             Some(_) => None,
             None => Some(slew),

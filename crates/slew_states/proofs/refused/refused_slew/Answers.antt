@@ -4,11 +4,11 @@ use Rattle.slew_states.proofs.Edges.{some_net}
 use Rattle.slew_states.proofs.refused.refused_slew.Goals as goal
 
 -- src/refused.rt
-pub worst-requires-clause-net : goal.worst-requires-clause-net
-worst-requires-clause-net g c = λ net at. (c.requires.nets c.args.arc net c.requires.arc).0 at
+pub worst_input-requires-clause-net : goal.worst_input-requires-clause-net
+worst_input-requires-clause-net g c = λ net at. (c.requires.nets c.args.arc net c.requires.arc).0 at
 
-pub worst-requires-clause-wire : goal.worst-requires-clause-wire
-worst-requires-clause-wire g c = λ net at. (c.requires.can c.args.arc net c.requires.arc).0 at
+pub worst_input-requires-clause-wire : goal.worst_input-requires-clause-wire
+worst_input-requires-clause-wire g c = λ net at. (c.requires.can c.args.arc net c.requires.arc).0 at
 
 pub look-requires-clause-can : goal.look-requires-clause-can
 look-requires-clause-can g c =
