@@ -1,0 +1,3 @@
+//! One module a subject.
+mod halves;
+mod netlists;

@@ -1,0 +1,253 @@
+//! Small netlists, worked by hand: half of 20 and 10 is 20, half of 20 and 20 is 30.
+ghost use Rattle.std.specs.Prelude.{◌≡◌, ℕ, ◌<◌, ◌^◌, true, length, Some};
+ghost use Rattle.slew_states.specs.declared.arcs.FlatArc.{FlatArc};
+ghost use Rattle.slew_states.specs.Arcs.{HaveNets};
+
+use crate::tests::halves::Halves;
+use cell_models::{ArcKind, Edge};
+use edge_io::{OutOfMemory, Steps};
+use graph_order::OrderEnd;
+use slew_states::{
+    Driver, EdgeStates, FlatArc, PinState, Refused, first_refused, order_nets, settle,
+};
+use std::alloc::Global;
+use std::marker::Brand;
+use std::sync::ledger::{Blank, Ledger};
+use std::test::Fail;
+
+/// The states of all nets and the first refused look-up, or a loop.
+type Answer = Result<(Vec<EdgeStates>, Option<Refused>), Vec<usize>>;
+
+/// An arc with both edges.
+const fn arc(source: Option<usize>, target: Option<usize>, kind: ArcKind) -> FlatArc {
+    FlatArc {
+        source,
+        target,
+        kind,
+        rise: true,
+        fall: true,
+    }
+}
+
+/// Whether the net, if there is one, is one of so many.
+fn is_in(net: Option<usize>, nets: usize) -> bool
+    ensures { result ≡ true → (this : ℕ) → net ≡ Some this → this < nets }
+{
+    match net {
+        Some(this) => this < nets,
+        None => true,
+    }
+}
+
+/// Whether the nets of all arcs are nets.
+fn are_in(arcs: &[FlatArc], nets: usize) -> bool
+    ensures { result ≡ true → HaveNets nets arcs.now }
+{
+    for arc in arcs {
+        if !is_in(arc.source, nets) || !is_in(arc.target, nets) {
+            return false;
+        }
+    }
+    true
+}
+
+/// The states of a netlist at a slew of 20 at its ports, with a counter of its own.
+fn states_by<L: Ledger>(
+    alloc: Global,
+    halves: Halves,
+    arcs: &[FlatArc],
+    drivers: &[Driver],
+    blank: Blank,
+) -> Result<Answer, OutOfMemory>
+    requires name { blank.name ≡ L.name }
+    requires parts { blank.parts ≡ L.parts }
+    requires some_part { 0 < blank.parts }
+    requires few { length drivers.now < 2 ^ 63 }
+{
+    if !are_in(arcs, drivers.len()) {
+        return Err(OutOfMemory);
+    }
+    let mut steps = Steps::<L>::new(blank);
+    let order = match order_nets(alloc, drivers.len(), arcs) {
+        Ok(order) => order,
+        Err(OrderEnd::Cycle(cycle)) => return Ok(Err(cycle)),
+        Err(OrderEnd::OutOfMemory) => return Err(OutOfMemory),
+    };
+    let states = settle(alloc, &halves, arcs, drivers, 20, &order, &mut steps)?;
+    let refused = first_refused(&halves, arcs, &states, &mut steps);
+    Ok(Ok((states, refused)))
+}
+
+/// The states of a netlist at a slew of 20 at its ports.
+fn states_of(
+    alloc: Global,
+    halves: Halves,
+    arcs: &[FlatArc],
+    drivers: &[Driver],
+) -> Result<Answer, OutOfMemory>
+    requires { length drivers.now < 2 ^ 63 }
+{
+    states_by::<Brand>(alloc, halves, arcs, drivers, Blank::new(1))
+}
+
+/// States known at both edges.
+const fn known(rise: u64, fall: u64) -> EdgeStates {
+    EdgeStates {
+        rise: PinState::Known(rise),
+        fall: PinState::Known(fall),
+    }
+}
+
+/// No wire, and no limit that is met.
+const PLAIN: Halves = Halves {
+    limit: 1000,
+    wire: 0,
+};
+
+#[test]
+fn kinds_take_their_input_edges(rt: HostRuntime) -> Result<(), Fail> {
+    let drivers = [Driver::Port, Driver::Pin, Driver::Pin];
+    for (kind, want) in [
+        (ArcKind::Positive, known(20, 35)),
+        (ArcKind::Negative, known(25, 30)),
+        (ArcKind::Both, known(25, 35)),
+        (ArcKind::RisingEdge, known(20, 30)),
+        (ArcKind::FallingEdge, known(25, 35)),
+    ] {
+        // The port gives the net between 20 and 30.
+        let arcs = [
+            arc(Some(0), Some(1), ArcKind::Positive),
+            arc(Some(1), Some(2), kind),
+        ];
+        let answer = states_of(rt.alloc(), PLAIN, &arcs, &drivers)?;
+        let (states, refused) = answer.ok().ok_or("states")?;
+        assert_eq!(rt;
+            states.as_slice(),
+            [known(20, 20), known(20, 30), want].as_slice()
+        );
+        assert!(rt; refused.is_none());
+    }
+    Ok(())
+}
+
+#[test]
+fn the_largest_of_all_arcs_counts(rt: HostRuntime) -> Result<(), Fail> {
+    // Net 3 has no driver. A tied pin and an edge that an arc lacks give nothing.
+    let drivers = [
+        Driver::Port,
+        Driver::Pin,
+        Driver::Pin,
+        Driver::Nothing,
+        Driver::Pin,
+    ];
+    let mut only_rise = arc(Some(0), Some(4), ArcKind::Both);
+    only_rise.fall = false;
+    let arcs = [
+        arc(Some(1), Some(2), ArcKind::Positive),
+        arc(Some(0), Some(2), ArcKind::Positive),
+        arc(None, Some(2), ArcKind::Both),
+        arc(Some(3), Some(4), ArcKind::Both),
+        arc(Some(2), None, ArcKind::Both),
+        only_rise,
+        arc(Some(0), Some(1), ArcKind::Positive),
+    ];
+    let answer = states_of(rt.alloc(), PLAIN, &arcs, &drivers)?;
+    let (states, refused) = answer.ok().ok_or("states")?;
+    let absent = EdgeStates {
+        rise: PinState::Absent,
+        fall: PinState::Absent,
+    };
+    let half = EdgeStates {
+        rise: PinState::Known(20),
+        fall: PinState::Absent,
+    };
+    assert_eq!(rt;
+        states.as_slice(),
+        [known(20, 20), known(20, 30), known(20, 35), absent, half].as_slice()
+    );
+    assert!(rt; refused.is_none());
+    Ok(())
+}
+
+#[test]
+fn what_is_refused_is_stuck(rt: HostRuntime) -> Result<(), Fail> {
+    let drivers = [Driver::Port, Driver::Pin, Driver::Pin];
+    let arcs = [
+        arc(Some(1), Some(2), ArcKind::Positive),
+        arc(Some(0), Some(1), ArcKind::Positive),
+    ];
+
+    // The fall of net 1 is 30, past the limit of the next arc.
+    let limit = Halves { limit: 25, wire: 0 };
+    let (states, refused) = states_of(rt.alloc(), limit, &arcs, &drivers)?
+        .ok()
+        .ok_or("states")?;
+    let stuck = EdgeStates {
+        rise: PinState::Known(20),
+        fall: PinState::Stuck,
+    };
+    assert_eq!(rt;
+        states.as_slice(),
+        [known(20, 20), known(20, 30), stuck].as_slice()
+    );
+    assert_eq!(rt;
+        refused,
+        Some(Refused {
+            arc: 0,
+            edge: Edge::Fall,
+            slew: 30
+        })
+    );
+
+    // A wire adds 10: half of 30 and 10 is 25, half of 35 and 10 is 27.
+    let wire = Halves {
+        limit: 1000,
+        wire: 10,
+    };
+    let (states, refused) = states_of(rt.alloc(), wire, &arcs, &drivers)?
+        .ok()
+        .ok_or("states")?;
+    assert_eq!(rt;
+        states.as_slice(),
+        [known(20, 20), known(25, 35), known(27, 42)].as_slice()
+    );
+    assert!(rt; refused.is_none());
+
+    // A wire past the limit leaves a pin stuck, and no look-up is refused.
+    let long = Halves {
+        limit: 1000,
+        wire: 999_999_999_990,
+    };
+    let (states, refused) = states_of(rt.alloc(), long, &arcs, &drivers)?
+        .ok()
+        .ok_or("states")?;
+    let both = EdgeStates {
+        rise: PinState::Stuck,
+        fall: PinState::Stuck,
+    };
+    assert_eq!(rt; states.as_slice(), [known(20, 20), both, both].as_slice());
+    assert!(rt; refused.is_none());
+    Ok(())
+}
+
+#[test]
+fn a_loop_of_arcs_is_found(rt: HostRuntime) -> Result<(), Fail> {
+    // A latch of two gates, and then a flip-flop that is fed from its own output: no arc goes from its data pin.
+    let drivers = [Driver::Port, Driver::Pin, Driver::Pin];
+    let latch = [
+        arc(Some(0), Some(2), ArcKind::Negative),
+        arc(Some(2), Some(1), ArcKind::Negative),
+        arc(Some(1), Some(2), ArcKind::Negative),
+    ];
+    let found = states_of(rt.alloc(), PLAIN, &latch, &drivers)?
+        .err()
+        .ok_or("a loop")?;
+    assert_eq!(rt; found.as_slice(), [2, 1].as_slice());
+
+    let flip_flop = [
+        arc(Some(0), Some(1), ArcKind::RisingEdge),
+        arc(Some(1), Some(2), ArcKind::Negative),
+    ];
+    assert!(rt; states_of(rt.alloc(), PLAIN, &flip_flop, &drivers)?.is_ok());
+    Ok(())
+}
