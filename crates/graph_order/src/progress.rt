@@ -71,7 +71,8 @@ fn pass_all(
     requires targets { All (λ node. node < length progress.old.waits.items) targets.now }
     requires outgoing { IsFan sources.now (length progress.old.waits.items) outgoing.now.last.items outgoing.now.previous.items }
     requires previous { ArePrevious targets.now previous.now }
-    requires waiting { IsWaiting (length progress.old.waits.items) sources.now targets.now progress.old.order.items progress.old.waits.items }
+    requires waiting { IsWaiting (length progress.old.waits.items) sources.now targets.now
+        progress.old.order.items progress.old.waits.items }
     requires passed { ArePassed sources.now targets.now progress.old.order.items progress.old.waits.items head }
     requires within { head < length progress.old.order.items }
     ensures waiting { OnOk result
@@ -100,7 +101,8 @@ fn pass(
     requires sources { All (λ node. node < length progress.old.waits.items) sources.now }
     requires targets { All (λ node. node < length progress.old.waits.items) targets.now }
     requires previous { ArePrevious targets.now previous.now }
-    requires waiting { IsWaiting (length progress.old.waits.items) sources.now targets.now progress.old.order.items progress.old.waits.items }
+    requires waiting { IsWaiting (length progress.old.waits.items) sources.now targets.now
+        progress.old.order.items progress.old.waits.items }
     requires link { link < length sources.now }
     requires free { wait_of progress.old.waits.items (slice_index sources.now link) ≡ 0 }
     ensures waiting { OnOk result
@@ -128,7 +130,8 @@ fn go_on(
     requires sources { All (λ node. node < length progress.old.waits.items) sources.now }
     requires targets { All (λ node. node < length progress.old.waits.items) targets.now }
     requires previous { ArePrevious targets.now previous.now }
-    requires waiting { IsWaiting (length progress.old.waits.items) sources.now targets.now progress.old.order.items progress.old.waits.items }
+    requires waiting { IsWaiting (length progress.old.waits.items) sources.now targets.now
+        progress.old.order.items progress.old.waits.items }
     requires link { link < length sources.now }
     requires free { wait_of progress.old.waits.items (slice_index sources.now link) ≡ 0 }
     requires waits { wait_of progress.old.waits.items (slice_index targets.now link) ≡ suc link }
