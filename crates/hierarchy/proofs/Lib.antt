@@ -1,0 +1,3 @@
+pub mod Turning
+pub mod WalkTurns
+pub mod Named

@@ -1,0 +1,10 @@
+//! The hierarchy of a netlist (IEEE 1364-2005): the walk through the modules of a design, whether it ends within the limits, and the
+//! cells that the design uses.
+#![tactic(auto)]
+
+mod naming;
+mod uses;
+mod walking;
+
+pub use uses::{Count, UseEnd};
+pub use walking::{MetInstance, Visit, Walk, walk_modules};
