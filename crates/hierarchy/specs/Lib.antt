@@ -3,3 +3,7 @@ pub mod Walks
 pub mod Uses
 pub mod WalkTables
 pub mod WalkProgress
+pub mod Lowers
+pub mod Orders
+pub mod Passes
+pub mod Limits

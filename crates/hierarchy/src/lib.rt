@@ -2,9 +2,12 @@
 //! cells that the design uses.
 #![tactic(auto)]
 
+mod lowers;
 mod naming;
+mod ordering;
+mod passes;
 mod uses;
 mod walking;
 
-pub use uses::{Count, UseEnd};
+pub use uses::{Count, UseEnd, used_cells};
 pub use walking::{MetInstance, Visit, Walk, walk_modules};

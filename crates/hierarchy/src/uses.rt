@@ -1,6 +1,31 @@
 //! The cells that a design uses.
+ghost use Rattle.std.specs.Prelude.{◌≡◌, ◌<◌, ◌≤◌, length, IfOk, IfErr, OnOk};
+ghost use Rattle.verilog_netlist.specs.NetModules.{module_at};
+ghost use Rattle.hierarchy.specs.Uses.{IsWalkable, IsUseEnd, AreCellsUsed, cells_used};
+ghost use Rattle.hierarchy.specs.Lowers.{AreLowers};
+ghost use Rattle.hierarchy.specs.Orders.{IsOrderOf};
+ghost use Rattle.hierarchy.specs.Limits.{IsShallow, IsOver, visited_of, limit_of};
 
-use edge_io::Text;
+use crate::lowers::Lowers;
+use crate::ordering::{OrderEnd, lower_first};
+use crate::passes::{depths_of, totals_of};
+use crate::walking::walk_modules;
+use edge_io::{OutOfMemory as WantOfMemory, Text, TextList};
+use name_table::{NameId, Names};
+use std::alloc::Global;
+use verilog_netlist::Modules;
+
+/// Modules stand in each other at most so deep.
+const MOST_DEPTH: usize = 64;
+
+/// The most instances that are visited: 2^20.
+const MOST_INSTANCES: usize = 1_048_576;
+
+/// The most bits of names in visited modules: 2^22.
+const MOST_NAME_BITS: usize = 4_194_304;
+
+/// The most connections of visited instances: 2^22.
+const MOST_CONNECTIONS: usize = 4_194_304;
 
 /// A limit of a design.
 #[derive(Clone, Copy, Debug, PartialEq, Eq)]
@@ -25,4 +50,151 @@ pub enum UseEnd {
     /// A limit is passed.
     TooMany(Count),
     OutOfMemory,
+}
+
+impl From<WantOfMemory> for UseEnd {
+    ghost use Rattle.hierarchy.specs.declared.uses.UseEnd.TheVariants.{OutOfMemory};
+
+    ghost from_gives = { λ _ end. end ≡ OutOfMemory };
+
+    fn from(_error: WantOfMemory) -> UseEnd {
+        UseEnd::OutOfMemory
+    }
+}
+
+/// The cells that the design of this top module uses, in the order in which the walk first meets them. Before the walk the limits are
+/// counted module by module, so that a design of which the walk would never end is refused at once.
+pub fn used_cells(alloc: Global, modules: &Modules, top: &Text) -> Result<TextList, UseEnd>
+    ensures ok { IfOk result (AreCellsUsed modules.now top.now) }
+    ensures refused { IfErr result (IsUseEnd modules.now top.now) }
+{
+    let Some(top) = modules.find(top.bytes()) else {
+        return Err(UseEnd::NoTop);
+    };
+    check_walk(alloc, modules, top)?;
+    let names = cells_along(alloc, modules, top)?;
+    let cells = texts_of(alloc, &names)?;
+    Ok(cells)
+}
+
+// Whether a design can be walked through.
+fn check_walk(alloc: Global, modules: &Modules, top: usize) -> Result<(), UseEnd>
+    requires { top < length modules.now }
+    ensures ok { OnOk result (IsWalkable modules.now top) }
+    ensures refused { IfErr result (IsUseEnd modules.now (module_at modules.now top).name) }
+{
+    let lowers = Lowers::of(alloc, modules)?;
+    let order = order_below(alloc, modules, &lowers, top)?;
+    check_depth(alloc, modules, &lowers, &order, top)?;
+    check_total(alloc, modules, &lowers, &order, top, Count::Instances)?;
+    check_total(alloc, modules, &lowers, &order, top, Count::Names)?;
+    check_total(alloc, modules, &lowers, &order, top, Count::Pins)?;
+    Ok(())
+}
+
+// The modules that the top leads to, the lower ones first.
+fn order_below(
+    alloc: Global,
+    modules: &Modules,
+    lowers: &Lowers,
+    top: usize,
+) -> Result<Vec<usize>, UseEnd>
+    requires within { top < length modules.now }
+    requires lowers { AreLowers modules.now lowers.now }
+    ensures order { IfOk result (λ order. IsOrderOf lowers.now top order.items) }
+    ensures refused { IfErr result (IsUseEnd modules.now (module_at modules.now top).name) }
+{
+    match lower_first(alloc, lowers, top) {
+        Ok(order) => Ok(order),
+        Err(OrderEnd::Recursive(m)) => {
+            let name = Text::from_bytes(alloc, modules.module_name(m))?;
+            Err(UseEnd::Recursive(name))
+        }
+        Err(OrderEnd::OutOfMemory) => Err(UseEnd::OutOfMemory),
+    }
+}
+
+// Whether modules stand in each other within the limit.
+fn check_depth(
+    alloc: Global,
+    modules: &Modules,
+    lowers: &Lowers,
+    order: &[usize],
+    top: usize,
+) -> Result<(), UseEnd>
+    requires within { top < length modules.now }
+    requires lowers { AreLowers modules.now lowers.now }
+    requires order { IsOrderOf lowers.now top order.now }
+    ensures ok { OnOk result (IsShallow lowers.now order.now top) }
+    ensures refused { IfErr result (IsUseEnd modules.now (module_at modules.now top).name) }
+{
+    let depths = depths_of(alloc, lowers, order)?;
+    if depths[top] > MOST_DEPTH {
+        return Err(UseEnd::TooMany(Count::Depth));
+    }
+    Ok(())
+}
+
+// Whether what is counted is within its limit.
+fn check_total(
+    alloc: Global,
+    modules: &Modules,
+    lowers: &Lowers,
+    order: &[usize],
+    top: usize,
+    count: Count,
+) -> Result<(), UseEnd>
+    requires within { top < length modules.now }
+    requires lowers { AreLowers modules.now lowers.now }
+    requires order { IsOrderOf lowers.now top order.now }
+    requires shallow { IsShallow lowers.now order.now top }
+    ensures ok { OnOk result (visited_of modules.now top count ≤ limit_of count) }
+    ensures refused { IfErr result (IsOver modules.now top count (limit_of count)) }
+{
+    let totals = totals_of(alloc, modules, lowers, order, count)?;
+    if totals[top] > limit(count) {
+        return Err(UseEnd::TooMany(count));
+    }
+    Ok(())
+}
+
+// The limit of what is counted.
+fn limit(count: Count) -> usize
+    ensures { result ≡ limit_of count }
+{
+    match count {
+        Count::Depth => MOST_DEPTH,
+        Count::Instances => MOST_INSTANCES,
+        Count::Names => MOST_NAME_BITS,
+        Count::Pins => MOST_CONNECTIONS,
+    }
+}
+
+// The names of the cells, in the order in which the walk first meets them.
+fn cells_along(alloc: Global, modules: &Modules, top: usize) -> Result<Names, WantOfMemory>
+    requires within { top < length modules.now }
+    requires walkable { IsWalkable modules.now top }
+    ensures { IfOk result (λ names. names ≡ cells_used modules.now top) }
+{
+    let walk = walk_modules(alloc, modules, top)?;
+    let visits = walk.visits();
+    let mut names = Names::new(alloc);
+    for met in walk.met() {
+        if met.lower.is_none() {
+            let visit = visits[met.visit as usize];
+            names.intern(modules.instance_of(visit.module as usize, met.instance as usize))?;
+        }
+    }
+    Ok(names)
+}
+
+// The names as texts.
+fn texts_of(alloc: Global, names: &Names) -> Result<TextList, WantOfMemory>
+    ensures { IfOk result (λ texts. texts ≡ names.now) }
+{
+    let mut texts = TextList::new(alloc);
+    for number in 0..names.len() {
+        texts.push(Text::from_bytes(alloc, names.text(NameId(number as u32)))?)?;
+    }
+    Ok(texts)
 }

@@ -1,0 +1,6 @@
+-- The texts so far.
+use Rattle.std.proofs.Common.{◌≡◌, take}
+use Rattle.hierarchy.proofs.uses.texts_of.Given as goal
+
+abbrev pub invariant-loop-number : goal.invariant-loop-number
+invariant-loop-number l = l.texts ≡ take l.number l.names
