@@ -11,3 +11,4 @@ pub mod Heights
 pub mod Growing
 pub mod Limiting
 pub mod Meeting
+pub mod OneUse

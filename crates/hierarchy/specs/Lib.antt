@@ -7,3 +7,4 @@ pub mod Lowers
 pub mod Orders
 pub mod Passes
 pub mod Limits
+pub mod UseLaws

@@ -2,6 +2,7 @@
 //! cells that the design uses.
 #![tactic(auto)]
 
+mod laws;
 mod lowers;
 mod naming;
 mod ordering;
@@ -9,5 +10,6 @@ mod passes;
 mod uses;
 mod walking;
 
+pub use laws::one_use;
 pub use uses::{Count, UseEnd, used_cells};
 pub use walking::{MetInstance, Visit, Walk, walk_modules};
