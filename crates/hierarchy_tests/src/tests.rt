@@ -1,0 +1,4 @@
+//! The cells that designs use, and designs that are refused.
+mod files;
+mod limits;
+mod telling;
