@@ -7,8 +7,15 @@ use Rattle.std.proofs.lemmas.List.Elements.{All-from_recursion, All-append}
 use Rattle.std.proofs.lemmas.Grind.{flat_map-append}
 use Rattle.std.proofs.lemmas.Option.{slice_get_within, slice_get_read}
 use Rattle.delay_units.specs.declared.quantities.Atto.{Atto as AttoSeconds}
-use Rattle.nldm_lookup.specs.Interpolant.{IsInterpolant}
+use Rattle.nldm_lookup.specs.Interpolant.{IsInterpolant, IsLookup, slew_outside, load_outside}
+use Rattle.nldm_lookup.specs.Tables.{TimingTable}
+use Rattle.nldm_lookup.specs.declared.beyond.Beyond.TheVariants.{Refuse}
+use Rattle.nldm_lookup.specs.declared.faults.LookupEnd.{LookupEnd}
+use Rattle.nldm_lookup.specs.declared.faults.LookupEnd.TheVariants as lookup_end
+use Rattle.nldm_lookup.specs.declared.faults.Which.TheVariants.{Slew, Load}
+use Rattle.nldm_lookup.specs.Betweens.{IsPassed}
 use Rattle.nldm_lookup.specs.declared.faults.Outside.{Outside}
+use Rattle.nldm_lookup.specs.declared.grain.Grain.{Grain}
 use Rattle.nldm_lookup.specs.declared.grain.Grain.TheVariants.{Atto, Femto}
 use Rattle.cell_models.specs.Cells.{TimedCell, IsCell, HasDirection}
 use Rattle.cell_models.specs.declared.cell.Arc.{Arc}
@@ -25,7 +32,7 @@ use Rattle.cell_models.specs.declared.edge.Edge.{Edge}
 use Rattle.cell_models.specs.declared.edge.Part.{Part}
 use Rattle.delay_core.specs.declared.refusal.Refusal.{Refusal}
 use Rattle.delay_core.specs.declared.refusal.Refusal.TheVariants as refusal
-use Rattle.gdc_run.specs.ArcRows.{ArcEdge, IsNamed, edges_of, arc_edges, IsArcRow, IsInside, IsEdgeOutside, IsEdgeRefusal, IsFirstOutside, AddsEdges, CellGives, all_inside, some_outside, outside_at}
+use Rattle.gdc_run.specs.ArcRows.{ArcEdge, IsNamed, edges_of, arc_edges, IsArcRow, Reaches, IsInside, IsEdgeOutside, IsEdgeRefusal, IsFirstOutside, AddsEdges, CellGives, all_inside, some_outside, outside_at}
 use Rattle.delay_core.specs.SpefWork.{is_early}
 use Rattle.gdc_run.specs.Looking.{IsLooked, IsRowOf}
 use Rattle.delay_core.specs.Refused.{OnRefusal}
@@ -91,8 +98,8 @@ module _ (pins : List Pin) (slew load : ℕ) where
         from = is.from;
         to = is.to;
         edge = is.same_edge;
-        delay = subst (λ (v : ℤ). IsInterpolant tables.delay slew load Femto v) (sym is.delay) says.delay;
-        transition = subst (λ (v : AttoSeconds). IsInterpolant tables.slew slew load Atto v.0) (sym is.slew) says.transition;
+        delay = subst (λ (v : ℤ). IsInterpolant tables.delay slew load Femto Refuse v) (sym is.delay) says.delay;
+        transition = subst (λ (v : AttoSeconds). IsInterpolant tables.slew slew load Atto Refuse v.0) (sym is.slew) says.transition;
       },
       tt,
     );
@@ -206,3 +213,15 @@ pub outside_so : (cell : List ℕ) (pins : List Pin) (arc : Arc) (edge : Edge) (
     → IsEdgeRefusal cell pins arc edge part outside (refusal.Outside instance from to edge 0 part outside.axis outside.value)
 outside_so cell pins arc edge part outside instance from to same from_named to_named =
     subst (λ (i : List ℕ). IsEdgeRefusal cell pins arc edge part outside (refusal.Outside i from to edge 0 part outside.axis outside.value)) (sym same) (outside_at from_named to_named)
+
+abbrev ended : LookupEnd → Result ℤ LookupEnd
+ended end = Err end
+
+no_end : (end : LookupEnd) (value : ℤ) → ended end ≡ Ok value → ⊥
+no_end end value same = cc
+
+-- a table that has a value reaches the point
+pub reaching : (table : TimingTable) (slew load : ℕ) (grain : Grain) (value : ℤ) → ((other : Result ℤ LookupEnd) → IsLookup table slew load grain Refuse other → other ≡ Ok value) → Reaches table slew load
+reaching table slew load grain value only =
+    let slew_within : ¬ IsPassed table.slew slew = λ past. no_end (lookup_end.Outside (record { axis = Slew; value = slew })) value (only (ended (lookup_end.Outside (record { axis = Slew; value = slew }))) (slew_outside past)) in
+    record { slew_within = slew_within; load_within = λ past. no_end (lookup_end.Outside (record { axis = Load; value = load })) value (only (ended (lookup_end.Outside (record { axis = Load; value = load }))) (load_outside slew_within past)) }

@@ -12,11 +12,14 @@ use Rattle.edge_io.specs.Holding.{Held}
 use Rattle.edge_io.specs.Zipping.{one_zip}
 use Rattle.gdc_words.specs.Decimals.{IsGrains}
 use Rattle.liberty_groups.specs.Groups.{Group}
-use Rattle.nldm_lookup.specs.Interpolant.{IsOutside, slew_past, load_past}
+use Rattle.nldm_lookup.specs.Interpolant.{IsLookupEnd, slew_outside, load_outside}
+use Rattle.nldm_lookup.specs.declared.beyond.Beyond.TheVariants.{Refuse}
+use Rattle.nldm_lookup.specs.declared.faults.LookupEnd.TheVariants as lookup_end
+use Rattle.nldm_lookup.specs.declared.grain.Grain.{Grain}
 use Rattle.nldm_lookup.specs.declared.grain.Grain.TheVariants.{Atto, Femto}
 use Rattle.nldm_lookup.specs.declared.faults.Outside.{Outside}
 use Rattle.nldm_lookup.specs.Tables.{TimingTable}
-use Rattle.nldm_lookup.proofs.OneValue.{one_interpolant_lem}
+use Rattle.nldm_lookup.proofs.OneValue.{one_interpolant}
 use Rattle.cell_models.specs.Cells.{TimedCell}
 use Rattle.cell_models.specs.declared.cell.Arc.{Arc}
 use Rattle.cell_models.specs.declared.cell.EdgeTables.{EdgeTables}
@@ -69,8 +72,8 @@ one_row pins slew load at one other (are, r) (also, s) =
     (one_name pins at.arc.from one.from other.from r.from s.from)
     (one_name pins at.arc.to one.to other.to r.to s.to)
     (r.edge ∙ sym s.edge)
-    (one_interpolant_lem one_rounding_lem at.tables.delay slew load Femto one.delay other.delay are.delay r.delay s.delay)
-    (one_interpolant_lem one_rounding_lem at.tables.slew slew load Atto one.slew.0 other.slew.0 are.slew r.transition s.transition)
+    (one_interpolant one_rounding_lem at.tables.delay slew load Femto Refuse one.delay other.delay are.delay r.delay s.delay)
+    (one_interpolant one_rounding_lem at.tables.slew slew load Atto Refuse one.slew.0 other.slew.0 are.slew r.transition s.transition)
 
 abbrev HasTablesAt : ArcEdge → Type 0
 HasTablesAt at = AreTables at.tables
@@ -102,19 +105,19 @@ one_rows pins slew load edges one other are r s =
 
 -- ---- an edge that is outside
 
-not_outside : (table : TimingTable) (slew load : ℕ) (outside : Outside) → Reaches table slew load → IsOutside table slew load outside → ⊥
-not_outside table slew load _ reaches (slew_past past) = reaches.slew_within past
-not_outside table slew load _ reaches (load_past within past) = reaches.load_within past
+not_outside : (table : TimingTable) (slew load : ℕ) (grain : Grain) (outside : Outside) → Reaches table slew load → IsLookupEnd table slew load grain Refuse (lookup_end.Outside outside) → ⊥
+not_outside table slew load grain _ reaches (slew_outside past) = reaches.slew_within past
+not_outside table slew load grain _ reaches (load_outside within past) = reaches.load_within past
 
-one_outside : (table : TimingTable) (slew load : ℕ) (one other : Outside) → IsOutside table slew load one → IsOutside table slew load other → one ≡ other
-one_outside table slew load _ _ (slew_past past) (slew_past also) = refl
-one_outside table slew load _ _ (slew_past past) (load_past within also) = absurd (within past)
-one_outside table slew load _ _ (load_past within past) (slew_past also) = absurd (within also)
-one_outside table slew load _ _ (load_past within past) (load_past inside also) = refl
+one_outside : (table : TimingTable) (slew load : ℕ) (grain : Grain) (one other : Outside) → IsLookupEnd table slew load grain Refuse (lookup_end.Outside one) → IsLookupEnd table slew load grain Refuse (lookup_end.Outside other) → one ≡ other
+one_outside table slew load grain _ _ (slew_outside past) (slew_outside also) = refl
+one_outside table slew load grain _ _ (slew_outside past) (load_outside within also) = absurd (within past)
+one_outside table slew load grain _ _ (load_outside within past) (slew_outside also) = absurd (within also)
+one_outside table slew load grain _ _ (load_outside within past) (load_outside inside also) = refl
 
 inside_or_outside : (slew load : ℕ) (tables : EdgeTables) (part : Part) (outside : Outside) → IsInside slew load tables → IsEdgeOutside slew load tables part outside → ⊥
-inside_or_outside slew load tables _ outside inside (delay_outside is) = not_outside tables.delay slew load outside inside.delay is
-inside_or_outside slew load tables _ outside inside (transition_outside reaches is) = not_outside tables.slew slew load outside inside.transition is
+inside_or_outside slew load tables _ outside inside (delay_outside is) = not_outside tables.delay slew load Femto outside inside.delay is
+inside_or_outside slew load tables _ outside inside (transition_outside reaches is) = not_outside tables.slew slew load Atto outside inside.transition is
 
 abbrev refusal_at : List ℕ → List ℕ → List ℕ → Edge → Part → Outside → Refusal
 refusal_at cell from to edge part outside = refusal.Outside cell from to edge 0 part outside.axis outside.value
@@ -129,13 +132,13 @@ same_refusal cell pins arc edge part outside other _ _ same (outside_at {from = 
 one_part : (cell : List ℕ) (pins : List Pin) (arc : Arc) (edge : Edge) (slew load : ℕ) (tables : EdgeTables) (part more : Part) (outside other : Outside) (one two : Refusal)
     → IsEdgeOutside slew load tables part outside → IsEdgeOutside slew load tables more other → IsEdgeRefusal cell pins arc edge part outside one → IsEdgeRefusal cell pins arc edge more other two → one ≡ two
 one_part cell pins arc edge slew load tables _ _ outside other one two (delay_outside is) (delay_outside its) r s =
-    same_refusal cell pins arc edge _ outside other one two (one_outside tables.delay slew load outside other is its) r s
+    same_refusal cell pins arc edge _ outside other one two (one_outside tables.delay slew load Femto outside other is its) r s
 one_part cell pins arc edge slew load tables _ _ outside other one two (delay_outside is) (transition_outside reaches its) r s =
-    absurd (not_outside tables.delay slew load outside reaches is)
+    absurd (not_outside tables.delay slew load Femto outside reaches is)
 one_part cell pins arc edge slew load tables _ _ outside other one two (transition_outside reaches is) (delay_outside its) r s =
-    absurd (not_outside tables.delay slew load other reaches its)
+    absurd (not_outside tables.delay slew load Femto other reaches its)
 one_part cell pins arc edge slew load tables _ _ outside other one two (transition_outside reaches is) (transition_outside reach its) r s =
-    same_refusal cell pins arc edge _ outside other one two (one_outside tables.slew slew load outside other is its) r s
+    same_refusal cell pins arc edge _ outside other one two (one_outside tables.slew slew load Atto outside other is its) r s
 
 -- the edges of a cell are all inside, or the first that is not is one
 module _ (name : List ℕ) (pins : List Pin) (slew load : ℕ) where

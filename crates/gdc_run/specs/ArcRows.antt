@@ -1,9 +1,11 @@
 -- The rows of a cell's arcs at one slew of their inputs and one load of their outputs.
 use Rattle.std.specs.Prelude.{◌≡◌, ℕ, List, [], ◌∷◌, ◌++◌, flat_map, slice_get, Option, Some, None, Result, Ok, Err, All}
 use Rattle.std.specs.List.{AllZip}
-use Rattle.nldm_lookup.specs.Betweens.{IsPast}
-use Rattle.nldm_lookup.specs.Interpolant.{IsInterpolant, IsOutside}
+use Rattle.nldm_lookup.specs.Betweens.{IsPassed}
+use Rattle.nldm_lookup.specs.Interpolant.{IsInterpolant, IsLookupEnd}
 use Rattle.nldm_lookup.specs.Tables.{TimingTable}
+use Rattle.nldm_lookup.specs.declared.beyond.Beyond.TheVariants.{Refuse}
+use Rattle.nldm_lookup.specs.declared.faults.LookupEnd.TheVariants as lookup_end
 use Rattle.nldm_lookup.specs.declared.faults.Outside.{Outside}
 use Rattle.nldm_lookup.specs.declared.grain.Grain.TheVariants.{Atto, Femto}
 use Rattle.cell_models.specs.Cells.{TimedCell}
@@ -48,13 +50,13 @@ pub record IsArcRow (pins : List Pin) (slew load : ℕ) (at : ArcEdge) (row : Ar
   pub from : IsNamed pins at.arc.from row.from
   pub to : IsNamed pins at.arc.to row.to
   pub edge : row.edge ≡ at.edge
-  pub delay : IsInterpolant at.tables.delay slew load Femto row.delay
-  pub transition : IsInterpolant at.tables.slew slew load Atto row.slew.0
+  pub delay : IsInterpolant at.tables.delay slew load Femto Refuse row.delay
+  pub transition : IsInterpolant at.tables.slew slew load Atto Refuse row.slew.0
 
 -- a table reaches a slew and a load
 pub record Reaches (table : TimingTable) (slew load : ℕ) : Type 0 where
-  pub slew_within : ¬ IsPast table.slew slew
-  pub load_within : ¬ IsPast table.load load
+  pub slew_within : ¬ IsPassed table.slew slew
+  pub load_within : ¬ IsPassed table.load load
 
 -- both tables of an edge do
 pub record IsInside (slew load : ℕ) (tables : EdgeTables) : Type 0 where
@@ -63,9 +65,10 @@ pub record IsInside (slew load : ℕ) (tables : EdgeTables) : Type 0 where
 
 -- the first table of an edge that does not, the delay before the transition
 pub data IsEdgeOutside (slew load : ℕ) (tables : EdgeTables) : Part → Outside → Type 0 where
-  delay_outside : {outside : Outside} → IsOutside tables.delay slew load outside → IsEdgeOutside slew load tables Delay outside
-  transition_outside : {outside : Outside} → Reaches tables.delay slew load → IsOutside tables.slew slew load outside
-      → IsEdgeOutside slew load tables Transition outside
+  delay_outside : {outside : Outside} → IsLookupEnd tables.delay slew load Femto Refuse (lookup_end.Outside outside)
+      → IsEdgeOutside slew load tables Delay outside
+  transition_outside : {outside : Outside} → Reaches tables.delay slew load
+      → IsLookupEnd tables.slew slew load Atto Refuse (lookup_end.Outside outside) → IsEdgeOutside slew load tables Transition outside
 
 -- the refusal of an edge that is outside, with the name of its cell
 pub data IsEdgeRefusal (cell : List ℕ) (pins : List Pin) (arc : Arc) (edge : Edge) (part : Part) (outside : Outside) : Refusal

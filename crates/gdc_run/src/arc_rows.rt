@@ -10,7 +10,7 @@ use cell_models::{Edge, Part};
 use delay_core::Refusal;
 use delay_units::{Atto, Farads};
 use edge_io::{OutOfMemory, Steps, Text};
-use nldm_lookup::{Grain, Outside};
+use nldm_lookup::{Beyond, Grain, LookupEnd, Outside};
 use std::alloc::Global;
 use std::marker::Model;
 use std::sync::ledger::Ledger;
@@ -121,24 +121,29 @@ fn look_up<L: Ledger>(
     ensures forward { steps.old ≤ steps.new }
     ensures steps { steps.new ≤ steps.old + 64 }
 {
-    let delay = match tables.delay.lookup(at.slew, at.load, Grain::Femto, steps) {
+    let table = &tables.delay;
+    let delay = match table.lookup(at.slew, at.load, Grain::Femto, Beyond::Refuse, steps) {
         Ok(delay) => delay,
-        Err(outside) => {
+        Err(LookupEnd::Outside(outside)) => {
             return Err(EdgeOutside {
                 part: Part::Delay,
                 outside,
             });
         }
+        // Only extended values are past time.
+        Err(LookupEnd::PastTime) => unreachable!(),
     };
-    match tables.slew.lookup(at.slew, at.load, Grain::Atto, steps) {
+    let table = &tables.slew;
+    match table.lookup(at.slew, at.load, Grain::Atto, Beyond::Refuse, steps) {
         Ok(slew) => Ok(Looked {
             delay,
             slew: Atto(slew),
         }),
-        Err(outside) => Err(EdgeOutside {
+        Err(LookupEnd::Outside(outside)) => Err(EdgeOutside {
             part: Part::Transition,
             outside,
         }),
+        Err(LookupEnd::PastTime) => unreachable!(),
     }
 }
 

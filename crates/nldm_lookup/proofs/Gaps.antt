@@ -1,5 +1,5 @@
 -- Where a quantity lies: in no gap past the ends, and in one with weights that sum to the gap's width.
-use Rattle.std.proofs.Common.{◌≡◌, ℕ, ◌+◌, ◌-◌, ◌<◌, ◌≤◌, ◌∙◌, ap, sym, refl, ℤ, pos, ◌≤ℤ◌, ◌<ℤ◌, List, length, map, get_or, All, slice_get, Some, arith}
+use Rattle.std.proofs.Common.{◌≡◌, ℕ, ◌+◌, ◌<◌, ◌≤◌, ◌∙◌, ap, sym, refl, ℤ, pos, ◌≤ℤ◌, ◌<ℤ◌, List, length, map, get_or, All, slice_get, Some, arith}
 use Rattle.std.proofs.lemmas.Int.{ints}
 use Rattle.std.proofs.lemmas.Option.{slice_get_within, slice_get-map, get_or_from_slice_get}
 use Rattle.std.proofs.lemmas.List.{length-map, get_or-map}
@@ -7,25 +7,12 @@ use Rattle.std.proofs.lemmas.List.Elements.{All-get_or, All-from_get_or}
 use Rattle.std.proofs.Math.Nat.{lt_of_not-le}
 use Rattle.std.proofs.Common.{option_map, subst}
 use Rattle.nldm_lookup.specs.Axes.{IsAxis, FallsAt, most, most_points}
-use Rattle.nldm_lookup.specs.Betweens.{IsPast, below, above}
-use Rattle.nldm_lookup.specs.Rows.{IsOn}
 
 same_integer : (points : List ℤ) (place : ℕ) (one other : ℤ) → slice_get points place ≡ Some one → slice_get points place ≡ Some other → one ≡ other
 same_integer points place one other a b = sym (get_or_from_slice_get points place one (pos 0) a) ∙ get_or_from_slice_get points place other (pos 0) b
 
-same_point : (points : List ℕ) (place : ℕ) (one other : ℕ) → slice_get points place ≡ Some one → slice_get points place ≡ Some other → one ≡ other
+pub same_point : (points : List ℕ) (place : ℕ) (one other : ℕ) → slice_get points place ≡ Some one → slice_get points place ≡ Some other → one ≡ other
 same_point points place one other a b = sym (get_or_from_slice_get points place one 0 a) ∙ get_or_from_slice_get points place other 0 b
-
-pub not_past_sole : (points : List ℕ) (quantity : ℕ) → length points ≡ 1 → ¬ IsPast points quantity
-not_past_sole points quantity one (below first many here less) = absurd (omega (arith, one, many))
-not_past_sole points quantity one (above last many here more) = absurd (omega (arith, one, many))
-
-pub not_past : (points : List ℕ) (quantity first last : ℕ) → slice_get points 0 ≡ Some first → slice_get points (length points - 1) ≡ Some last
-    → first ≤ quantity → quantity ≤ last → ¬ IsPast points quantity
-not_past points quantity first last at_first at_last low high (below other many here less) =
-    absurd (omega (arith, same_point points 0 first other at_first here, low, less))
-not_past points quantity first last at_first at_last low high (above other many here more) =
-    absurd (omega (arith, same_point points (length points - 1) last other at_last here, high, more))
 
 -- a point of an axis as an integer
 as_integer : (points : List ℕ) (place point : ℕ) → slice_get points place ≡ Some point → slice_get (map pos points) place ≡ Some (pos point)
@@ -38,17 +25,6 @@ rises points place lower upper axis one other =
 pub point_small : (points : List ℕ) (place point : ℕ) → IsAxis points → slice_get points place ≡ Some point → point ≤ most
 point_small points place point axis here =
     subst (λ x. x ≤ most) (get_or_from_slice_get points place point 0 here) (All-get_or (λ x. x ≤ most) points place 0 (slice_get_within points place point here) axis.small)
-
-pub on_sole : (points : List ℕ) → length points ≡ 1 → IsOn points (record { place = 0; low = 1; high = 0 })
-on_sole points one = record { within = omega (arith, one); few = omega (arith, one); next = λ some. absurd (some refl); some = omega arith; small = omega arith }
-
-pub on_pair : (points : List ℕ) (place lower upper quantity : ℕ) → IsAxis points → slice_get points place ≡ Some lower → slice_get points (place + 1) ≡ Some upper
-    → lower ≤ quantity → quantity ≤ upper → IsOn points (record { place = place; low = upper - quantity; high = quantity - lower })
-on_pair points place lower upper quantity axis one other low high =
-    let within = slice_get_within points (place + 1) upper other in
-    let rise = rises points place lower upper axis one other in
-    let few = point_small points (place + 1) upper axis other in
-    record { within = omega (arith, within); few = axis.few; next = λ _. within; some = omega (arith, rise, low, high); small = omega (arith, rise, few, low, high) }
 
 -- the first place has none before it
 pub no_first_fall : (points : List ℤ) (place : ℕ) → place < 1 → ¬ FallsAt points place

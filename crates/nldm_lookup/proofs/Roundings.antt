@@ -22,15 +22,15 @@ one_more d = ap pos (grind arith)
 pub least_of : (v : ℤ) (d : ℕ) → (((pos 2 *ℤ v) -ℤ pos 1) *ℤ pos d) ≡ (((v *ℤ pos d) +ℤ (v *ℤ pos d)) -ℤ pos d)
 least_of v d =
     let e : ((pos 2 *ℤ v) -ℤ pos 1) *ℤ pos d ≡ ((v +ℤ v) +ℤ negsuc 0) *ℤ pos d = ap (λ x. x *ℤ pos d) (omega (arith, ints, twice v)) in
-    let f = sum_scale (v +ℤ v) (negsuc 0) d in
-    let h = sum_scale v v d in
+    let f = sum_scale (v +ℤ v) (negsuc 0) (pos d) in
+    let h = sum_scale v v (pos d) in
     omega (arith, ints, e, f, h, one_less d)
 
 pub most_of : (v : ℤ) (d : ℕ) → (((pos 2 *ℤ v) +ℤ pos 1) *ℤ pos d) ≡ (((v *ℤ pos d) +ℤ (v *ℤ pos d)) +ℤ pos d)
 most_of v d =
     let e : ((pos 2 *ℤ v) +ℤ pos 1) *ℤ pos d ≡ ((v +ℤ v) +ℤ pos 1) *ℤ pos d = ap (λ x. x *ℤ pos d) (omega (arith, ints, twice v)) in
-    let f = sum_scale (v +ℤ v) (pos 1) d in
-    let h = sum_scale v v d in
+    let f = sum_scale (v +ℤ v) (pos 1) (pos d) in
+    let h = sum_scale v v (pos d) in
     omega (arith, ints, e, f, h, one_more d)
 
 past : (size d bound : ℕ) → 1 ≤ d → size * d + size * d ≤ bound * d + bound * d + d → suc bound ≤ size → ⊥
@@ -63,13 +63,19 @@ scale_lt a b zero lt = omega (arith, ints, scale_suc a 0, scale_suc b 0, *ℤ-ze
 scale_lt a b (suc k) lt = omega (arith, ints, scale_suc a (suc k), scale_suc b (suc k), scale_lt a b k lt, lt)
 
 double_scale : (n : ℤ) (k : ℕ) → (pos 2 *ℤ n) *ℤ pos k ≡ pos 2 *ℤ (n *ℤ pos k)
-double_scale n k = ap (λ x. x *ℤ pos k) (twice n) ∙ sum_scale n n k ∙ sym (twice (n *ℤ pos k))
+double_scale n k = ap (λ x. x *ℤ pos k) (twice n) ∙ sum_scale n n (pos k) ∙ sym (twice (n *ℤ pos k))
 
-pub rounding_scaled : (n v : ℤ) (d k : ℕ) → IsRounding n (pos d) v → IsRounding (n *ℤ pos (suc k)) (pos (d * suc k)) v
-rounding_scaled n v d k rounding =
+scaled_by_natural : (n v d : ℤ) (k : ℕ) → IsRounding n d v → IsRounding (n *ℤ pos (suc k)) (d *ℤ pos (suc k)) v
+scaled_by_natural n v d k rounding =
     let low = scale_le _ _ (suc k) rounding.least in
     let high = scale_lt _ _ k rounding.most in
-    let one = scale_times ((pos 2 *ℤ v) -ℤ pos 1) d (suc k) in
-    let other = scale_times ((pos 2 *ℤ v) +ℤ pos 1) d (suc k) in
+    let one = scale_times ((pos 2 *ℤ v) -ℤ pos 1) d (pos (suc k)) in
+    let other = scale_times ((pos 2 *ℤ v) +ℤ pos 1) d (pos (suc k)) in
     let double = double_scale n (suc k) in
     record { least = omega (arith, ints, low, one, double); most = omega (arith, ints, high, other, double) }
+
+-- both numbers by a positive one
+pub rounding_scaled : (n v d k : ℤ) → pos 1 ≤ℤ k → IsRounding n d v → IsRounding (n *ℤ k) (d *ℤ k) v
+rounding_scaled n v d (pos zero) some rounding = absurd (omega (arith, ints, some))
+rounding_scaled n v d (pos (suc k)) some rounding = scaled_by_natural n v d k rounding
+rounding_scaled n v d (negsuc k) some rounding = absurd (omega (arith, ints, some))

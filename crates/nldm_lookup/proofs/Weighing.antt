@@ -1,22 +1,23 @@
 -- The sum of the values around by rows is the sum of all four.
-use Rattle.std.proofs.Common.{◌≡◌, ℕ, ◌+◌, ◌*◌, ap, ℤ, pos, ◌+ℤ◌, ◌*ℤ◌, arith}
+use Rattle.std.proofs.Common.{◌≡◌, ◌+◌, ap, sym, ◌∙◌, ℤ, ◌+ℤ◌, ◌*ℤ◌, arith}
 use Rattle.std.proofs.lemmas.Int.{ints}
-use Rattle.std.proofs.Math.Nat.{mul_comm}
+use Rattle.std.proofs.Math.IntN.{*ℤ_comm}
 use Rattle.nldm_lookup.specs.Betweens.{Between}
 use Rattle.nldm_lookup.specs.Tables.{TimingTable, value_at}
 use Rattle.nldm_lookup.specs.Interpolant.{weighed}
 use Rattle.nldm_lookup.specs.Rows.{rows_at}
 use Rattle.nldm_lookup.proofs.Scaling.{sum_scale, scale_times}
 
+turned : (x low weight : ℤ) → (x *ℤ low) *ℤ weight ≡ x *ℤ (weight *ℤ low)
+turned x low weight = sym (scale_times x low weight) ∙ ap (λ n. x *ℤ n) (*ℤ_comm low weight)
+
 -- a row by the weight of its point
-row_scaled : (x y : ℤ) (low high weight : ℕ) → ((x *ℤ pos low) +ℤ (y *ℤ pos high)) *ℤ pos weight ≡ (x *ℤ pos (weight * low)) +ℤ (y *ℤ pos (weight * high))
+row_scaled : (x y low high weight : ℤ) → ((x *ℤ low) +ℤ (y *ℤ high)) *ℤ weight ≡ (x *ℤ (weight *ℤ low)) +ℤ (y *ℤ (weight *ℤ high))
 row_scaled x y low high weight =
-    let split = sum_scale (x *ℤ pos low) (y *ℤ pos high) weight in
-    let one = scale_times x low weight in
-    let two = scale_times y high weight in
-    let turn : x *ℤ pos (low * weight) ≡ x *ℤ pos (weight * low) = ap (λ n. x *ℤ pos n) (mul_comm low weight) in
-    let other : y *ℤ pos (high * weight) ≡ y *ℤ pos (weight * high) = ap (λ n. y *ℤ pos n) (mul_comm high weight) in
-    omega (arith, ints, split, one, two, turn, other)
+    let split = sum_scale (x *ℤ low) (y *ℤ high) weight in
+    let one = turned x low weight in
+    let two = turned y high weight in
+    omega (arith, ints, split, one, two)
 
 pub by_rows : (table : TimingTable) (slew load : Between) → rows_at table slew load ≡ weighed table slew load
 by_rows table slew load =

@@ -1,4 +1,5 @@
 pub mod Axes
+pub mod AxisEnds
 pub mod BetweenOf
 pub mod Betweens
 pub mod Interpolant

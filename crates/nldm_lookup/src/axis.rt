@@ -2,12 +2,14 @@
 ghost use Rattle.std.specs.Prelude.{◌≡◌, ℕ, ℤ, pos, ◌≤ℤ◌, ◌+◌, ◌-◌, ◌<◌, ◌≤◌, length, map, slice_get, slice_index, Some, All, IfOk, OnOk, IfErr, IfSome, IfNone};
 ghost use Rattle.std.specs.Rc.{rc_slice_items};
 ghost use Rattle.nldm_lookup.specs.Axes.{IsAxis, IsAxisFault, IsFaultless, FallsAt, most, most_points};
-ghost use Rattle.nldm_lookup.specs.Betweens.{IsBetween, IsPast, width};
+ghost use Rattle.nldm_lookup.specs.AxisEnds.{IsAxisEnd};
+ghost use Rattle.nldm_lookup.specs.Betweens.{AreNeighbours, IsBetween, IsPast, IsPassed};
 ghost use Rattle.nldm_lookup.specs.BetweenOf.{between_of};
 ghost use Rattle.nldm_lookup.specs.Rows.{IsOn};
 
 use crate::between::Between;
-use crate::faults::AxisFault;
+use crate::beyond::Beyond;
+use crate::faults::{AxisFault, LookupEnd, Outside, Which};
 use edge_io::{OutOfMemory, Steps};
 use std::alloc::Global;
 use std::marker::Model;
@@ -16,6 +18,9 @@ use std::sync::ledger::Ledger;
 
 /// The most points of an axis.
 const MOST_POINTS: usize = 256;
+
+/// The largest quantity that an axis is extended to: a microsecond or a nanofarad.
+const MOST: u64 = 1_000_000_000_000;
 
 /// So many halvings leave one of the 255 gaps between so many points.
 const HALVINGS: usize = 8;
@@ -121,19 +126,25 @@ impl Axis {
         self.points.as_slice()[place]
     }
 
-    /// Where a quantity lies on the axis, or nothing where it is past an axis of two or more points. It takes at most 12 steps.
-    pub(crate) fn between<L: Ledger>(&self, quantity: u64, steps: &mut Steps<L>) -> Option<Between>
-        ensures some { IfSome result (λ between. IsBetween self.now quantity (between_of between)) }
-        ensures none { IfNone result (IsPast self.now quantity) }
-        ensures inside { IfSome result (λ _. ¬ IsPast self.now quantity) }
-        ensures on { IfSome result (λ between. IsOn self.now (between_of between)) }
-        ensures some_step { IfNone result (steps.old + 1 ≤ steps.new) }
+    /// What is taken for a quantity, or why nothing is. It takes at most 12 steps.
+    pub(crate) fn between<L: Ledger>(
+        &self,
+        axis: Which,
+        quantity: u64,
+        beyond: Beyond,
+        steps: &mut Steps<L>,
+    ) -> Result<Between, LookupEnd>
+        ensures between { IfOk result (λ between. IsBetween self.now quantity beyond (between_of between)) }
+        ensures near { OnOk result (beyond ≡ Beyond.Extend → IsPassed self.now quantity → quantity ≤ most) }
+        ensures end { IfErr result (IsAxisEnd self.now axis quantity beyond) }
+        ensures on { IfOk result (λ between. IsOn self.now (between_of between)) }
+        ensures some_step { IfErr result (λ _. steps.old + 1 ≤ steps.new) }
         ensures forward { steps.old ≤ steps.new }
         ensures steps { steps.new ≤ steps.old + 12 }
     {
         let last = self.len() - 1;
         if last == 0 {
-            return Some(Between {
+            return Ok(Between {
                 place: 0,
                 low: 1,
                 high: 0,
@@ -141,17 +152,68 @@ impl Axis {
         }
         let lowest = self.point(0, steps);
         let highest = self.point(last, steps);
-        if quantity < lowest || highest < quantity {
-            return None;
+        if quantity < lowest {
+            return self.past(axis, quantity, lowest, beyond, steps);
         }
-        let place = self.gap_of(quantity, steps);
+        if highest < quantity {
+            return self.past(axis, quantity, highest, beyond, steps);
+        }
+        Ok(self.neighbours(quantity, quantity, steps))
+    }
+
+    // What is taken for a quantity that is past this end. It takes at most 10 steps.
+    fn past<L: Ledger>(
+        &self,
+        axis: Which,
+        quantity: u64,
+        end: u64,
+        beyond: Beyond,
+        steps: &mut Steps<L>,
+    ) -> Result<Between, LookupEnd>
+        requires whole { IsAxis self.now }
+        requires past { IsPast self.now quantity end }
+        ensures between { IfOk result (λ between. IsBetween self.now quantity beyond (between_of between)) }
+        ensures near { OnOk result (beyond ≡ Beyond.Extend → quantity ≤ most) }
+        ensures end { IfErr result (IsAxisEnd self.now axis quantity beyond) }
+        ensures on { IfOk result (λ between. IsOn self.now (between_of between)) }
+        ensures forward { steps.old ≤ steps.new }
+        ensures steps { steps.new ≤ steps.old + 10 }
+    {
+        match beyond {
+            Beyond::Refuse => Err(LookupEnd::Outside(Outside {
+                axis,
+                value: quantity,
+            })),
+            Beyond::Edge => Ok(self.neighbours(end, end, steps)),
+            Beyond::Extend => {
+                if quantity > MOST {
+                    return Err(LookupEnd::PastTime);
+                }
+                Ok(self.neighbours(end, quantity, steps))
+            }
+        }
+    }
+
+    // The neighbouring points around one number, by their weights at another. It takes at most 10 steps.
+    fn neighbours<L: Ledger>(&self, near: u64, at: u64, steps: &mut Steps<L>) -> Between
+        requires whole { IsAxis self.now }
+        requires some { 1 < length self.now }
+        requires first { slice_index self.now 0 ≤ near }
+        requires last { near ≤ slice_index self.now (length self.now - 1) }
+        requires small { at ≤ most }
+        ensures neighbours { AreNeighbours self.now near at (between_of result) }
+        ensures on { IsOn self.now (between_of result) }
+        ensures forward { steps.old ≤ steps.new }
+        ensures steps { steps.new ≤ steps.old + 10 }
+    {
+        let place = self.gap_of(near, steps);
         let lower = self.point(place, steps);
         let upper = self.point(place + 1, steps);
-        Some(Between {
+        Between {
             place,
-            low: upper - quantity,
-            high: quantity - lower,
-        })
+            low: upper as i64 - at as i64,
+            high: at as i64 - lower as i64,
+        }
     }
 
     // The place of the lower of two neighbouring points between which a quantity lies, by halves. It takes at most 8 steps.

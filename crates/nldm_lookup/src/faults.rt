@@ -47,3 +47,13 @@ pub struct Outside {
     pub axis: Which,
     pub value: u64,
 }
+
+/// Why a lookup has no value.
+#[derive(Clone, Copy, PartialEq, Eq, Debug)]
+pub enum LookupEnd {
+    /// A quantity is past an axis, and `Beyond::Refuse` is asked for.
+    Outside(Outside),
+
+    /// `Beyond::Extend` leads past a microsecond: the value is more in size, or the load is past its axis and more than a nanofarad.
+    PastTime,
+}

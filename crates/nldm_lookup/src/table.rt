@@ -1,16 +1,16 @@
 //! A table over the slew of an input and the load of an output.
-ghost use Rattle.std.specs.Prelude.{◌≡◌, ℤ, pos, ◌+ℤ◌, ◌*ℤ◌, ◌+◌, ◌*◌, ◌^◌, ◌<◌, ◌≤◌, ◌≤ℤ◌, suc, length, All, unsigned_abs, IfOk, OnOk, IfErr};
+ghost use Rattle.std.specs.Prelude.{◌≡◌, ℤ, pos, ◌+ℤ◌, ◌*ℤ◌, ◌+◌, ◌*◌, ◌^◌, ◌<◌, ◌≤◌, ◌≤ℤ◌, length, All, unsigned_abs, Result, IfOk, OnOk, OnErr, IfErr};
 ghost use Rattle.nldm_lookup.specs.Axes.{most};
-ghost use Rattle.nldm_lookup.specs.Betweens.{IsPast, width};
+ghost use Rattle.nldm_lookup.specs.Betweens.{width};
 ghost use Rattle.nldm_lookup.specs.BetweenOf.{between_of};
 ghost use Rattle.nldm_lookup.specs.Tables.{IsSmall, IsTableFault, place_in, value_at};
-ghost use Rattle.delay_units.specs.Rounding.{IsRounding};
-ghost use Rattle.nldm_lookup.specs.Interpolant.{IsInterpolant, IsOutside, attos_in, weighed};
-ghost use Rattle.nldm_lookup.specs.Rows.{IsOn, row_at};
+ghost use Rattle.nldm_lookup.specs.Interpolant.{IsLookup, attos_in, most_in, not_below, weighed};
+ghost use Rattle.nldm_lookup.specs.Rows.{IsOn, row_at, size_of};
 
 use crate::axis::Axis;
 use crate::between::Between;
-use crate::faults::{Outside, TableFault, Which};
+use crate::beyond::Beyond;
+use crate::faults::{LookupEnd, TableFault, Which};
 use crate::grain::Grain;
 use delay_units::{Atto, Farads, half_up};
 use edge_io::{OutOfMemory, Steps};
@@ -48,36 +48,42 @@ impl Model for Table {
 }
 
 // A value, or a sum of values by their weights, by one more weight.
-fn by_weight(value: i128, weight: u64) -> i128
-    requires value { unsigned_abs value ≤ most * most }
-    requires weight { weight ≤ most }
-    ensures { result ≡ value *ℤ pos weight }
+fn by_weight(value: i128, weight: i64) -> i128
+    requires value { unsigned_abs value ≤ 2 * most * most }
+    requires weight { unsigned_abs weight ≤ most }
+    ensures { result ≡ value *ℤ weight }
 {
     value * weight as i128
 }
 
 // The whole weight, in parts of a grain.
 fn divisor(slew: Between, load: Between, grain: Grain) -> u128
-    requires some_slew { 1 ≤ width (between_of slew) }
-    requires slew { width (between_of slew) ≤ most }
-    requires some_load { 1 ≤ width (between_of load) }
-    requires load { width (between_of load) ≤ most }
-    ensures value { result ≡ width (between_of slew) * width (between_of load) * attos_in grain }
+    requires some_slew { pos 1 ≤ℤ width (between_of slew) }
+    requires slew { width (between_of slew) ≤ℤ pos most }
+    requires some_load { pos 1 ≤ℤ width (between_of load) }
+    requires load { width (between_of load) ≤ℤ pos most }
+    ensures value { pos result ≡ (width (between_of slew) *ℤ width (between_of load)) *ℤ pos (attos_in grain) }
     ensures some { 1 ≤ result }
     ensures small { result ≤ 10 ^ 27 }
 {
     slew.width() * load.width() * grain.attos()
 }
 
-// A quotient of weighed values, rounded once.
-fn quotient(sum: i128, divisor: u128) -> i64
-    requires some { 1 ≤ divisor }
-    requires small { divisor ≤ 10 ^ 27 }
-    requires sum { unsigned_abs sum ≤ most * divisor }
-    requires room { unsigned_abs sum ≤ 10 ^ 36 }
-    ensures { IsRounding sum (pos divisor) result }
+// A quotient of weighed values as the value of the table, or nothing where it is more than a microsecond in size.
+fn in_time(rounded: i128, grain: Grain, beyond: Beyond) -> Result<i64, LookupEnd>
+    ensures value { IfOk result (λ value. value ≡ not_below beyond grain rounded) }
+    ensures small { IfOk result (λ value. unsigned_abs value ≤ most_in grain) }
+    ensures past_time { IfErr result (λ end. end ≡ LookupEnd.PastTime) }
+    ensures large { OnErr result (most_in grain < unsigned_abs (not_below beyond grain rounded)) }
 {
-    half_up(sum, divisor as i128) as i64
+    let value = match (beyond, grain) {
+        (Beyond::Extend, Grain::Atto) => rounded.max(0),
+        _ => rounded,
+    };
+    if value.unsigned_abs() > grain.most() {
+        return Err(LookupEnd::PastTime);
+    }
+    Ok(value as i64)
 }
 
 impl Table {
@@ -156,7 +162,7 @@ impl Table {
         requires slew { slew < length self.now.slew }
         requires load { IsOn self.now.load (between_of load) }
         ensures value { result ≡ row_at self.now slew (between_of load) }
-        ensures small { unsigned_abs result ≤ most * width (between_of load) }
+        ensures small { unsigned_abs result ≤ most * size_of (between_of load) }
         ensures forward { steps.old + 1 ≤ steps.new }
         ensures steps { steps.new ≤ steps.old + 2 }
     {
@@ -172,7 +178,7 @@ impl Table {
         requires slew { IsOn self.now.slew (between_of slew) }
         requires load { IsOn self.now.load (between_of load) }
         ensures value { result ≡ weighed self.now (between_of slew) (between_of load) }
-        ensures small { unsigned_abs result ≤ most * width (between_of load) * width (between_of slew) }
+        ensures small { unsigned_abs result ≤ most * size_of (between_of load) * size_of (between_of slew) }
         ensures forward { steps.old + 1 ≤ steps.new }
         ensures steps { steps.new ≤ steps.old + 4 }
     {
@@ -184,7 +190,10 @@ impl Table {
     }
 
     /// The value at a slew and a load: bilinear between the neighbouring points of the axes, and rounded once, half up, to whole grains.
-    /// An axis of one point is constant in its direction. The slew is from 0 to 10^12 attoseconds.
+    /// An axis of one point is constant in its direction. Past the end of a longer axis `beyond` decides. The slew is from 0 to
+    /// 10^12 attoseconds.
+    ///
+    /// The first end that holds is answered: the slew outside, the load outside, the value past time.
     ///
     /// It takes a step for each point and each value that it reads, at least 1 and at most 32, and no memory.
     pub fn lookup<L: Ledger>(
@@ -192,30 +201,21 @@ impl Table {
         slew: Atto,
         load: Farads,
         grain: Grain,
+        beyond: Beyond,
         steps: &mut Steps<L>,
-    ) -> Result<i64, Outside>
+    ) -> Result<i64, LookupEnd>
         requires not_negative { pos 0 ≤ℤ slew.0 }
         requires small { slew.0 ≤ℤ pos most }
-        ensures value { IfOk result (IsInterpolant self.now (unsigned_abs slew.0) load.0 grain) }
-        ensures inside { OnOk result ((¬ IsPast self.now.slew (unsigned_abs slew.0)) × (¬ IsPast self.now.load load.0)) }
-        ensures outside { IfErr result (IsOutside self.now (unsigned_abs slew.0) load.0) }
+        ensures answer { IsLookup self.now (unsigned_abs slew.0) load.0 grain beyond result }
+        ensures only { (other : Result ℤ LookupEnd) → IsLookup self.now (unsigned_abs slew.0) load.0 grain beyond other → other ≡ result }
         ensures some_step { steps.old + 1 ≤ steps.new }
         ensures steps { steps.new ≤ steps.old + 32 }
     {
         let slew = slew.0.unsigned_abs();
-        let Some(on_slew) = self.slew.between(slew, steps) else {
-            return Err(Outside {
-                axis: Which::Slew,
-                value: slew,
-            });
-        };
-        let Some(on_load) = self.load.between(load.0, steps) else {
-            return Err(Outside {
-                axis: Which::Load,
-                value: load.0,
-            });
-        };
+        let on_slew = self.slew.between(Which::Slew, slew, beyond, steps)?;
+        let on_load = self.load.between(Which::Load, load.0, beyond, steps)?;
         let sum = self.weighed(on_slew, on_load, steps);
-        Ok(quotient(sum, divisor(on_slew, on_load, grain)))
+        let rounded = half_up(sum, divisor(on_slew, on_load, grain) as i128);
+        in_time(rounded, grain, beyond)
     }
 }

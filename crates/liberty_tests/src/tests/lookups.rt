@@ -5,7 +5,9 @@ ghost use Rattle.nldm_lookup.specs.Tables.{IsSmall};
 
 use delay_units::{Atto, Farads};
 use edge_io::Steps;
-use nldm_lookup::{Axis, AxisFault, Grain, Order, Outside, Table, TableFault, Which};
+use nldm_lookup::{
+    Axis, AxisFault, Beyond, Grain, LookupEnd, Order, Outside, Table, TableFault, Which,
+};
 use std::alloc::Global;
 use std::marker::Brand;
 use std::sync::ledger::{Blank, Ledger};
@@ -32,8 +34,9 @@ fn looked_by<L: Ledger>(
     slew: i64,
     load: u64,
     grain: Grain,
+    beyond: Beyond,
     blank: Blank,
-) -> Result<i64, Outside>
+) -> Result<i64, LookupEnd>
     requires not_negative { pos 0 ≤ℤ slew }
     requires small { slew ≤ℤ pos most }
     requires name { blank.name ≡ L.name }
@@ -41,45 +44,174 @@ fn looked_by<L: Ledger>(
     requires some_part { 0 < blank.parts }
 {
     let mut steps = Steps::<L>::new(blank);
-    table.lookup(Atto(slew), Farads(load), grain, &mut steps)
+    table.lookup(Atto(slew), Farads(load), grain, beyond, &mut steps)
 }
 
-/// What a table says at a slew and a load.
-pub fn looked(table: &Table, slew: i64, load: u64, grain: Grain) -> Result<i64, Outside>
+/// What a table says at a slew and a load, also past its axes.
+fn looked_past(
+    table: &Table,
+    slew: i64,
+    load: u64,
+    grain: Grain,
+    beyond: Beyond,
+) -> Result<i64, LookupEnd>
     requires not_negative { pos 0 ≤ℤ slew }
     requires small { slew ≤ℤ pos most }
 {
-    looked_by::<Brand>(table, slew, load, grain, Blank::new(1))
+    looked_by::<Brand>(table, slew, load, grain, beyond, Blank::new(1))
 }
 
-/// A slew in attoseconds, a load in grains of 10^-21 F, in which grain the answer comes, and what the rise says there.
-type Row = (i64, u64, Grain, Result<i64, Outside>);
+/// What a table says at a slew and a load within its axes.
+pub fn looked(table: &Table, slew: i64, load: u64, grain: Grain) -> Result<i64, LookupEnd>
+    requires not_negative { pos 0 ≤ℤ slew }
+    requires small { slew ≤ℤ pos most }
+{
+    looked_past(table, slew, load, grain, Beyond::Refuse)
+}
 
-const ROWS: [Row; 6] = [
-    (20_000_000, 2_000_000, Grain::Femto, Ok(37_500)),
-    (20_000_000, 2_000_000, Grain::Atto, Ok(37_500_000)),
-    (30_000_000, 3_000_000, Grain::Femto, Ok(60_000)),
-    (15_000_000, 2_000_000, Grain::Femto, Ok(33_750)),
-    // Past the axes: the load, and of both the slew.
+/// A slew in attoseconds, a load in grains of 10^-21 F, the grain of the answer, what holds past an axis, and what the rise says there.
+type Row = (i64, u64, Grain, Beyond, Result<i64, LookupEnd>);
+
+const ROWS: [Row; 15] = [
+    (
+        20_000_000,
+        2_000_000,
+        Grain::Femto,
+        Beyond::Refuse,
+        Ok(37_500),
+    ),
+    (
+        20_000_000,
+        2_000_000,
+        Grain::Atto,
+        Beyond::Edge,
+        Ok(37_500_000),
+    ),
+    (
+        30_000_000,
+        3_000_000,
+        Grain::Femto,
+        Beyond::Extend,
+        Ok(60_000),
+    ),
+    (
+        15_000_000,
+        2_000_000,
+        Grain::Femto,
+        Beyond::Refuse,
+        Ok(33_750),
+    ),
+    // Past one axis, or both.
     (
         30_000_000,
         3_000_001,
         Grain::Femto,
-        Err(Outside {
+        Beyond::Refuse,
+        Err(LookupEnd::Outside(Outside {
             axis: Which::Load,
             value: 3_000_001,
-        }),
+        })),
     ),
     (
         9_999_999,
         3_000_001,
         Grain::Femto,
-        Err(Outside {
+        Beyond::Refuse,
+        Err(LookupEnd::Outside(Outside {
             axis: Which::Slew,
             value: 9_999_999,
-        }),
+        })),
+    ),
+    (0, 0, Grain::Femto, Beyond::Edge, Ok(20_000)),
+    (0, 0, Grain::Femto, Beyond::Extend, Ok(7_500)),
+    (
+        50_000_000,
+        2_222_222,
+        Grain::Femto,
+        Beyond::Extend,
+        Ok(64_444),
+    ),
+    (
+        12_345_678,
+        9_876_543,
+        Grain::Atto,
+        Beyond::Extend,
+        Ok(115_143_647),
+    ),
+    // Up to a microsecond, and past it.
+    (
+        30_000_000,
+        66_665_666_667,
+        Grain::Femto,
+        Beyond::Extend,
+        Ok(1_000_000_000),
+    ),
+    (
+        30_000_000,
+        66_665_666_700,
+        Grain::Femto,
+        Beyond::Extend,
+        Err(LookupEnd::PastTime),
+    ),
+    (
+        30_000_000,
+        1_000_000_000_000,
+        Grain::Femto,
+        Beyond::Extend,
+        Err(LookupEnd::PastTime),
+    ),
+    // Loads past a nanofarad.
+    (
+        10_000_000,
+        1_000_000_000_001,
+        Grain::Atto,
+        Beyond::Extend,
+        Err(LookupEnd::PastTime),
+    ),
+    (
+        10_000_000,
+        1_000_000_000_001,
+        Grain::Atto,
+        Beyond::Edge,
+        Ok(40_000_000),
     ),
 ];
+
+/// The values of other tables in attoseconds, a slew in attoseconds, a load in grains of 10^-21 F, and what the table says there by
+/// its edge, and extended.
+const PAST: [([i64; 4], i64, u64, Grain, i64, i64); 6] = [
+    (RISE, 30_000_000, 4_000_000, Grain::Femto, 60_000, 75_000),
+    (
+        [12_000_000, 16_000_000, 20_000_000, 28_000_000],
+        30_000_000,
+        4_000_000,
+        Grain::Atto,
+        28_000_000,
+        32_000_000,
+    ),
+    (
+        [10_000_000, 20_000_000, 16_000_000, 32_000_000],
+        30_000_000,
+        4_000_000,
+        Grain::Femto,
+        32_000,
+        40_000,
+    ),
+    (
+        [10_000_000, 14_000_000, 18_000_000, 22_000_000],
+        30_000_000,
+        4_000_000,
+        Grain::Atto,
+        22_000_000,
+        24_000_000,
+    ),
+    // A delay may be negative, and a transition not.
+    (STEEP, 10_000_000, 0, Grain::Femto, 1_000, -18_500),
+    (STEEP, 10_000_000, 0, Grain::Atto, 1_000_000, 0),
+];
+
+/// Values that grow fast with the load.
+const STEEP: [i64; 4] = [1_000_000, 40_000_000, 2_000_000, 60_000_000];
 
 #[test]
 fn worked_values(rt: HostRuntime) -> Result<(), Fail> {
@@ -92,10 +224,26 @@ fn worked_values(rt: HostRuntime) -> Result<(), Fail> {
         assert!(rt; false);
         return Ok(());
     };
-    for (slew, load, grain, wanted) in ROWS {
+    for (slew, load, grain, beyond, wanted) in ROWS {
         assert!(rt; 0 <= slew && slew <= 1_000_000_000_000);
-        assert_eq!(rt; looked(&by_slew, slew, load, grain), wanted);
-        assert_eq!(rt; looked(&by_load, slew, load, grain), wanted);
+        assert_eq!(rt; looked_past(&by_slew, slew, load, grain, beyond), wanted);
+        assert_eq!(rt; looked_past(&by_load, slew, load, grain, beyond), wanted);
+    }
+    Ok(())
+}
+
+#[test]
+fn values_past_the_axes(rt: HostRuntime) -> Result<(), Fail> {
+    for (values, slew, load, grain, by_edge, extended) in PAST {
+        assert!(rt; 0 <= slew && slew <= 1_000_000_000_000);
+        let Some(Ok(table)) = table(rt.alloc(), Order::SlewFirst, &values) else {
+            assert!(rt; false);
+            return Ok(());
+        };
+        let found = looked_past(&table, slew, load, grain, Beyond::Edge);
+        assert_eq!(rt; found, Ok(by_edge));
+        let found = looked_past(&table, slew, load, grain, Beyond::Extend);
+        assert_eq!(rt; found, Ok(extended));
     }
     Ok(())
 }
