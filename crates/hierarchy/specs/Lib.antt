@@ -8,3 +8,4 @@ pub mod Orders
 pub mod Passes
 pub mod Limits
 pub mod UseLaws
+pub mod WalkLaws

@@ -1,7 +1,6 @@
 //! Numbers of modules by those of their lower modules.
 ghost use Rattle.std.specs.Prelude.{◌≡◌, ℕ, ◌+◌, ◌<◌, ◌≤◌, length, map, min, sum, All, IfOk};
 ghost use Rattle.verilog_netlist.specs.NetModules.{module_at, name_at};
-ghost use Rattle.verilog_netlist.specs.Ranges.{whole_width};
 ghost use Rattle.hierarchy.specs.Lowers.{AreBelow};
 ghost use Rattle.hierarchy.specs.Orders.{IsLowerFirst};
 ghost use Rattle.hierarchy.specs.declared.uses.Count.TheVariants.{Names, Pins};
@@ -11,7 +10,7 @@ use crate::lowers::Lowers;
 use crate::uses::Count;
 use edge_io::OutOfMemory;
 use std::alloc::Global;
-use verilog_netlist::{Modules, Range};
+use verilog_netlist::Modules;
 
 /// Past all limits: 2^23. Totals are cut off here, so that no sum overflows.
 const CAP: usize = 8_388_608;
@@ -100,27 +99,9 @@ fn name_bits(modules: &Modules, m: usize) -> usize
 {
     let mut bits = 0;
     for i in 0..modules.name_count(m) {
-        bits = (bits + width(modules.range(m, i))).min(CAP);
+        bits = (bits + modules.width(m, i)).min(CAP);
     }
     bits
-}
-
-// How many bits a name has.
-fn width(range: Option<Range>) -> usize
-    ensures value { result ≡ whole_width range }
-    ensures few { result ≤ 4294967296 }
-{
-    match range {
-        Some(Range { left, right }) => {
-            let ahead = if left < right {
-                right - left
-            } else {
-                left - right
-            };
-            ahead as usize + 1
-        }
-        None => 1,
-    }
 }
 
 // The connections of the instances of a module, cut off.

@@ -1,15 +1,17 @@
 //! The modules of a netlist.
-ghost use Rattle.std.specs.Prelude.{◌≡◌, ℕ, ◌<◌, List, length, slice_get, Some, IfOk, IfSome, IfNone};
+ghost use Rattle.std.specs.Prelude.{◌≡◌, ℕ, ◌<◌, ◌≤◌, ◌^◌, List, length, slice_get, Some, IfOk, IfSome, IfNone};
 ghost use Rattle.verilog_netlist.specs.NetModules.{module_at, name_at, instance_at, connection_at, runs_at, bits_at, HasFewBits};
 ghost use Rattle.verilog_netlist.specs.ModuleTables.{modules_in, AreTables};
 ghost use Rattle.verilog_netlist.specs.ModuleNumbers.{AreNumbers};
 ghost use Rattle.verilog_netlist.specs.Netlist.{SaysSound};
+ghost use Rattle.verilog_netlist.specs.Ranges.{whole_width};
 ghost use Rattle.verilog_netlist.specs.SoundModules.{Differ, AreWithin};
 ghost use Rattle.verilog_netlist.specs.declared.runs.Bit.{Bit};
 ghost use Rattle.verilog_netlist.specs.declared.runs.Run.{Run};
 
 use crate::entries::Range;
 use crate::net_names::Way;
+use crate::ranges::whole_width;
 use crate::runs::{Bit, Run};
 use crate::tables::Tables;
 use edge_io::OutOfMemory;
@@ -128,6 +130,16 @@ impl<'a> Modules<'a> {
         ensures { result ≡ (name_at self.now m i).range }
     {
         self.tables.names(m)[i].range()
+    }
+
+    /// How many bits a name has: those of its range, and one without a range.
+    pub fn width(&self, m: usize, i: usize) -> usize
+        requires within { m < length self.now }
+        requires place { i < length (module_at self.now m).names }
+        ensures width { result ≡ whole_width (name_at self.now m i).range }
+        ensures few { result ≤ 2 ^ 32 }
+    {
+        whole_width(self.tables.names(m)[i].range()) as usize
     }
 
     /// How many instances a module has.
