@@ -101,6 +101,13 @@ impl<C: CornerSet> CellSets<C> {
         Some(id.0 as usize)
     }
 
+    /// The names of the cells, each numbered by the place of its cell.
+    pub fn names(&self) -> &Names
+        ensures { result.now ≡ set_names self.now }
+    {
+        &self.names
+    }
+
     /// The name with which the cell at a place was added.
     pub fn name(&self, i: usize) -> &Text
         requires { i < length self.now }

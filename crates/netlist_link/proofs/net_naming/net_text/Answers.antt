@@ -1,0 +1,56 @@
+use Rattle.std.proofs.Common.{◌≡◌, ℕ, ◌<◌, ◌++◌, List, get_or, Option, sym, ap, ap₂, ◌∙◌, subst}
+use Rattle.verilog_netlist.specs.NetModules.{name_at}
+use Rattle.verilog_netlist.specs.Ranges.{whole_width}
+use Rattle.verilog_netlist.specs.declared.entries.Range.{Range}
+use Rattle.hierarchy.specs.declared.walking.Visit.{Visit}
+use Rattle.netlist_link.specs.FlatNames.{path_text, bit_suffix, net_name}
+use Rattle.netlist_link.specs.PathTables.{top_of, no_visit}
+use Rattle.netlist_link.specs.BitTables.{path_of, module_of, net_bit_of}
+use Rattle.netlist_link.proofs.NetTexts.{module_there, name_there, within_there, path_there}
+use Rattle.netlist_link.proofs.net_naming.net_text.Goals as goal
+
+pub name-requires-clause-within : goal.name-requires-clause-within
+name-requires-clause-within c =
+    let net = c.args.net in
+    rw c.visits-visits.ensures (within_there c.args.design.now c.requires.walk net.visit net.name net.bit c.requires.bit)
+
+pub name-requires-clause-place : goal.name-requires-clause-place
+name-requires-clause-place c =
+    let net = c.args.net in
+    rw c.visits-visits.ensures (name_there c.args.design.now c.requires.walk net.visit net.name net.bit c.requires.bit)
+
+pub range-requires-clause-within : goal.range-requires-clause-within
+range-requires-clause-within c =
+    let net = c.args.net in
+    rw c.visits-visits.ensures (within_there c.args.design.now c.requires.walk net.visit net.name net.bit c.requires.bit)
+
+pub range-requires-clause-place : goal.range-requires-clause-place
+range-requires-clause-place c =
+    let net = c.args.net in
+    rw c.visits-visits.ensures (name_there c.args.design.now c.requires.walk net.visit net.name net.bit c.requires.bit)
+
+pub push_bit-requires : goal.push_bit-requires
+push_bit-requires c =
+    let d = c.args.design.now in
+    let net = c.args.net in
+    let module_is : (get_or c.visits-visits.result.now net.visit no_visit).«module» ≡ module_of d net.visit =
+    ap (λ (l : List Visit). (get_or l net.visit no_visit).«module») c.visits-visits.ensures
+    ∙ module_there d c.requires.walk net.visit net.name net.bit c.requires.bit in
+    let range_is = c.range.ensures ∙ ap (λ (m : ℕ). (name_at d.modules.now m net.name).range) module_is in
+    subst (λ (r : Option Range). net.bit < whole_width r) (sym range_is) c.requires.bit.bit_below
+
+pub returns : goal.returns
+returns c =
+    let d = c.args.design.now in
+    let modules = d.modules.now in
+    let top = top_of d.walk.now in
+    let net = c.args.net in
+    let module_is : (get_or c.visits-visits.result.now net.visit no_visit).«module» ≡ module_of d net.visit =
+    ap (λ (l : List Visit). (get_or l net.visit no_visit).«module») c.visits-visits.ensures
+    ∙ module_there d c.requires.walk net.visit net.name net.bit c.requires.bit in
+    let name_is = c.name.ensures ∙ ap (λ (m : ℕ). (name_at modules m net.name).text) module_is in
+    let range_is = c.range.ensures ∙ ap (λ (m : ℕ). (name_at modules m net.name).range) module_is in
+    let path_is = path_there d c.requires.walk net.visit net.name net.bit c.requires.bit c.requires.paths in
+    c.in_ok-push_bit.ensures
+    ∙ ap (λ (l : List ℕ). l ++ bit_suffix c.range.result net.bit) (c.in_ok-text.ensures ∙ ap₂ (λ (a b : List ℕ). a ++ b) path_is name_is)
+    ∙ ap (λ (r : Option Range). (path_text modules top (path_of d net.visit) ++ (net_name modules top (net_bit_of d net)).text) ++ bit_suffix r net.bit) range_is

@@ -1,0 +1,228 @@
+//! The instances of cells in a flat design, along the walk, and the nets of their pins.
+ghost use Rattle.std.specs.Prelude.{◌≡◌, ◌∷◌, ◌++◌, [], ◌<◌, length, slice_index, IfOk, IfErr, OnOk};
+ghost use Rattle.name_table.specs.Names.{AreDistinct};
+ghost use Rattle.verilog_netlist.specs.NetModules.{bits_in};
+ghost use Rattle.netlist_link.specs.FlatNames.{instance_text, instance_sdf};
+ghost use Rattle.netlist_link.specs.FlatPins.{pins_of};
+ghost use Rattle.netlist_link.specs.Links.{AreInstances};
+ghost use Rattle.netlist_link.specs.Clashes.{AreNamed, IsClash, texts_of_instances};
+ghost use Rattle.netlist_link.specs.PathTables.{IsWalk, top_of, ArePaths};
+ghost use Rattle.netlist_link.specs.Designs.{IsSound, HasDesign, OverCells, HoldsJoints, IsOfCell, walk_of, met_of, connections_of, number_here};
+ghost use Rattle.netlist_link.specs.FlatBitTables.{AreFlatBits};
+ghost use Rattle.netlist_link.specs.InstanceTables.{instances_in, AreInstanceTables};
+ghost use Rattle.netlist_link.specs.InstanceRows.{connection_of, IsFirstNet, AreNetsOf, IsRowMore, IsInstanceMore};
+
+use crate::checking::{Design, Joints, instance_text, place_of};
+use crate::ends::LinkEnd;
+use crate::flat_bits::FlatBits;
+use crate::flat_names::flat_spelling;
+use crate::net_naming::add_name;
+use edge_io::lists::{push, to_u32};
+use edge_io::{OutOfMemory, Text, TextList};
+use name_table::Names;
+use std::alloc::Global;
+
+/// An instance of a cell: the place of its cell, that of its first pin, and how many pins it has.
+#[derive(Clone, Copy)]
+pub(crate) struct InstanceRow {
+    pub cell: u32,
+    pub first_pin: u32,
+    pub pin_count: u32,
+}
+
+/// The instances of cells, and the nets of their pins.
+#[derive(Drop)]
+pub(crate) struct Instances {
+    pub texts: Names,
+    pub spellings: TextList,
+    pub rows: Vec<InstanceRow>,
+    pub pin_nets: Vec<Option<u32>>,
+}
+
+// The number of the port or the pin to which a connection of an instance leads.
+fn joint_number(design: &Design<'_>, joints: &Joints, i: usize, c: usize) -> usize
+    requires design { HasDesign design.now }
+    requires joints { OverCells design.now (HoldsJoints design.now (length (walk_of design.now))
+        joints.now.starts.items joints.now.numbers.items joints.now.places.items) }
+    requires within { i < length (walk_of design.now) }
+    requires connection { c < length (connections_of design.now i) }
+    ensures { OverCells design.now (λ cells. result ≡ number_here cells design.now i (connection_of design.now i c).port) }
+{
+    joints.numbers[joints.starts[i] as usize + c] as usize
+}
+
+// The net of the first bit that a connection of an instance joins; nothing where it joins none.
+fn first_net(design: &Design<'_>, bits: &FlatBits, i: usize, c: usize) -> Option<Option<u32>>
+    requires walk { IsWalk design.now.modules.now design.now.walk.now }
+    requires bits { AreFlatBits design.now bits.now }
+    requires within { i < length design.now.walk.now.met }
+    requires connection { c < length (connections_of design.now i) }
+    ensures { IsFirstNet design.now (met_of design.now i).path (bits_in (connection_of design.now i c).runs) result }
+{
+    design.modules.sound();
+    let met = design.walk.met();
+    let (m, k) = place_of(design, i);
+    if design.modules.bit_count(m, k, c) == 0 {
+        return None;
+    }
+    let bit = design.modules.bit(m, k, c, 0);
+    Some(bits.net(met[i].visit as usize, m, bit))
+}
+
+// The nets of the pins of an instance of a cell with so many pins, in a list that is used again.
+fn nets_of_pins(
+    design: &Design<'_>,
+    joints: &Joints,
+    bits: &FlatBits,
+    i: usize,
+    many: usize,
+    nets: &mut Vec<Option<u32>>,
+) -> Result<(), OutOfMemory>
+    requires sound { IsSound design.now }
+    requires design { HasDesign design.now }
+    requires bits { AreFlatBits design.now bits.now }
+    requires joints { OverCells design.now (HoldsJoints design.now (length (walk_of design.now))
+        joints.now.starts.items joints.now.numbers.items joints.now.places.items) }
+    requires within { i < length design.now.walk.now.met }
+    requires cell { IsOfCell design.now i }
+    requires many { OverCells design.now (λ cells. many ≡ length (pins_of cells (slice_index joints.now.places.items i))) }
+    ensures { OnOk result (OverCells design.now (AreNetsOf design.now i (slice_index joints.now.places.items i) nets.new.items)) }
+{
+    design.modules.sound();
+    nets.clear();
+    nets.resize(many, None)?;
+    let (m, k) = place_of(design, i);
+    for c in 0..design.modules.connection_count(m, k) {
+        if let Some(net) = first_net(design, bits, i, c) {
+            let pin = joint_number(design, joints, i, c);
+            nets[pin] = net;
+        }
+    }
+    Ok(())
+}
+
+// Puts the row of one instance of a cell more at the end, and the nets of its pins.
+fn add_row(
+    design: &Design<'_>,
+    joints: &Joints,
+    bits: &FlatBits,
+    i: usize,
+    nets: &mut Vec<Option<u32>>,
+    instances: &mut Instances,
+) -> Result<(), OutOfMemory>
+    requires sound { IsSound design.now }
+    requires design { HasDesign design.now }
+    requires bits { AreFlatBits design.now bits.now }
+    requires joints { OverCells design.now (HoldsJoints design.now (length (walk_of design.now))
+        joints.now.starts.items joints.now.numbers.items joints.now.places.items) }
+    requires within { i < length design.now.walk.now.met }
+    requires cell { IsOfCell design.now i }
+    ensures row { OnOk result (IsRowMore design.now i (slice_index joints.now.places.items i)
+        instances.old.rows.items instances.new.rows.items instances.old.pin_nets.items instances.new.pin_nets.items) }
+    ensures texts { instances.new.texts ≡ instances.old.texts }
+    ensures spellings { instances.new.spellings ≡ instances.old.spellings }
+{
+    let cell = joints.places[i];
+    let many = design.pins[cell as usize].directions.len();
+    nets_of_pins(design, joints, bits, i, many, nets)?;
+    let row = InstanceRow {
+        cell,
+        first_pin: to_u32(instances.pin_nets.len())?,
+        pin_count: to_u32(many)?,
+    };
+    push(&mut instances.rows, row)?;
+    instances.pin_nets.extend_from_slice(nets.as_slice())?;
+    Ok(())
+}
+
+// The path of an instance that is met, as SDF spells it.
+fn instance_spelling(alloc: Global, design: &Design<'_>, i: usize) -> Result<Text, OutOfMemory>
+    requires walk { IsWalk design.now.modules.now design.now.walk.now }
+    requires paths { ArePaths design.now.modules.now (top_of design.now.walk.now) design.now.paths.now }
+    requires within { i < length design.now.walk.now.met }
+    ensures { IfOk result (λ text. text ≡ instance_sdf design.now.modules.now (top_of design.now.walk.now) (met_of design.now i)) }
+{
+    let (m, k) = place_of(design, i);
+    let met = design.walk.met();
+    flat_spelling(
+        alloc,
+        design.paths,
+        met[i].visit as usize,
+        design.modules.instance_name(m, k),
+    )
+}
+
+// Puts one instance of a cell more at the end.
+#[tactic(auto, using(crate::specs::Clashes::no_room_is))]
+fn add_instance(
+    alloc: Global,
+    design: &Design<'_>,
+    joints: &Joints,
+    bits: &FlatBits,
+    i: usize,
+    nets: &mut Vec<Option<u32>>,
+    instances: &mut Instances,
+) -> Result<(), LinkEnd>
+    requires sound { IsSound design.now }
+    requires design { HasDesign design.now }
+    requires paths { ArePaths design.now.modules.now (top_of design.now.walk.now) design.now.paths.now }
+    requires bits { AreFlatBits design.now bits.now }
+    requires joints { OverCells design.now (HoldsJoints design.now (length (walk_of design.now))
+        joints.now.starts.items joints.now.numbers.items joints.now.places.items) }
+    requires within { i < length design.now.walk.now.met }
+    requires cell { IsOfCell design.now i }
+    requires distinct { AreDistinct instances.old.texts }
+    ensures added { OnOk result (IsInstanceMore design.now i (slice_index joints.now.places.items i) instances.old instances.new) }
+    ensures named { OnOk result (AreNamed
+        (instances.old.texts ++ instance_text design.now.modules.now (top_of design.now.walk.now) (met_of design.now i) ∷ [])
+        instances.new.texts) }
+    ensures refused { IfErr result (IsClash
+        (instances.old.texts ++ instance_text design.now.modules.now (top_of design.now.walk.now) (met_of design.now i) ∷ [])) }
+{
+    add_row(design, joints, bits, i, nets, instances)?;
+    let spelling = instance_spelling(alloc, design, i)?;
+    instances.spellings.push(spelling)?;
+    let text = instance_text(alloc, design, i)?;
+    match add_name(&mut instances.texts, text) {
+        Ok(()) => Ok(()),
+        Err(end) => Err(end),
+    }
+}
+
+/// The instances of cells along the walk, or the first name that an earlier instance has.
+#[tactic(auto, using(crate::specs::Clashes::no_room_is))]
+pub(crate) fn flat_instances(
+    alloc: Global,
+    design: &Design<'_>,
+    joints: &Joints,
+    bits: &FlatBits,
+) -> Result<Instances, LinkEnd>
+    requires sound { IsSound design.now }
+    requires design { HasDesign design.now }
+    requires paths { ArePaths design.now.modules.now (top_of design.now.walk.now) design.now.paths.now }
+    requires bits { AreFlatBits design.now bits.now }
+    requires joints { OverCells design.now (HoldsJoints design.now (length (walk_of design.now))
+        joints.now.starts.items joints.now.numbers.items joints.now.places.items) }
+    ensures instances { IfOk result (λ instances. OverCells design.now
+        (λ cells. AreInstances design.now.modules.now (top_of design.now.walk.now) cells (instances_in instances))) }
+    ensures tables { IfOk result AreInstanceTables }
+    ensures named { IfOk result (λ instances. AreNamed (texts_of_instances design.now) instances.texts) }
+    ensures refused { IfErr result (IsClash (texts_of_instances design.now)) }
+{
+    let mut instances = Instances {
+        texts: Names::new(alloc),
+        spellings: TextList::new(alloc),
+        rows: Vec::new(alloc),
+        pin_nets: Vec::new(alloc),
+    };
+    let mut nets = Vec::new(alloc);
+    for i in 0..design.walk.met().len() {
+        if design.walk.met()[i].lower.is_none() {
+            match add_instance(alloc, design, joints, bits, i, &mut nets, &mut instances) {
+                Ok(()) => {}
+                Err(end) => return Err(end),
+            }
+        }
+    }
+    Ok(instances)
+}
