@@ -3,7 +3,7 @@ ghost use Rattle.std.specs.Prelude.{◌≡◌, ℤ, pos, ◌+ℤ◌, ◌*ℤ◌,
 ghost use Rattle.nldm_lookup.specs.Axes.{most};
 ghost use Rattle.nldm_lookup.specs.Betweens.{width};
 ghost use Rattle.nldm_lookup.specs.BetweenOf.{between_of};
-ghost use Rattle.nldm_lookup.specs.Tables.{IsSmall, IsTableFault, place_in, value_at};
+ghost use Rattle.nldm_lookup.specs.Tables.{IsSmall, IsTable, IsTableFault, place_in, value_at};
 ghost use Rattle.nldm_lookup.specs.Interpolant.{IsLookup, attos_in, most_in, not_below, weighed};
 ghost use Rattle.nldm_lookup.specs.Rows.{IsOn, row_at, size_of};
 
@@ -130,6 +130,14 @@ impl Table {
             order: self.order,
             values,
         })
+    }
+
+    /// The law of tables, which its contract states: their axes rise, and they have a value for each pair of points, none past a
+    /// microsecond. It does nothing when it is called.
+    pub fn whole(&self)
+        ensures { IsTable self.now }
+    {
+        let _ = &self.values;
     }
 
     // The place of the value at a point of the slew and one of the load.
