@@ -1,6 +1,11 @@
+pub mod CellLemmas
+pub mod DesignLemmas
+pub mod InTurn
 pub mod LibraryLemmas
 pub mod LineLemmas
+pub mod ModuleNames
 pub mod NetRows
+pub mod OneInputs
 pub mod OneLibrary
 pub mod OneNet
 pub mod OneNetlist

@@ -1,12 +1,15 @@
 -- The libraries of the corners are read one after another.
-use Rattle.std.proofs.Common.{◌≡◌, ℕ, ◌+◌, ◌<◌, ◌≤◌, ◌⊎◌, inl, inr, List, [], ◌∷◌, ◌++◌, map, Option, Some, Result, Ok, Err, refl, sym, ap, ◌∙◌, subst, arith, length-append}
+use Rattle.std.proofs.Common.{◌≡◌, ℕ, ◌+◌, ◌<◌, ◌≤◌, ◌⊎◌, inl, inr, List, [], ◌∷◌, ◌++◌, length, map, Option, Some, Result, Ok, Err, refl, sym, ap, ◌∙◌, subst, arith, length-append}
 use Rattle.std.specs.Prelude.{slice_get, IsErrAnd}
-use Rattle.std.proofs.lemmas.List.{map-append}
+use Rattle.std.proofs.lemmas.List.{length-map, map-append}
 use Rattle.edge_io.specs.Counts.{Rose, RoseBy}
 use Rattle.edge_io.specs.Holding.{Held, TellsMissing}
 use Rattle.liberty_groups.specs.Groups.{Group}
 use Rattle.liberty_groups.specs.Tables.{Tables, tree_of}
-use Rattle.verdict_phases.specs.Phases.{Stop, RefusedBy, Reads, Go, Halt}
+use Rattle.verdict_phases.specs.Lifting.{IsLifted}
+use Rattle.verdict_phases.specs.Phases.{Stop, RefusedBy, Reads, Step, Go, Halt, Follows, FollowsNoFile}
+use Rattle.verdict_phases.specs.declared.ends.NoFileEnd.{NoFileEnd}
+use Rattle.verdict_phases.specs.declared.ends.NoFileEnd.TheVariants as no_file
 use Rattle.verdict_phases.specs.declared.ends.PhaseEnd.{PhaseEnd}
 use Rattle.verdict_phases.specs.declared.ends.PhaseEnd.TheVariants as phase
 use Rattle.delay_core.specs.declared.refusal.FileKey.{FileKey}
@@ -105,3 +108,30 @@ pub fault_on : (A B : Type 0) (result : Result B (PhaseEnd Refusal FileKey)) (en
     → ((key : FileKey) → P key → Q key) → AtReadFault result Q
 fault_on A B (Ok value) end P Q is holds more = tt
 fault_on A B (Err other) end P Q is holds more = on_fault A B other P Q (subst (λ (e : PhaseEnd Refusal FileKey). AtReadFault {A = A} (Err e) P) (sym is) holds) more
+
+-- so many libraries are read as there are corners
+pub libraries_counted : (held : Option Held) (corners : ℕ) (names : List (List ℕ)) (trees : List Tables) → ReadsLibraries held corners names (Go (map tree_of trees)) → length trees ≡ corners
+libraries_counted held corners names trees (all_read libraries first) = sym (length-map trees tree_of) ∙ first.counted
+
+-- the end of a phase that reads no file, handed on
+end_on : (A B : Type 0) (end : NoFileEnd Refusal) (P : Result A Refusal → Type 0) (Q : Result B Refusal → Type 0) → FollowsNoFile P (Err end) → ((refusal : Refusal) → P (Err refusal) → Q (Err refusal)) → FollowsNoFile Q (Err end)
+end_on A B (no_file.Refused refusal) P Q holds more = more refusal holds
+end_on A B no_file.OutOfMemory P Q holds more = tt
+
+pub no_file_on : (A B : Type 0) (result : Result B (NoFileEnd Refusal)) (end : NoFileEnd Refusal) (P : Result A Refusal → Type 0) (Q : Result B Refusal → Type 0) → IsErrAnd result (λ other. other ≡ end) → FollowsNoFile P (Err end)
+    → ((refusal : Refusal) → P (Err refusal) → Q (Err refusal)) → FollowsNoFile Q result
+no_file_on A B (Ok value) end P Q is holds more = absurd is
+no_file_on A B (Err other) end P Q is holds more = end_on A B other P Q (subst (λ (e : NoFileEnd Refusal). FollowsNoFile P (Err e)) (sym is) holds) more
+
+-- and as one of a phase that may read files
+pub lifted_stop : (A B : Type 0) (result : Result B (PhaseEnd Refusal FileKey)) (end : NoFileEnd Refusal) (P : Result A Refusal → Type 0) (Q : Stop Refusal FileKey → Type 0) → IsErrAnd result (λ other. IsLifted end other)
+    → FollowsNoFile P (Err end) → ((refusal : Refusal) → P (Err refusal) → Q (RefusedBy refusal)) → OnStop result Q
+lifted_stop A B (Ok value) end P Q is holds more = tt
+lifted_stop A B (Err other) (no_file.Refused refusal) P Q is holds more = subst (λ (e : PhaseEnd Refusal FileKey). OnStop {A = B} (Err e) Q) (sym is) (more refusal holds)
+lifted_stop A B (Err other) no_file.OutOfMemory P Q is holds more = subst (λ (e : PhaseEnd Refusal FileKey). OnStop {A = B} (Err e) Q) (sym is) tt
+
+pub lifted_follows : (A B : Type 0) (result : Result B (PhaseEnd Refusal FileKey)) (end : NoFileEnd Refusal) (P : Result A Refusal → Type 0) (Q : Step Refusal FileKey B → Type 0) → IsErrAnd result (λ other. IsLifted end other)
+    → FollowsNoFile P (Err end) → ((refusal : Refusal) → P (Err refusal) → Q (Halt (RefusedBy refusal))) → Follows Q result
+lifted_follows A B (Ok value) end P Q is holds more = absurd is
+lifted_follows A B (Err other) (no_file.Refused refusal) P Q is holds more = subst (λ (e : PhaseEnd Refusal FileKey). Follows Q (Err e)) (sym is) (more refusal holds)
+lifted_follows A B (Err other) no_file.OutOfMemory P Q is holds more = subst (λ (e : PhaseEnd Refusal FileKey). Follows Q (Err e)) (sym is) tt

@@ -25,7 +25,7 @@ use Rattle.rc_tree.proofs.NetShapes.{one_shape}
 use Rattle.delay_core.specs.AnnotationRows.{Wire, IsWireDelay, IsAnnotationRow}
 use Rattle.delay_core.specs.SpefPhases.{DesignNets}
 use Rattle.delay_core.specs.WireNets.{drives, wires_of, HasDriver, IsNoTree, too_large, unreached, mesh, NetGives, no_driver, many_drivers, no_tree, is_tree, NetsGive, no_net, and_net, refused, RowsOf}
-use Rattle.delay_core.specs.OneAnswer.{SameRefusal}
+use Rattle.delay_core.specs.OneAnswer.{SameRefusal, some_resistor, SameAnswer}
 use Rattle.delay_core.specs.declared.refusal.Refusal.{Refusal}
 use Rattle.delay_core.specs.declared.refusal.Refusal.TheVariants.{Unreached}
 use Rattle.delay_core.proofs.Places.{some_is, got_below, index_is, contains_at}
@@ -203,7 +203,7 @@ module _ (net : NetElements) (whole : AreWhole 1 net) (driver : ℕ) (has : HasD
       inl (ap (λ n. Unreached net.net n) (one_name node more a.1 b.1 (one_unreached (net_elements 1 net pins 0) (node_of node) (node_of more) (a.2 0 (omega arith)) (b.2 0 (omega arith)))))
   one_no_tree one other (unreached node a) (mesh place b) = absurd (shape (node_of node) (a.2 0 (omega arith)) (b.2 0 (omega arith)).0)
   one_no_tree one other (mesh place b) (unreached node a) = absurd (shape (node_of node) (a.2 0 (omega arith)) (b.2 0 (omega arith)).0)
-  one_no_tree one other (mesh place a) (mesh more b) = inr (record { net = net.net; first = place; second = more; one_is = refl; other_is = refl })
+  one_no_tree one other (mesh place a) (mesh more b) = inr (some_resistor net.net place more)
 
   no_tree_beside : (refusal : Refusal) → IsNoTree 1 net pins refusal → IsFit net pins → IsTree (net_elements 1 net pins 0) → ⊥
   no_tree_beside refusal (too_large a) fit tree = fit.1 a.1
@@ -211,12 +211,6 @@ module _ (net : NetElements) (whole : AreWhole 1 net) (driver : ℕ) (has : HasD
   no_tree_beside refusal (mesh place a) fit tree = (one_shape (net_elements 1 net pins 0)).0 tree (a.2 0 (omega arith)).0
 
 -- ---- a net
-
--- two answers are one, the resistor of a mesh aside
-abbrev pub SameAnswer : {A : Type 0} → Result A Refusal → Result A Refusal → Type 0
-SameAnswer (Ok one) (Ok other) = one ≡ other
-SameAnswer (Err one) (Err other) = SameRefusal one other
-SameAnswer _ _ = ⊥
 
 empty_or_some : {X : Type 0} (xs : List X) (x : X) (later : List X) → xs ≡ [] → xs ≡ x ∷ later → ⊥
 empty_or_some xs x later e f = cc

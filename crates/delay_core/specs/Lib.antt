@@ -1,7 +1,10 @@
 pub mod AnnotationRows
+pub mod CellPhase
+pub mod DesignReading
 pub mod InputFiles
 pub mod LibraryPhases
 pub mod LibraryReading
+pub mod LinkPhase
 pub mod NetPins
 pub mod NetRows
 pub mod NetlistPhase
@@ -10,6 +13,7 @@ pub mod RefusalLine
 pub mod Refused
 pub mod SpefPhases
 pub mod SpefWork
+pub mod UsePhase
 pub mod WireNets
 pub mod WireRows
 pub mod Words

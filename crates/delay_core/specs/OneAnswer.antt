@@ -1,24 +1,36 @@
 -- That a phase has one answer.
-use Rattle.std.specs.Prelude.{◌≡◌, ℕ, ◌⊎◌, List, Result}
+use Rattle.std.specs.Prelude.{◌≡◌, ℕ, ◌⊎◌, List, Result, Ok, Err}
 use Rattle.cell_models.specs.Cells.{TimedCell}
+use Rattle.cell_models.specs.NamedSets.{NamedCells, set_names}
 use Rattle.corner_set.specs.declared.pick.Pick.{Pick}
+use Rattle.hierarchy.specs.UseLaws.{NamesDiffer}
 use Rattle.liberty_groups.specs.Groups.{Group}
+use Rattle.name_table.specs.Names.{AreDistinct}
+use Rattle.netlist_link.specs.FlatNetlist.{FlatNetlist}
+use Rattle.verilog_netlist.specs.NetModules.{NetModule}
+use Rattle.delay_core.specs.CellPhase.{ModelsCells}
 use Rattle.delay_core.specs.LibraryPhases.{ParsesLibrary, ModelsCell}
+use Rattle.delay_core.specs.LinkPhase.{LinksDesign}
 use Rattle.delay_core.specs.SpefPhases.{sole_corner, DesignNets, ReadsNets}
+use Rattle.delay_core.specs.UsePhase.{UsesCells}
 use Rattle.delay_core.specs.declared.refusal.Refusal.{Refusal}
-use Rattle.delay_core.specs.declared.refusal.Refusal.TheVariants.{Mesh}
+use Rattle.delay_core.specs.declared.refusal.Refusal.TheVariants.{Recursive, Mesh}
 
--- both refuse one net for a mesh, each by some resistor that cuts no node off
-pub record AreMeshes (one other : Refusal) : Type 0 where
-  pub net : List ℕ
-  pub first : ℕ
-  pub second : ℕ
-  pub one_is : one ≡ Mesh net first
-  pub other_is : other ≡ Mesh net second
+-- What a verdict leaves free: which of the resistors that cut no node off is told of a net's mesh, and which of the modules that contain
+-- themselves.
+pub data IsFreeChoice : Refusal → Refusal → Type 0 where
+  some_resistor : (net : List ℕ) (one other : ℕ) → IsFreeChoice (Mesh net one) (Mesh net other)
+  some_module : (one other : List ℕ) → IsFreeChoice (Recursive one) (Recursive other)
 
--- two refusals are one, the resistor of a mesh aside
+-- two refusals are one, but for what is left free
 abbrev pub SameRefusal : Refusal → Refusal → Type 0
-SameRefusal one other = (one ≡ other) ⊎ AreMeshes one other
+SameRefusal one other = (one ≡ other) ⊎ IsFreeChoice one other
+
+-- two answers are one, but for what is left free
+abbrev pub SameAnswer : {A : Type 0} → Result A Refusal → Result A Refusal → Type 0
+SameAnswer (Ok one) (Ok other) = one ≡ other
+SameAnswer (Err one) (Err other) = SameRefusal one other
+SameAnswer _ _ = ⊥
 
 -- the bytes of a SPEF file have one answer: nets, or a refusal
 abbrev pub OneReading : Type 0
@@ -34,3 +46,18 @@ OneLibrary = (corner : ℕ) (bytes : List ℕ) (one other : Result Group Refusal
 abbrev pub OneCell : Type 0
 OneCell = (corner : ℕ) (library : Group) (name : List ℕ) (one other : Result TimedCell Refusal) → ModelsCell corner library name one
     → ModelsCell corner library name other → one ≡ other
+
+-- the design of a module has one answer: the cells that it uses, or a refusal, in which one of the modules that contain themselves is named
+abbrev pub OneUse : Type 0
+OneUse = (modules : List NetModule) (top : List ℕ) (one other : Result (List (List ℕ)) Refusal) → NamesDiffer modules
+    → UsesCells modules top one → UsesCells modules top other → SameAnswer one other
+
+-- the cells that are used have one answer at some libraries: their models, or a refusal
+abbrev pub OneModels : Type 0
+OneModels = (libraries : List Group) (used : List (List ℕ)) (one other : Result (List NamedCells) Refusal)
+    → ModelsCells libraries used one → ModelsCells libraries used other → one ≡ other
+
+-- the design of a module has one answer over some cells: a flat netlist, or a refusal
+abbrev pub OneLink : Type 0
+OneLink = (modules : List NetModule) (top : List ℕ) (cells : List NamedCells) (one other : Result FlatNetlist Refusal) → NamesDiffer modules
+    → AreDistinct (set_names cells) → LinksDesign modules top cells one → LinksDesign modules top cells other → one ≡ other

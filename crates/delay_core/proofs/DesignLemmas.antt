@@ -1,0 +1,103 @@
+-- The files of a design are read one after another, and a fault at one of them has its cause.
+use Rattle.std.proofs.Common.{◌≡◌, ℕ, zero, suc, ◌+◌, ◌<◌, ◌≤◌, ◌⊎◌, inl, inr, List, [], ◌∷◌, length, Option, Some, Ok, Err, refl, sym, subst, arith}
+use Rattle.std.specs.Prelude.{slice_get}
+use Rattle.edge_io.specs.Counts.{Rose, RoseBy}
+use Rattle.edge_io.specs.Holding.{Held, TellsMissing}
+use Rattle.verdict_phases.specs.Phases.{Stop, RefusedBy, Unread, Reads, Go, Halt}
+use Rattle.delay_core.specs.DesignReading.{ReadsNetlistFile, ReadInputs, ReadsInputs, at_libraries, LinksInputs, ReadsDesign, at_netlist, at_inputs, at_design, input_key, IsInputFault}
+use Rattle.delay_core.specs.LibraryReading.{library_key, ReadsLibrary, at_file, ReadsLibraries, stops_at, IsLibraryFault}
+use Rattle.delay_core.specs.declared.refusal.FileKey.{FileKey}
+use Rattle.delay_core.specs.declared.refusal.FileKey.TheVariants.{Netlist}
+use Rattle.delay_core.specs.declared.refusal.Refusal.{Refusal}
+
+-- a fault at the netlist
+pub netlist_fault : (held : Option Held) (corners : ℕ) (file : List ℕ) (libraries : List (List ℕ)) (faults faults' opens opens' : ℕ) → Rose faults faults' ⊎ TellsMissing held file → RoseBy 1 opens opens'
+    → IsInputFault held corners (file ∷ libraries) faults faults' opens opens' Netlist
+netlist_fault held corners file libraries faults faults' opens opens' cause opened = record {
+  before = 0;
+  name = file;
+  named = refl;
+  keyed = refl;
+  cause = cause;
+  opened = opened;
+}
+
+-- and at a library, which is read behind it
+pub library_fault : (held held' : Option Held) (corners : ℕ) (file : List ℕ) (libraries : List (List ℕ)) (faults faults' faults₂ opens opens' opens₂ : ℕ) (key : FileKey) → held' ≡ held → faults ≤ faults' → RoseBy 1 opens opens'
+    → IsLibraryFault held' corners libraries faults' faults₂ opens' opens₂ key → IsInputFault held corners (file ∷ libraries) faults faults₂ opens opens₂ key
+library_fault held held' corners file libraries faults faults' faults₂ opens opens' opens₂ key same later opened fault = record {
+  before = suc fault.corner;
+  name = fault.name;
+  named = fault.named;
+  keyed = fault.keyed;
+  cause = elim fault.cause [
+    | inl rose ↦ inl (omega (arith, later, rose))
+    | inr missing ↦ inr (subst (λ (h : Option Held). TellsMissing h fault.name) same missing)
+  ];
+  opened = let more = fault.opened in omega (arith, opened, more);
+}
+
+-- the design is refused behind its inputs
+pub design_refused : (held held' : Option Held) (corners : ℕ) (file top : List ℕ) (libraries : List (List ℕ)) (text bytes : List ℕ) (inputs : ReadInputs) (refusal : Refusal) → held' ≡ held → bytes ≡ text
+    → ReadsNetlistFile held file (Go text) → ReadsInputs held' corners bytes top libraries (Go inputs) → LinksInputs inputs top (Err refusal) → ReadsDesign held corners file top libraries (Halt (RefusedBy refusal))
+design_refused held held' corners file top libraries text bytes inputs refusal same is reads are links =
+    at_design text inputs refusal reads (subst (λ (b : List ℕ). ReadsInputs held corners b top libraries (Go inputs)) is (subst (λ (h : Option Held). ReadsInputs h corners bytes top libraries (Go inputs)) same are)) links
+
+-- ---- where the phases come to the reading of a file, they come to a file that is not held
+
+-- the file of a key among those that are read, and that it is not held decides
+pub record ComesTo (held : Option Held) (corners : ℕ) (file top : List ℕ) (libraries : List (List ℕ)) (key : FileKey) : Type 0 where
+  pub before : ℕ
+  pub name : List ℕ
+  pub named : slice_get (file ∷ libraries) before ≡ Some name
+  pub keyed : key ≡ input_key corners before
+  pub unread : TellsMissing held name → ReadsDesign held corners file top libraries (Halt (Unread key))
+
+reads_library : (held : Option Held) (corners corner : ℕ) (name : List ℕ) (key : FileKey) → ReadsLibrary held corners corner name (Halt (Reads key)) → key ≡ library_key corners corner
+reads_library held corners corner name key (at_file why reads) = reads
+
+unread_library : (held : Option Held) (corners corner : ℕ) (name : List ℕ) (key : FileKey) → key ≡ library_key corners corner → TellsMissing held name → ReadsLibrary held corners corner name (Halt (Unread key))
+unread_library held corners corner name key keyed missing = at_file (Unread key) (missing, keyed)
+
+-- the library at which the libraries stop
+record StopsAt (held : Option Held) (corners : ℕ) (libraries : List (List ℕ)) (key : FileKey) : Type 0 where
+  corner : ℕ
+  name : List ℕ
+  named : slice_get libraries corner ≡ Some name
+  keyed : key ≡ library_key corners corner
+  unread : TellsMissing held name → ReadsLibraries held corners libraries (Halt (Unread key))
+
+stop_of : (held : Option Held) (corners : ℕ) (libraries : List (List ℕ)) (key : FileKey) → ReadsLibraries held corners libraries (Halt (Reads key)) → StopsAt held corners libraries key
+stop_of held corners libraries key (stops_at corner name before why below first named reads) =
+    let keyed = reads_library held corners corner name key reads in
+    record {
+      corner = corner;
+      name = name;
+      named = named;
+      keyed = keyed;
+      unread = λ missing. stops_at corner name before (Unread key) below first named (unread_library held corners corner name key keyed missing);
+    }
+
+-- and the inputs
+record StopsInputs (held : Option Held) (corners : ℕ) (bytes top : List ℕ) (libraries : List (List ℕ)) (key : FileKey) : Type 0 where
+  stop : StopsAt held corners libraries key
+  unread : TellsMissing held stop.name → ReadsInputs held corners bytes top libraries (Halt (Unread key))
+
+inputs_stop : (held : Option Held) (corners : ℕ) (bytes top : List ℕ) (libraries : List (List ℕ)) (key : FileKey) → ReadsInputs held corners bytes top libraries (Halt (Reads key))
+    → StopsInputs held corners bytes top libraries key
+inputs_stop held corners bytes top libraries key (at_libraries modules used why parses uses reads) =
+    let stop = stop_of held corners libraries key reads in
+    record { stop = stop; unread = λ missing. at_libraries modules used (Unread key) parses uses (stop.unread missing) }
+
+pub comes_to : (held : Option Held) (corners : ℕ) (file top : List ℕ) (libraries : List (List ℕ)) (key : FileKey) → ReadsDesign held corners file top libraries (Halt (Reads key)) → ComesTo held corners file top libraries key
+comes_to held corners file top libraries key (at_netlist why reads) =
+    record { before = 0; name = file; named = refl; keyed = reads; unread = λ missing. at_netlist (Unread key) (missing, reads) }
+comes_to held corners file top libraries key (at_inputs bytes why reads inputs) =
+    let stops = inputs_stop held corners bytes top libraries key inputs in
+    record {
+      before = suc stops.stop.corner;
+      name = stops.stop.name;
+      named = stops.stop.named;
+      keyed = stops.stop.keyed;
+      unread = λ missing. at_inputs bytes (Unread key) reads (stops.unread missing);
+    }
