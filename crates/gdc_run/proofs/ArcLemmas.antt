@@ -7,15 +7,11 @@ use Rattle.std.proofs.lemmas.List.Elements.{All-from_recursion, All-append}
 use Rattle.std.proofs.lemmas.Grind.{flat_map-append}
 use Rattle.std.proofs.lemmas.Option.{slice_get_within, slice_get_read}
 use Rattle.delay_units.specs.declared.quantities.Atto.{Atto as AttoSeconds}
-use Rattle.nldm_lookup.specs.Interpolant.{IsInterpolant, IsLookup, slew_outside, load_outside}
-use Rattle.nldm_lookup.specs.Tables.{TimingTable}
-use Rattle.nldm_lookup.specs.declared.beyond.Beyond.TheVariants.{Refuse}
+use Rattle.nldm_lookup.specs.Interpolant.{IsInterpolant}
+use Rattle.nldm_lookup.specs.declared.beyond.Beyond.{Beyond}
 use Rattle.nldm_lookup.specs.declared.faults.LookupEnd.{LookupEnd}
 use Rattle.nldm_lookup.specs.declared.faults.LookupEnd.TheVariants as lookup_end
-use Rattle.nldm_lookup.specs.declared.faults.Which.TheVariants.{Slew, Load}
-use Rattle.nldm_lookup.specs.Betweens.{IsPassed}
 use Rattle.nldm_lookup.specs.declared.faults.Outside.{Outside}
-use Rattle.nldm_lookup.specs.declared.grain.Grain.{Grain}
 use Rattle.nldm_lookup.specs.declared.grain.Grain.TheVariants.{Atto, Femto}
 use Rattle.cell_models.specs.Cells.{TimedCell, IsCell, HasDirection}
 use Rattle.cell_models.specs.declared.cell.Arc.{Arc}
@@ -32,7 +28,7 @@ use Rattle.cell_models.specs.declared.edge.Edge.{Edge}
 use Rattle.cell_models.specs.declared.edge.Part.{Part}
 use Rattle.delay_core.specs.declared.refusal.Refusal.{Refusal}
 use Rattle.delay_core.specs.declared.refusal.Refusal.TheVariants as refusal
-use Rattle.gdc_run.specs.ArcRows.{ArcEdge, IsNamed, edges_of, arc_edges, IsArcRow, Reaches, IsInside, IsEdgeOutside, IsEdgeRefusal, IsFirstOutside, AddsEdges, CellGives, all_inside, some_outside, outside_at}
+use Rattle.gdc_run.specs.ArcRows.{ArcEdge, IsNamed, edges_of, arc_edges, IsArcRow, HasValues, IsEdgeEnd, IsEdgeRefusal, IsFirstRefused, AddsEdges, CellGives, all_valued, some_refused, outside_at, past_time_at}
 use Rattle.delay_core.specs.SpefWork.{is_early}
 use Rattle.gdc_run.specs.Looking.{IsLooked, IsRowOf}
 use Rattle.delay_core.specs.Refused.{OnRefusal}
@@ -43,54 +39,54 @@ zip_append R [] more (y ∷ ys) others are then = absurd are
 zip_append R (x ∷ xs) more [] others are then = absurd are
 zip_append R (x ∷ xs) more (y ∷ ys) others are then = (are.0, zip_append R xs more ys others are.1 then)
 
-module _ (pins : List Pin) (slew load : ℕ) where
-  abbrev pub Inside : ArcEdge → Type 0
-  Inside edge = IsInside slew load edge.tables
+module _ (pins : List Pin) (slew load : ℕ) (beyond : Beyond) where
+  abbrev pub Valued : ArcEdge → Type 0
+  Valued edge = HasValues slew load beyond edge.tables
 
   -- no edge adds no row
-  pub adds_none : (rows : List ArcRow) → AddsEdges pins slew load [] rows rows
-  adds_none rows = record { added = []; is = sym (append-nil rows); each = tt; inside = All-from_recursion Inside [] tt }
+  pub adds_none : (rows : List ArcRow) → AddsEdges pins slew load beyond [] rows rows
+  adds_none rows = record { added = []; is = sym (append-nil rows); each = tt; valued = All-from_recursion Valued [] tt }
 
   -- some edges after others
-  pub adds_then : (edges more : List ArcEdge) (before middle after : List ArcRow) → AddsEdges pins slew load edges before middle → AddsEdges pins slew load more middle after → AddsEdges pins slew load (edges ++ more) before after
+  pub adds_then : (edges more : List ArcEdge) (before middle after : List ArcRow) → AddsEdges pins slew load beyond edges before middle → AddsEdges pins slew load beyond more middle after → AddsEdges pins slew load beyond (edges ++ more) before after
   adds_then edges more before middle after one other = record {
     added = one.added ++ other.added;
     is = other.is ∙ ap (λ rows. rows ++ other.added) one.is ∙ append_assoc before one.added other.added;
-    each = zip_append (IsArcRow pins slew load) edges more one.added other.added one.each other.each;
-    inside = All-append Inside edges more one.inside other.inside;
+    each = zip_append (IsArcRow pins slew load beyond) edges more one.added other.added one.each other.each;
+    valued = All-append Valued edges more one.valued other.valued;
   }
 
-  -- an edge that is outside among the first of some edges, and behind some that are not
-  pub outside_front : (cell : List ℕ) (edges more : List ArcEdge) (refusal : Refusal) → IsFirstOutside cell pins slew load edges refusal → IsFirstOutside cell pins slew load (edges ++ more) refusal
-  outside_front cell edges more refusal is = record {
+  -- an edge that is refused among the first of some edges, and behind some that are not
+  pub refused_front : (cell : List ℕ) (edges more : List ArcEdge) (refusal : Refusal) → IsFirstRefused cell pins slew load beyond edges refusal → IsFirstRefused cell pins slew load beyond (edges ++ more) refusal
+  refused_front cell edges more refusal is = record {
     before = is.before;
     here = is.here;
     behind = is.behind ++ more;
     split = ap (λ l. l ++ more) is.split ∙ append_assoc is.before (is.here ∷ is.behind) more;
-    inside = is.inside;
+    valued = is.valued;
     part = is.part;
-    outside = is.outside;
-    is_outside = is.is_outside;
+    end = is.end;
+    is_end = is.is_end;
     refused = is.refused;
   }
 
-  pub outside_then : (cell : List ℕ) (edges more : List ArcEdge) (before after : List ArcRow) (refusal : Refusal) → AddsEdges pins slew load edges before after → IsFirstOutside cell pins slew load more refusal → IsFirstOutside cell pins slew load (edges ++ more) refusal
-  outside_then cell edges more before after refusal adds is = record {
+  pub refused_then : (cell : List ℕ) (edges more : List ArcEdge) (before after : List ArcRow) (refusal : Refusal) → AddsEdges pins slew load beyond edges before after → IsFirstRefused cell pins slew load beyond more refusal → IsFirstRefused cell pins slew load beyond (edges ++ more) refusal
+  refused_then cell edges more before after refusal adds is = record {
     before = edges ++ is.before;
     here = is.here;
     behind = is.behind;
     split = ap (λ l. edges ++ l) is.split ∙ sym (append_assoc edges is.before (is.here ∷ is.behind));
-    inside = All-append Inside edges is.before adds.inside is.inside;
+    valued = All-append Valued edges is.before adds.valued is.valued;
     part = is.part;
-    outside = is.outside;
-    is_outside = is.is_outside;
+    end = is.end;
+    is_end = is.is_end;
     refused = is.refused;
   }
 
   -- the row of one edge
-  pub adds_one : (arc : Arc) (edge : Edge) (tables : EdgeTables) (looked : Looked) (rows after : List ArcRow) (row : ArcRow) → IsLooked slew load tables looked → IsRowOf pins arc edge looked row → IsInside slew load tables → after ≡ rows ++ row ∷ []
-      → AddsEdges pins slew load (record { arc = arc; edge = edge; tables = tables } ∷ []) rows after
-  adds_one arc edge tables looked rows after row says is inside e = record {
+  pub adds_one : (arc : Arc) (edge : Edge) (tables : EdgeTables) (looked : Looked) (rows after : List ArcRow) (row : ArcRow) → IsLooked slew load beyond tables looked → IsRowOf pins arc edge looked row → after ≡ rows ++ row ∷ []
+      → AddsEdges pins slew load beyond (record { arc = arc; edge = edge; tables = tables } ∷ []) rows after
+  adds_one arc edge tables looked rows after row says is e = record {
     added = row ∷ [];
     is = e;
     each = (
@@ -98,26 +94,27 @@ module _ (pins : List Pin) (slew load : ℕ) where
         from = is.from;
         to = is.to;
         edge = is.same_edge;
-        delay = subst (λ (v : ℤ). IsInterpolant tables.delay slew load Femto Refuse v) (sym is.delay) says.delay;
-        transition = subst (λ (v : AttoSeconds). IsInterpolant tables.slew slew load Atto Refuse v.0) (sym is.slew) says.transition;
+        delay = subst (λ (v : ℤ). IsInterpolant tables.delay slew load Femto beyond v) (sym is.delay) says.delay;
+        transition = subst (λ (v : AttoSeconds). IsInterpolant tables.slew slew load Atto beyond v.0) (sym is.slew) says.transition;
       },
       tt,
     );
-    inside = All-from_recursion Inside (record { arc = arc; edge = edge; tables = tables } ∷ []) (inside, tt);
+    valued = All-from_recursion Valued (record { arc = arc; edge = edge; tables = tables } ∷ [])
+        (record { delay = (looked.delay, says.delay); transition = (looked.slew.0, says.transition) }, tt);
   }
 
-  -- one edge that is outside
-  pub outside_one : (cell : List ℕ) (arc : Arc) (edge : Edge) (tables : EdgeTables) (part : Part) (outside : Outside) (refusal : Refusal) → IsEdgeOutside slew load tables part outside → IsEdgeRefusal cell pins arc edge part outside refusal
-      → IsFirstOutside cell pins slew load (record { arc = arc; edge = edge; tables = tables } ∷ []) refusal
-  outside_one cell arc edge tables part outside refusal is refused = record {
+  -- one edge that is refused
+  pub refused_one : (cell : List ℕ) (arc : Arc) (edge : Edge) (tables : EdgeTables) (part : Part) (end : LookupEnd) (refusal : Refusal) → IsEdgeEnd slew load beyond tables part end → IsEdgeRefusal cell pins arc edge part end refusal
+      → IsFirstRefused cell pins slew load beyond (record { arc = arc; edge = edge; tables = tables } ∷ []) refusal
+  refused_one cell arc edge tables part end refusal is refused = record {
     before = [];
     here = record { arc = arc; edge = edge; tables = tables };
     behind = [];
     split = refl;
-    inside = All-from_recursion Inside [] tt;
+    valued = All-from_recursion Valued [] tt;
     part = part;
-    outside = outside;
-    is_outside = is;
+    end = end;
+    is_end = is;
     refused = refused;
   }
 
@@ -153,29 +150,29 @@ pub refusal_on : (A B : Type 0) (result : Result B (NoFileEnd Refusal)) (end : N
 refusal_on A B (Ok value) end P Q is holds more = tt
 refusal_on A B (Err other) end P Q is holds more = on_refusal A B other P Q (subst (λ (e : NoFileEnd Refusal). OnRefusal {A = A} (Err e) P) (sym is) holds) more
 
-on_outside : (name : List ℕ) (cell : TimedCell) (slew load : ℕ) (end : NoFileEnd Refusal) → OnRefusal {A = List ArcRow} (Err end) (IsFirstOutside name cell.pins slew load (arc_edges cell.arcs)) → FollowsNoFile (CellGives name cell slew load) (Err end)
-on_outside name cell slew load (no_file.Refused refusal) is = some_outside refusal is
-on_outside name cell slew load no_file.OutOfMemory is = tt
+on_refused : (name : List ℕ) (cell : TimedCell) (slew load : ℕ) (beyond : Beyond) (end : NoFileEnd Refusal) → OnRefusal {A = List ArcRow} (Err end) (IsFirstRefused name cell.pins slew load beyond (arc_edges cell.arcs)) → FollowsNoFile (CellGives name cell slew load beyond) (Err end)
+on_refused name cell slew load beyond (no_file.Refused refusal) is = some_refused refusal is
+on_refused name cell slew load beyond no_file.OutOfMemory is = tt
 
-pub refusal_passes : (A : Type 0) (name : List ℕ) (cell : TimedCell) (slew load : ℕ) (result : Result (List ArcRow) (NoFileEnd Refusal)) (end : NoFileEnd Refusal) (P : Refusal → Type 0) → IsErrAnd result (λ other. other ≡ end) → OnRefusal {A = A} (Err end) P
-    → ((refusal : Refusal) → P refusal → IsFirstOutside name cell.pins slew load (arc_edges cell.arcs) refusal) → FollowsNoFile (CellGives name cell slew load) result
-refusal_passes A name cell slew load (Ok value) end P is holds more = absurd is
-refusal_passes A name cell slew load (Err other) end P is holds more =
-    on_outside name cell slew load other
-    (on_refusal A (List ArcRow) other P (IsFirstOutside name cell.pins slew load (arc_edges cell.arcs)) (subst (λ (e : NoFileEnd Refusal). OnRefusal {A = A} (Err e) P) (sym is) holds) more)
+pub refusal_passes : (A : Type 0) (name : List ℕ) (cell : TimedCell) (slew load : ℕ) (beyond : Beyond) (result : Result (List ArcRow) (NoFileEnd Refusal)) (end : NoFileEnd Refusal) (P : Refusal → Type 0) → IsErrAnd result (λ other. other ≡ end) → OnRefusal {A = A} (Err end) P
+    → ((refusal : Refusal) → P refusal → IsFirstRefused name cell.pins slew load beyond (arc_edges cell.arcs) refusal) → FollowsNoFile (CellGives name cell slew load beyond) result
+refusal_passes A name cell slew load beyond (Ok value) end P is holds more = absurd is
+refusal_passes A name cell slew load beyond (Err other) end P is holds more =
+    on_refused name cell slew load beyond other
+    (on_refusal A (List ArcRow) other P (IsFirstRefused name cell.pins slew load beyond (arc_edges cell.arcs)) (subst (λ (e : NoFileEnd Refusal). OnRefusal {A = A} (Err e) P) (sym is) holds) more)
 
--- an arc with an edge that is outside, behind arcs that have none
-pub outside_in : (name : List ℕ) (cell : TimedCell) (slew load : ℕ) (pins : List Pin) (arcs : List Arc) (i : ℕ) (arc : Arc) (rows : List ArcRow) (refusal : Refusal) → pins ≡ cell.pins → arcs ≡ cell.arcs → i < length arcs → arc ≡ get_or arcs i arc
-    → AddsEdges pins slew load (arc_edges (take i arcs)) [] rows → IsFirstOutside name pins slew load (edges_of arc) refusal → IsFirstOutside name cell.pins slew load (arc_edges cell.arcs) refusal
-outside_in name cell slew load pins arcs i arc rows refusal pins_are arcs_are below here adds is =
+-- an arc with an edge that is refused, behind arcs that have none
+pub refused_in : (name : List ℕ) (cell : TimedCell) (slew load : ℕ) (beyond : Beyond) (pins : List Pin) (arcs : List Arc) (i : ℕ) (arc : Arc) (rows : List ArcRow) (refusal : Refusal) → pins ≡ cell.pins → arcs ≡ cell.arcs → i < length arcs → arc ≡ get_or arcs i arc
+    → AddsEdges pins slew load beyond (arc_edges (take i arcs)) [] rows → IsFirstRefused name pins slew load beyond (edges_of arc) refusal → IsFirstRefused name cell.pins slew load beyond (arc_edges cell.arcs) refusal
+refused_in name cell slew load beyond pins arcs i arc rows refusal pins_are arcs_are below here adds is =
     let front = arc_edges (take i arcs) in
     let whole : arc_edges arcs ≡ (front ++ edges_of arc) ++ arc_edges (drop (i + 1) arcs) =
     edges_front arcs (i + 1) ∙ ap (λ edges. edges ++ arc_edges (drop (i + 1) arcs)) (edges_more arcs i arc below here) in
-    let first : IsFirstOutside name pins slew load (arc_edges arcs) refusal =
-    subst (λ (edges : List ArcEdge). IsFirstOutside name pins slew load edges refusal) (sym whole)
-    (outside_front pins slew load name (front ++ edges_of arc) (arc_edges (drop (i + 1) arcs)) refusal (outside_then pins slew load name front (edges_of arc) [] rows refusal adds is)) in
-    subst (λ (p : List Pin). IsFirstOutside name p slew load (arc_edges cell.arcs) refusal) pins_are
-    (subst (λ (a : List Arc). IsFirstOutside name pins slew load (arc_edges a) refusal) arcs_are first)
+    let first : IsFirstRefused name pins slew load beyond (arc_edges arcs) refusal =
+    subst (λ (edges : List ArcEdge). IsFirstRefused name pins slew load beyond edges refusal) (sym whole)
+    (refused_front pins slew load beyond name (front ++ edges_of arc) (arc_edges (drop (i + 1) arcs)) refusal (refused_then pins slew load beyond name front (edges_of arc) [] rows refusal adds is)) in
+    subst (λ (p : List Pin). IsFirstRefused name p slew load beyond (arc_edges cell.arcs) refusal) pins_are
+    (subst (λ (a : List Arc). IsFirstRefused name pins slew load beyond (arc_edges a) refusal) arcs_are first)
 
 -- the edges up to an arc are no more than all
 pub count_within : (arcs : List Arc) (i : ℕ) (arc : Arc) → i < length arcs → arc ≡ get_or arcs i arc → length (arc_edges (take i arcs)) + length (edges_of arc) ≤ length (arc_edges arcs)
@@ -185,43 +182,37 @@ count_within arcs i arc below here =
     omega (arith, front, more)
 
 -- the rows of one arc more
-pub adds_more : (pins : List Pin) (slew load : ℕ) (arcs : List Arc) (i : ℕ) (arc : Arc) (rows after : List ArcRow) → i < length arcs → arc ≡ get_or arcs i arc → AddsEdges pins slew load (arc_edges (take i arcs)) [] rows → AddsEdges pins slew load (edges_of arc) rows after
-    → AddsEdges pins slew load (arc_edges (take (i + 1) arcs)) [] after
-adds_more pins slew load arcs i arc rows after below here front more =
-    subst (λ (edges : List ArcEdge). AddsEdges pins slew load edges [] after) (sym (edges_more arcs i arc below here)) (adds_then pins slew load (arc_edges (take i arcs)) (edges_of arc) [] rows after front more)
+pub adds_more : (pins : List Pin) (slew load : ℕ) (beyond : Beyond) (arcs : List Arc) (i : ℕ) (arc : Arc) (rows after : List ArcRow) → i < length arcs → arc ≡ get_or arcs i arc → AddsEdges pins slew load beyond (arc_edges (take i arcs)) [] rows → AddsEdges pins slew load beyond (edges_of arc) rows after
+    → AddsEdges pins slew load beyond (arc_edges (take (i + 1) arcs)) [] after
+adds_more pins slew load beyond arcs i arc rows after below here front more =
+    subst (λ (edges : List ArcEdge). AddsEdges pins slew load beyond edges [] after) (sym (edges_more arcs i arc below here)) (adds_then pins slew load beyond (arc_edges (take i arcs)) (edges_of arc) [] rows after front more)
 
 -- the rows of all arcs
-pub gives_all : (name : List ℕ) (cell : TimedCell) (slew load : ℕ) (pins : List Pin) (arcs : List Arc) (i : ℕ) (rows : List ArcRow) → pins ≡ cell.pins → arcs ≡ cell.arcs → length arcs ≤ i → AddsEdges pins slew load (arc_edges (take i arcs)) [] rows
-    → CellGives name cell slew load (Ok rows)
-gives_all name cell slew load pins arcs i rows pins_are arcs_are all adds =
-    all_inside rows
-    (subst (λ (p : List Pin). AddsEdges p slew load (arc_edges cell.arcs) [] rows) pins_are
-    (subst (λ (a : List Arc). AddsEdges pins slew load (arc_edges a) [] rows) (take_all i arcs all ∙ arcs_are) adds))
+pub gives_all : (name : List ℕ) (cell : TimedCell) (slew load : ℕ) (beyond : Beyond) (pins : List Pin) (arcs : List Arc) (i : ℕ) (rows : List ArcRow) → pins ≡ cell.pins → arcs ≡ cell.arcs → length arcs ≤ i → AddsEdges pins slew load beyond (arc_edges (take i arcs)) [] rows
+    → CellGives name cell slew load beyond (Ok rows)
+gives_all name cell slew load beyond pins arcs i rows pins_are arcs_are all adds =
+    all_valued rows
+    (subst (λ (p : List Pin). AddsEdges p slew load beyond (arc_edges cell.arcs) [] rows) pins_are
+    (subst (λ (a : List Arc). AddsEdges pins slew load beyond (arc_edges a) [] rows) (take_all i arcs all ∙ arcs_are) adds))
 
--- that an edge is outside comes after the tables are read
-pub rows_late : (name : List ℕ) (cell : TimedCell) (slew load : ℕ) (refusal : Refusal) → CellGives name cell slew load (Err refusal) → IsTrue (is_early refusal) → ⊥
-rows_late name cell slew load refusal (some_outside same is) early = late name cell.pins is.here.arc is.here.edge is.part is.outside refusal is.refused early
+-- that a table has no value comes after the tables are read
+pub rows_late : (name : List ℕ) (cell : TimedCell) (slew load : ℕ) (beyond : Beyond) (refusal : Refusal) → CellGives name cell slew load beyond (Err refusal) → IsTrue (is_early refusal) → ⊥
+rows_late name cell slew load beyond refusal (some_refused same is) early = late name cell.pins is.here.arc is.here.edge is.part is.end refusal is.refused early
   where
-    late : (name : List ℕ) (pins : List Pin) (arc : Arc) (edge : Edge) (part : Part) (outside : Outside) (refusal : Refusal) → IsEdgeRefusal name pins arc edge part outside refusal → IsTrue (is_early refusal) → ⊥
-    late name pins arc edge part outside refusal (outside_at from to) early = cc
+    late : (name : List ℕ) (pins : List Pin) (arc : Arc) (edge : Edge) (part : Part) (end : LookupEnd) (refusal : Refusal) → IsEdgeRefusal name pins arc edge part end refusal → IsTrue (is_early refusal) → ⊥
+    late name pins arc edge part end refusal (outside_at outside from to) early = cc
+    late name pins arc edge part end refusal (past_time_at from to) early = cc
 
 -- the pin at a place has its name
 pub is_named : (pins : List Pin) (place : ℕ) (pin : Pin) (name : List ℕ) → place < length pins → pin ≡ get_or pins place pin → name ≡ (get_or pins place pin).name → IsNamed pins place name
 is_named pins place pin name below is named = record { pin = pin; here = slice_get_read pins (length pins) place pin refl below is; named = named ∙ ap (λ (p : Pin). p.name) (sym is) }
 
 pub outside_so : (cell : List ℕ) (pins : List Pin) (arc : Arc) (edge : Edge) (part : Part) (outside : Outside) (instance from to : List ℕ) → instance ≡ cell → IsNamed pins arc.from from → IsNamed pins arc.to to
-    → IsEdgeRefusal cell pins arc edge part outside (refusal.Outside instance from to edge 0 part outside.axis outside.value)
+    → IsEdgeRefusal cell pins arc edge part (lookup_end.Outside outside) (refusal.Outside instance from to edge 0 part outside.axis outside.value)
 outside_so cell pins arc edge part outside instance from to same from_named to_named =
-    subst (λ (i : List ℕ). IsEdgeRefusal cell pins arc edge part outside (refusal.Outside i from to edge 0 part outside.axis outside.value)) (sym same) (outside_at from_named to_named)
+    subst (λ (i : List ℕ). IsEdgeRefusal cell pins arc edge part (lookup_end.Outside outside) (refusal.Outside i from to edge 0 part outside.axis outside.value)) (sym same) (outside_at outside from_named to_named)
 
-abbrev ended : LookupEnd → Result ℤ LookupEnd
-ended end = Err end
-
-no_end : (end : LookupEnd) (value : ℤ) → ended end ≡ Ok value → ⊥
-no_end end value same = cc
-
--- a table that has a value reaches the point
-pub reaching : (table : TimingTable) (slew load : ℕ) (grain : Grain) (value : ℤ) → ((other : Result ℤ LookupEnd) → IsLookup table slew load grain Refuse other → other ≡ Ok value) → Reaches table slew load
-reaching table slew load grain value only =
-    let slew_within : ¬ IsPassed table.slew slew = λ past. no_end (lookup_end.Outside (record { axis = Slew; value = slew })) value (only (ended (lookup_end.Outside (record { axis = Slew; value = slew }))) (slew_outside past)) in
-    record { slew_within = slew_within; load_within = λ past. no_end (lookup_end.Outside (record { axis = Load; value = load })) value (only (ended (lookup_end.Outside (record { axis = Load; value = load }))) (load_outside slew_within past)) }
+pub past_time_so : (cell : List ℕ) (pins : List Pin) (arc : Arc) (edge : Edge) (part : Part) (instance from to : List ℕ) → instance ≡ cell → IsNamed pins arc.from from → IsNamed pins arc.to to
+    → IsEdgeRefusal cell pins arc edge part lookup_end.PastTime (refusal.PastTime instance from to edge 0 part)
+past_time_so cell pins arc edge part instance from to same from_named to_named =
+    subst (λ (i : List ℕ). IsEdgeRefusal cell pins arc edge part lookup_end.PastTime (refusal.PastTime i from to edge 0 part)) (sym same) (past_time_at from_named to_named)

@@ -5,8 +5,9 @@ use Rattle.edge_io.specs.Holding.{Held, TellsMissing}
 use Rattle.edge_io.specs.Told.{appended, AppendsFrontOf}
 use Rattle.verdict_phases.specs.Phases.{RefusedBy, Unread, Reads, Go, Halt}
 use Rattle.corner_set.specs.declared.pick.Pick.{Pick}
+use Rattle.nldm_lookup.specs.declared.beyond.Beyond.{Beyond}
 use Rattle.gdc_words.specs.declared.commands.Command.{Command}
-use Rattle.gdc_words.specs.declared.commands.Command.TheVariants.{Wires, Show, Lookup, Help, Version}
+use Rattle.gdc_words.specs.declared.commands.Command.TheVariants.{Wires, Show, Lookup, Flat, Help, Version}
 use Rattle.gdc_words.specs.declared.faults.UsageFault.{UsageFault}
 use Rattle.gdc_words.proofs.Pairs.{one_request}
 use Rattle.delay_core.specs.declared.refusal.FileKey.{FileKey}
@@ -16,6 +17,7 @@ use Rattle.gdc_run.specs.declared.outcome.Outcome.TheVariants.{Done, Refused, Us
 use Rattle.gdc_words.specs.CommandLine.{Request, Asks}
 use Rattle.gdc_run.specs.Verdict.{Faulty, Answers, Gives, CommandGives, WiresGives, ShowGives, LookupGives, at_reading, at_sdf_reading, at_library_reading}
 use Rattle.gdc_run.specs.Outcomes.{OnDone, IfRefused, IfUsage, IfReadFault, OnWriteFault, GivesText, HasReadFault, AnswersUsage, name_of}
+use Rattle.gdc_run.proofs.FlatFiles.{unread_flat}
 use Rattle.gdc_run.specs.Completeness.{AnswersVerdict, IsComplete}
 
 -- the one file that `wires` reads, and that of `show`
@@ -25,8 +27,8 @@ wires_reads held pick name key (at_reading why reads) = reads
 show_reads : (held : Option Held) (name : List ℕ) (key : FileKey) → ShowGives held name (Halt (Reads key)) → key ≡ Sdf
 show_reads held name key (at_sdf_reading why reads) = reads
 
-lookup_reads : (held : Option Held) (file name : List ℕ) (slew load : ℕ) (key : FileKey) → LookupGives held file name slew load (Halt (Reads key)) → key ≡ Lib
-lookup_reads held file name slew load key (at_library_reading why reads) = reads
+lookup_reads : (held : Option Held) (file name : List ℕ) (slew load : ℕ) (beyond : Beyond) (key : FileKey) → LookupGives held file name slew load beyond (Halt (Reads key)) → key ≡ Lib
+lookup_reads held file name slew load beyond key (at_library_reading why reads) = reads
 
 -- the phases of a command come to the file that the shelf tells is not held
 unread_file : (held : Option Held) (command : Command) (request : Request) (key : FileKey) → CommandGives held command request (Halt (Reads key)) → TellsMissing held (name_of request key) → CommandGives held command request (Halt (Unread key))
@@ -46,12 +48,13 @@ unread_file held Show request LibMax reached missing = cc (show_reads _ _ LibMax
 unread_file held Show request Spef reached missing = cc (show_reads _ _ Spef reached)
 unread_file held Lookup request Lib reached missing =
     record { slew = reached.slew; load = reached.load; slew_reads = reached.slew_reads; load_reads = reached.load_reads; holds = at_library_reading (Unread Lib) (missing, refl) }
-unread_file held Lookup request Netlist reached missing = cc (lookup_reads _ _ _ _ _ Netlist reached.holds)
-unread_file held Lookup request LibMin reached missing = cc (lookup_reads _ _ _ _ _ LibMin reached.holds)
-unread_file held Lookup request LibTyp reached missing = cc (lookup_reads _ _ _ _ _ LibTyp reached.holds)
-unread_file held Lookup request LibMax reached missing = cc (lookup_reads _ _ _ _ _ LibMax reached.holds)
-unread_file held Lookup request Spef reached missing = cc (lookup_reads _ _ _ _ _ Spef reached.holds)
-unread_file held Lookup request Sdf reached missing = cc (lookup_reads _ _ _ _ _ Sdf reached.holds)
+unread_file held Lookup request Netlist reached missing = cc (lookup_reads _ _ _ _ _ _ Netlist reached.holds)
+unread_file held Lookup request LibMin reached missing = cc (lookup_reads _ _ _ _ _ _ LibMin reached.holds)
+unread_file held Lookup request LibTyp reached missing = cc (lookup_reads _ _ _ _ _ _ LibTyp reached.holds)
+unread_file held Lookup request LibMax reached missing = cc (lookup_reads _ _ _ _ _ _ LibMax reached.holds)
+unread_file held Lookup request Spef reached missing = cc (lookup_reads _ _ _ _ _ _ Spef reached.holds)
+unread_file held Lookup request Sdf reached missing = cc (lookup_reads _ _ _ _ _ _ Sdf reached.holds)
+unread_file held Flat request key reached missing = unread_flat request held key reached missing
 unread_file held Help request key reached missing = cc
 unread_file held Version request key reached missing = cc
 

@@ -1,5 +1,10 @@
 pub mod ArcLemmas
 pub mod Completing
+pub mod FlatEnds
+pub mod FlatFiles
+pub mod FlatTexts
+pub mod InTurn
+pub mod OneFlat
 pub mod OneLookup
 pub mod OneText
 pub mod OneVerdict

@@ -12,14 +12,14 @@ use Rattle.edge_io.specs.Holding.{Held}
 use Rattle.edge_io.specs.Zipping.{one_zip}
 use Rattle.gdc_words.specs.Decimals.{IsGrains}
 use Rattle.liberty_groups.specs.Groups.{Group}
-use Rattle.nldm_lookup.specs.Interpolant.{IsLookupEnd, slew_outside, load_outside}
-use Rattle.nldm_lookup.specs.declared.beyond.Beyond.TheVariants.{Refuse}
-use Rattle.nldm_lookup.specs.declared.faults.LookupEnd.TheVariants as lookup_end
+use Rattle.nldm_lookup.specs.Interpolant.{IsLookupEnd}
+use Rattle.nldm_lookup.specs.declared.beyond.Beyond.{Beyond}
+use Rattle.nldm_lookup.specs.declared.faults.LookupEnd.{LookupEnd}
 use Rattle.nldm_lookup.specs.declared.grain.Grain.{Grain}
 use Rattle.nldm_lookup.specs.declared.grain.Grain.TheVariants.{Atto, Femto}
 use Rattle.nldm_lookup.specs.declared.faults.Outside.{Outside}
-use Rattle.nldm_lookup.specs.Tables.{TimingTable}
-use Rattle.nldm_lookup.proofs.OneValue.{one_interpolant}
+use Rattle.nldm_lookup.specs.Tables.{TimingTable, IsTable}
+use Rattle.nldm_lookup.proofs.OneValue.{one_interpolant, value_or_end, one_lookup_lem}
 use Rattle.cell_models.specs.Cells.{TimedCell}
 use Rattle.cell_models.specs.declared.cell.Arc.{Arc}
 use Rattle.cell_models.specs.declared.cell.EdgeTables.{EdgeTables}
@@ -34,7 +34,7 @@ use Rattle.delay_core.specs.declared.refusal.FileKey.TheVariants.{Lib}
 use Rattle.cell_models.specs.declared.edge.Part.{Part}
 use Rattle.delay_core.specs.declared.refusal.Refusal.{Refusal}
 use Rattle.delay_core.specs.declared.refusal.Refusal.TheVariants as refusal
-use Rattle.gdc_run.specs.ArcRows.{ArcEdge, edge_of, edges_of, arc_edges, IsNamed, IsArcRow, Reaches, IsInside, IsEdgeOutside, delay_outside, transition_outside, IsEdgeRefusal, outside_at, IsFirstOutside, AddsEdges, CellGives, all_inside, some_outside}
+use Rattle.gdc_run.specs.ArcRows.{ArcEdge, edge_of, edges_of, arc_edges, IsNamed, IsArcRow, HasValues, IsEdgeEnd, at_delay, at_transition, IsEdgeRefusal, outside_at, past_time_at, IsFirstRefused, AddsEdges, CellGives, all_valued, some_refused}
 use Rattle.delay_core.specs.LibraryPhases.{ParsesLibrary, ModelsCell, has_model}
 use Rattle.gdc_run.specs.Verdict.{ReadsLib, ReadsArcs, at_library, at_cell, of_cell, LookupGives, at_library_reading, at_arcs, with_arc_rows}
 use Rattle.gdc_run.specs.OneVerdict.{IsDecided, SameStep, HasOneAnswer}
@@ -63,17 +63,17 @@ same_row : (one other : ArcRow) → one.from ≡ other.from → one.to ≡ other
 same_row one other from to edge delay slew = λ i. record { from = from i; to = to i; edge = edge i; delay = delay i; slew = record { 0 = slew i } }
 
 -- an edge with tables has one row
-abbrev IsRow : List Pin → ℕ → ℕ → ArcEdge → ArcRow → Type 0
-IsRow pins slew load at row = AreTables at.tables × IsArcRow pins slew load at row
+abbrev IsRow : List Pin → ℕ → ℕ → Beyond → ArcEdge → ArcRow → Type 0
+IsRow pins slew load beyond at row = AreTables at.tables × IsArcRow pins slew load beyond at row
 
-one_row : (pins : List Pin) (slew load : ℕ) (at : ArcEdge) (one other : ArcRow) → IsRow pins slew load at one → IsRow pins slew load at other → one ≡ other
-one_row pins slew load at one other (are, r) (also, s) =
+one_row : (pins : List Pin) (slew load : ℕ) (beyond : Beyond) (at : ArcEdge) (one other : ArcRow) → IsRow pins slew load beyond at one → IsRow pins slew load beyond at other → one ≡ other
+one_row pins slew load beyond at one other (are, r) (also, s) =
     same_row one other
     (one_name pins at.arc.from one.from other.from r.from s.from)
     (one_name pins at.arc.to one.to other.to r.to s.to)
     (r.edge ∙ sym s.edge)
-    (one_interpolant one_rounding_lem at.tables.delay slew load Femto Refuse one.delay other.delay are.delay r.delay s.delay)
-    (one_interpolant one_rounding_lem at.tables.slew slew load Atto Refuse one.slew.0 other.slew.0 are.slew r.transition s.transition)
+    (one_interpolant one_rounding_lem at.tables.delay slew load Femto beyond one.delay other.delay are.delay r.delay s.delay)
+    (one_interpolant one_rounding_lem at.tables.slew slew load Atto beyond one.slew.0 other.slew.0 are.slew r.transition s.transition)
 
 abbrev HasTablesAt : ArcEdge → Type 0
 HasTablesAt at = AreTables at.tables
@@ -93,85 +93,100 @@ edges_have (arc ∷ arcs) are =
     (both_have (edge_of arc Rise arc.rise) (edge_of arc Fall arc.fall) (edge_has arc Rise arc.rise are.0.rise) (edge_has arc Fall arc.fall are.0.fall))
     (edges_have arcs are.1)
 
-with_tables : (pins : List Pin) (slew load : ℕ) (edges : List ArcEdge) (rows : List ArcRow) → AllByRecursion HasTablesAt edges → AllZip (IsArcRow pins slew load) edges rows → AllZip (IsRow pins slew load) edges rows
-with_tables pins slew load [] [] are all = tt
-with_tables pins slew load [] (row ∷ rows) are all = absurd all
-with_tables pins slew load (at ∷ edges) [] are all = absurd all
-with_tables pins slew load (at ∷ edges) (row ∷ rows) are all = ((are.0, all.0), with_tables pins slew load edges rows are.1 all.1)
+with_tables : (pins : List Pin) (slew load : ℕ) (beyond : Beyond) (edges : List ArcEdge) (rows : List ArcRow) → AllByRecursion HasTablesAt edges → AllZip (IsArcRow pins slew load beyond) edges rows → AllZip (IsRow pins slew load beyond) edges rows
+with_tables pins slew load beyond [] [] are all = tt
+with_tables pins slew load beyond [] (row ∷ rows) are all = absurd all
+with_tables pins slew load beyond (at ∷ edges) [] are all = absurd all
+with_tables pins slew load beyond (at ∷ edges) (row ∷ rows) are all = ((are.0, all.0), with_tables pins slew load beyond edges rows are.1 all.1)
 
-one_rows : (pins : List Pin) (slew load : ℕ) (edges : List ArcEdge) (one other : List ArcRow) → AllByRecursion HasTablesAt edges → AddsEdges pins slew load edges [] one → AddsEdges pins slew load edges [] other → one ≡ other
-one_rows pins slew load edges one other are r s =
-    r.is ∙ one_zip (IsRow pins slew load) (one_row pins slew load) edges r.added s.added (with_tables pins slew load edges r.added are r.each) (with_tables pins slew load edges s.added are s.each) ∙ sym s.is
+one_rows : (pins : List Pin) (slew load : ℕ) (beyond : Beyond) (edges : List ArcEdge) (one other : List ArcRow) → AllByRecursion HasTablesAt edges → AddsEdges pins slew load beyond edges [] one → AddsEdges pins slew load beyond edges [] other → one ≡ other
+one_rows pins slew load beyond edges one other are r s =
+    r.is ∙ one_zip (IsRow pins slew load beyond) (one_row pins slew load beyond) edges r.added s.added (with_tables pins slew load beyond edges r.added are r.each) (with_tables pins slew load beyond edges s.added are s.each) ∙ sym s.is
 
--- ---- an edge that is outside
+-- ---- an edge with a table that has no value
 
-not_outside : (table : TimingTable) (slew load : ℕ) (grain : Grain) (outside : Outside) → Reaches table slew load → IsLookupEnd table slew load grain Refuse (lookup_end.Outside outside) → ⊥
-not_outside table slew load grain _ reaches (slew_outside past) = reaches.slew_within past
-not_outside table slew load grain _ reaches (load_outside within past) = reaches.load_within past
+valued_or_ended : (slew load : ℕ) (beyond : Beyond) (tables : EdgeTables) (part : Part) (end : LookupEnd) → AreTables tables → HasValues slew load beyond tables → IsEdgeEnd slew load beyond tables part end → ⊥
+valued_or_ended slew load beyond tables _ end are valued (at_delay is) = value_or_end one_rounding_lem tables.delay slew load Femto beyond valued.delay.0 end are.delay valued.delay.1 is
+valued_or_ended slew load beyond tables _ end are valued (at_transition has is) = value_or_end one_rounding_lem tables.slew slew load Atto beyond valued.transition.0 end are.slew valued.transition.1 is
 
-one_outside : (table : TimingTable) (slew load : ℕ) (grain : Grain) (one other : Outside) → IsLookupEnd table slew load grain Refuse (lookup_end.Outside one) → IsLookupEnd table slew load grain Refuse (lookup_end.Outside other) → one ≡ other
-one_outside table slew load grain _ _ (slew_outside past) (slew_outside also) = refl
-one_outside table slew load grain _ _ (slew_outside past) (load_outside within also) = absurd (within past)
-one_outside table slew load grain _ _ (load_outside within past) (slew_outside also) = absurd (within also)
-one_outside table slew load grain _ _ (load_outside within past) (load_outside inside also) = refl
+abbrev ended : LookupEnd → Result ℤ LookupEnd
+ended end = Err end
 
-inside_or_outside : (slew load : ℕ) (tables : EdgeTables) (part : Part) (outside : Outside) → IsInside slew load tables → IsEdgeOutside slew load tables part outside → ⊥
-inside_or_outside slew load tables _ outside inside (delay_outside is) = not_outside tables.delay slew load Femto outside inside.delay is
-inside_or_outside slew load tables _ outside inside (transition_outside reaches is) = not_outside tables.slew slew load Atto outside inside.transition is
+one_end : (table : TimingTable) (slew load : ℕ) (grain : Grain) (beyond : Beyond) (one other : LookupEnd) → IsTable table → IsLookupEnd table slew load grain beyond one → IsLookupEnd table slew load grain beyond other → one ≡ other
+one_end table slew load grain beyond one other whole r s = let same : ended one ≡ ended other = one_lookup_lem one_rounding_lem table slew load grain beyond (Err one) (Err other) whole r s in cc
 
-abbrev refusal_at : List ℕ → List ℕ → List ℕ → Edge → Part → Outside → Refusal
-refusal_at cell from to edge part outside = refusal.Outside cell from to edge 0 part outside.axis outside.value
+abbrev outside_refusal : List ℕ → List ℕ → List ℕ → Edge → Part → Outside → Refusal
+outside_refusal cell from to edge part outside = refusal.Outside cell from to edge 0 part outside.axis outside.value
 
-same_refusal : (cell : List ℕ) (pins : List Pin) (arc : Arc) (edge : Edge) (part : Part) (outside other : Outside) (one two : Refusal) → outside ≡ other
-    → IsEdgeRefusal cell pins arc edge part outside one → IsEdgeRefusal cell pins arc edge part other two → one ≡ two
-same_refusal cell pins arc edge part outside other _ _ same (outside_at {from = f} {to = t} from to) (outside_at {from = g} {to = u} start end) =
+abbrev past_time_refusal : List ℕ → List ℕ → List ℕ → Edge → Part → Refusal
+past_time_refusal cell from to edge part = refusal.PastTime cell from to edge 0 part
+
+one_refusal : (cell : List ℕ) (pins : List Pin) (arc : Arc) (edge : Edge) (part : Part) (end : LookupEnd) (one two : Refusal) → IsEdgeRefusal cell pins arc edge part end one → IsEdgeRefusal cell pins arc edge part end two → one ≡ two
+one_refusal cell pins arc edge part _ _ _ (outside_at {from = f} {to = t} outside from to) (outside_at {from = g} {to = u} same start end) =
     let first : f ≡ g = one_name pins arc.from f g from start in
     let second : t ≡ u = one_name pins arc.to t u to end in
-    ap (λ x. refusal_at cell x t edge part outside) first ∙ ap (λ x. refusal_at cell g x edge part outside) second ∙ ap (λ (x : Outside). refusal_at cell g u edge part x) same
+    ap (λ x. outside_refusal cell x t edge part outside) first ∙ ap (λ x. outside_refusal cell g x edge part outside) second
+one_refusal cell pins arc edge part _ _ _ (past_time_at {from = f} {to = t} from to) (past_time_at {from = g} {to = u} start end) =
+    let first : f ≡ g = one_name pins arc.from f g from start in
+    let second : t ≡ u = one_name pins arc.to t u to end in
+    ap (λ x. past_time_refusal cell x t edge part) first ∙ ap (λ x. past_time_refusal cell g x edge part) second
 
-one_part : (cell : List ℕ) (pins : List Pin) (arc : Arc) (edge : Edge) (slew load : ℕ) (tables : EdgeTables) (part more : Part) (outside other : Outside) (one two : Refusal)
-    → IsEdgeOutside slew load tables part outside → IsEdgeOutside slew load tables more other → IsEdgeRefusal cell pins arc edge part outside one → IsEdgeRefusal cell pins arc edge more other two → one ≡ two
-one_part cell pins arc edge slew load tables _ _ outside other one two (delay_outside is) (delay_outside its) r s =
-    same_refusal cell pins arc edge _ outside other one two (one_outside tables.delay slew load Femto outside other is its) r s
-one_part cell pins arc edge slew load tables _ _ outside other one two (delay_outside is) (transition_outside reaches its) r s =
-    absurd (not_outside tables.delay slew load Femto outside reaches is)
-one_part cell pins arc edge slew load tables _ _ outside other one two (transition_outside reaches is) (delay_outside its) r s =
-    absurd (not_outside tables.delay slew load Femto other reaches its)
-one_part cell pins arc edge slew load tables _ _ outside other one two (transition_outside reaches is) (transition_outside reach its) r s =
-    same_refusal cell pins arc edge _ outside other one two (one_outside tables.slew slew load Atto outside other is its) r s
+same_refusal : (cell : List ℕ) (pins : List Pin) (arc : Arc) (edge : Edge) (part : Part) (end other : LookupEnd) (one two : Refusal) → end ≡ other
+    → IsEdgeRefusal cell pins arc edge part end one → IsEdgeRefusal cell pins arc edge part other two → one ≡ two
+same_refusal cell pins arc edge part end other one two same r s =
+    one_refusal cell pins arc edge part other one two (subst (λ (e : LookupEnd). IsEdgeRefusal cell pins arc edge part e one) same r) s
 
--- the edges of a cell are all inside, or the first that is not is one
-module _ (name : List ℕ) (pins : List Pin) (slew load : ℕ) where
-  abbrev Inside : ArcEdge → Type 0
-  Inside at = IsInside slew load at.tables
+one_part : (cell : List ℕ) (pins : List Pin) (arc : Arc) (edge : Edge) (slew load : ℕ) (beyond : Beyond) (tables : EdgeTables) (part more : Part) (end other : LookupEnd) (one two : Refusal) → AreTables tables
+    → IsEdgeEnd slew load beyond tables part end → IsEdgeEnd slew load beyond tables more other → IsEdgeRefusal cell pins arc edge part end one → IsEdgeRefusal cell pins arc edge more other two → one ≡ two
+one_part cell pins arc edge slew load beyond tables _ _ end other one two are (at_delay is) (at_delay its) r s =
+    same_refusal cell pins arc edge _ end other one two (one_end tables.delay slew load Femto beyond end other are.delay is its) r s
+one_part cell pins arc edge slew load beyond tables _ _ end other one two are (at_delay is) (at_transition has its) r s =
+    absurd (value_or_end one_rounding_lem tables.delay slew load Femto beyond has.0 end are.delay has.1 is)
+one_part cell pins arc edge slew load beyond tables _ _ end other one two are (at_transition has is) (at_delay its) r s =
+    absurd (value_or_end one_rounding_lem tables.delay slew load Femto beyond has.0 other are.delay has.1 its)
+one_part cell pins arc edge slew load beyond tables _ _ end other one two are (at_transition has is) (at_transition also its) r s =
+    same_refusal cell pins arc edge _ end other one two (one_end tables.slew slew load Atto beyond end other are.slew is its) r s
 
-  stands_inside : (front back : List ArcEdge) (at : ArcEdge) → AllByRecursion Inside (front ++ at ∷ back) → Inside at
-  stands_inside [] back at all = all.0
-  stands_inside (first ∷ front) back at all = stands_inside front back at all.1
+-- the tables of the edges of a cell have all values, or the first edge with one that has none is one
+module _ (name : List ℕ) (pins : List Pin) (slew load : ℕ) (beyond : Beyond) where
+  abbrev Valued : ArcEdge → Type 0
+  Valued at = HasValues slew load beyond at.tables
 
-  no_outside : (edges : List ArcEdge) (refusal : Refusal) → All Inside edges → IsFirstOutside name pins slew load edges refusal → ⊥
-  no_outside edges refusal inside is =
-      inside_or_outside slew load is.here.tables is.part is.outside
-      (stands_inside is.before is.behind is.here (subst (AllByRecursion Inside) is.split (recursion_from_All Inside edges inside))) is.is_outside
+  stands_for : (P : ArcEdge → Type 0) (front back : List ArcEdge) (at : ArcEdge) → AllByRecursion P (front ++ at ∷ back) → P at
+  stands_for P [] back at all = all.0
+  stands_for P (first ∷ front) back at all = stands_for P front back at all.1
 
-  abbrev IsRefusedAt : ArcEdge → Part → Outside → Refusal → Type 0
-  IsRefusedAt at part outside refusal = IsEdgeOutside slew load at.tables part outside × IsEdgeRefusal name pins at.arc at.edge part outside refusal
+  abbrev here_are : (edges : List ArcEdge) (refusal : Refusal) → AllByRecursion HasTablesAt edges → (is : IsFirstRefused name pins slew load beyond edges refusal) → AreTables is.here.tables
+  here_are edges refusal have is = stands_for HasTablesAt is.before is.behind is.here (subst (AllByRecursion HasTablesAt) is.split have)
 
-  refused_alike : (at : ArcEdge) (part more : Part) (outside other : Outside) (one two : Refusal) → IsRefusedAt at part outside one → IsRefusedAt at more other two → one ≡ two
-  refused_alike at part more outside other one two r s = one_part name pins at.arc at.edge slew load at.tables part more outside other one two r.0 s.0 r.1 s.1
+  no_refusal : (edges : List ArcEdge) (refusal : Refusal) → AllByRecursion HasTablesAt edges → All Valued edges → IsFirstRefused name pins slew load beyond edges refusal → ⊥
+  no_refusal edges refusal have valued is =
+      valued_or_ended slew load beyond is.here.tables is.part is.end (here_are edges refusal have is)
+      (stands_for Valued is.before is.behind is.here (subst (AllByRecursion Valued) is.split (recursion_from_All Valued edges valued))) is.is_end
 
-  one_first : (edges : List ArcEdge) (one other : Refusal) → IsFirstOutside name pins slew load edges one → IsFirstOutside name pins slew load edges other → one ≡ other
-  one_first edges one other r s =
+  abbrev IsRefusedAt : ArcEdge → Part → LookupEnd → Refusal → Type 0
+  IsRefusedAt at part end refusal = IsEdgeEnd slew load beyond at.tables part end × IsEdgeRefusal name pins at.arc at.edge part end refusal
+
+  refused_alike : (at : ArcEdge) (part more : Part) (end other : LookupEnd) (one two : Refusal) → AreTables at.tables → IsRefusedAt at part end one → IsRefusedAt at more other two → one ≡ two
+  refused_alike at part more end other one two are r s = one_part name pins at.arc at.edge slew load beyond at.tables part more end other one two are r.0 s.0 r.1 s.1
+
+  one_first : (edges : List ArcEdge) (one other : Refusal) → AllByRecursion HasTablesAt edges → IsFirstRefused name pins slew load beyond edges one → IsFirstRefused name pins slew load beyond edges other → one ≡ other
+  one_first edges one other have r s =
       let same : r.here ≡ s.here =
-      first_without Inside r.before r.behind s.before s.behind r.here s.here (sym r.split ∙ s.split) (recursion_from_All Inside r.before r.inside) (recursion_from_All Inside s.before s.inside)
-      (λ inside. inside_or_outside slew load r.here.tables r.part r.outside inside r.is_outside) (λ inside. inside_or_outside slew load s.here.tables s.part s.outside inside s.is_outside) in
-      refused_alike s.here r.part s.part r.outside s.outside one other (subst (λ (at : ArcEdge). IsRefusedAt at r.part r.outside one) same (r.is_outside, r.refused)) (s.is_outside, s.refused)
+      first_without Valued r.before r.behind s.before s.behind r.here s.here (sym r.split ∙ s.split) (recursion_from_All Valued r.before r.valued) (recursion_from_All Valued s.before s.valued)
+      (λ valued. valued_or_ended slew load beyond r.here.tables r.part r.end (here_are edges one have r) valued r.is_end)
+      (λ valued. valued_or_ended slew load beyond s.here.tables s.part s.end (here_are edges other have s) valued s.is_end) in
+      refused_alike s.here r.part s.part r.end s.end one other (here_are edges other have s) (subst (λ (at : ArcEdge). IsRefusedAt at r.part r.end one) same (r.is_end, r.refused)) (s.is_end, s.refused)
 
-one_giving : (name : List ℕ) (cell : TimedCell) (slew load : ℕ) (one other : Result (List ArcRow) Refusal) → AllByRecursion HasTables cell.arcs → CellGives name cell slew load one → CellGives name cell slew load other → one ≡ other
-one_giving name cell slew load _ _ have (all_inside rows are) (all_inside more also) = ap Ok (one_rows cell.pins slew load (arc_edges cell.arcs) rows more (edges_have cell.arcs have) are also)
-one_giving name cell slew load _ _ have (all_inside rows are) (some_outside refusal is) = absurd (no_outside name cell.pins slew load (arc_edges cell.arcs) refusal are.inside is)
-one_giving name cell slew load _ _ have (some_outside refusal is) (all_inside rows are) = absurd (no_outside name cell.pins slew load (arc_edges cell.arcs) refusal are.inside is)
-one_giving name cell slew load _ _ have (some_outside refusal is) (some_outside also its) = ap Err (one_first name cell.pins slew load (arc_edges cell.arcs) refusal also is its)
+one_giving : (name : List ℕ) (cell : TimedCell) (slew load : ℕ) (beyond : Beyond) (one other : Result (List ArcRow) Refusal) → AllByRecursion HasTables cell.arcs → CellGives name cell slew load beyond one → CellGives name cell slew load beyond other → one ≡ other
+one_giving name cell slew load beyond _ _ have (all_valued rows are) (all_valued more also) =
+    ap Ok (one_rows cell.pins slew load beyond (arc_edges cell.arcs) rows more (edges_have cell.arcs have) are also)
+one_giving name cell slew load beyond _ _ have (all_valued rows are) (some_refused refusal is) =
+    absurd (no_refusal name cell.pins slew load beyond (arc_edges cell.arcs) refusal (edges_have cell.arcs have) are.valued is)
+one_giving name cell slew load beyond _ _ have (some_refused refusal is) (all_valued rows are) =
+    absurd (no_refusal name cell.pins slew load beyond (arc_edges cell.arcs) refusal (edges_have cell.arcs have) are.valued is)
+one_giving name cell slew load beyond _ _ have (some_refused refusal is) (some_refused also its) =
+    ap Err (one_first name cell.pins slew load beyond (arc_edges cell.arcs) refusal also (edges_have cell.arcs have) is its)
 
 -- ---- what the bytes of a library say
 
@@ -187,7 +202,7 @@ model cell = Ok cell
 abbrev no_cell_model : Refusal → Result TimedCell Refusal
 no_cell_model refusal = Err refusal
 
-module _ (name : List ℕ) (slew load : ℕ) (bytes : List ℕ) where
+module _ (name : List ℕ) (slew load : ℕ) (beyond : Beyond) (bytes : List ℕ) where
   same_tree : (one other : Group) → ParsesLibrary 0 bytes (Ok one) → ParsesLibrary 0 bytes (Ok other) → one ≡ other
   same_tree one other r s = let same : tree one ≡ tree other = one_library_lem 0 bytes (Ok one) (Ok other) r s in cc
 
@@ -202,7 +217,7 @@ module _ (name : List ℕ) (slew load : ℕ) (bytes : List ℕ) where
   has_tables : (library : Group) (cell : TimedCell) → ModelsCell 0 library name (Ok cell) → AllByRecursion HasTables cell.arcs
   has_tables library cell (has_model _ is) = model_tables library name cell is
 
-  one_answer : (one other : Result (List ArcRow) Refusal) → ReadsArcs name slew load bytes one → ReadsArcs name slew load bytes other → one ≡ other
+  one_answer : (one other : Result (List ArcRow) Refusal) → ReadsArcs name slew load beyond bytes one → ReadsArcs name slew load beyond bytes other → one ≡ other
   one_answer _ _ (at_library refusal parses) (at_library also fails) =
       let same : no_tree refusal ≡ no_tree also = one_library_lem 0 bytes (Err refusal) (Err also) parses fails in
       let equal : refusal ≡ also = cc in
@@ -221,7 +236,7 @@ module _ (name : List ℕ) (slew load : ℕ) (bytes : List ℕ) where
   one_answer one other (of_cell library cell _ says models gives) (of_cell more also _ tells makes its) =
       let equal : model cell ≡ model also = one_cell_lem 0 more name (Ok cell) (Ok also) (subst (λ (g : Group). ModelsCell 0 g name (Ok cell)) (same_tree library more says tells) models) makes in
       let same : cell ≡ also = cc in
-      one_giving name also slew load one other (has_tables more also makes) (subst (λ (c : TimedCell). CellGives name c slew load one) same gives) its
+      one_giving name also slew load beyond one other (has_tables more also makes) (subst (λ (c : TimedCell). CellGives name c slew load beyond one) same gives) its
 
 -- ---- the command
 
@@ -234,25 +249,25 @@ same_step (Ok rows) = refl
 same_step (Err refusal) = inl refl
 
 -- the library is not read, or its bytes have an answer
-data Comes (held : Held) (file name : List ℕ) (slew load : ℕ) (step : Step Refusal FileKey (List ArcRow)) : Type 0 where
-  stops : (why : Stop Refusal FileKey) → ReadsLib (Some held) file (Halt why) → step ≡ Halt why → Comes held file name slew load step
-  reads : (bytes : List ℕ) (answer : Result (List ArcRow) Refusal) → ReadsLib (Some held) file (Go bytes) → ReadsArcs name slew load bytes answer → step ≡ step_of answer → Comes held file name slew load step
+data Comes (held : Held) (file name : List ℕ) (slew load : ℕ) (beyond : Beyond) (step : Step Refusal FileKey (List ArcRow)) : Type 0 where
+  stops : (why : Stop Refusal FileKey) → ReadsLib (Some held) file (Halt why) → step ≡ Halt why → Comes held file name slew load beyond step
+  reads : (bytes : List ℕ) (answer : Result (List ArcRow) Refusal) → ReadsLib (Some held) file (Go bytes) → ReadsArcs name slew load beyond bytes answer → step ≡ step_of answer → Comes held file name slew load beyond step
 
-comes : (held : Held) (file name : List ℕ) (slew load : ℕ) (step : Step Refusal FileKey (List ArcRow)) → LookupGives (Some held) file name slew load step → Comes held file name slew load step
-comes held file name slew load _ (at_library_reading why r) = stops why r refl
-comes held file name slew load _ (at_arcs bytes refusal r are) = reads bytes (Err refusal) r are refl
-comes held file name slew load _ (with_arc_rows bytes rows r are) = reads bytes (Ok rows) r are refl
+comes : (held : Held) (file name : List ℕ) (slew load : ℕ) (beyond : Beyond) (step : Step Refusal FileKey (List ArcRow)) → LookupGives (Some held) file name slew load beyond step → Comes held file name slew load beyond step
+comes held file name slew load beyond _ (at_library_reading why r) = stops why r refl
+comes held file name slew load beyond _ (at_arcs bytes refusal r are) = reads bytes (Err refusal) r are refl
+comes held file name slew load beyond _ (with_arc_rows bytes rows r are) = reads bytes (Ok rows) r are refl
 
-one_coming : (held : Held) (file name : List ℕ) (slew load : ℕ) (one other : Step Refusal FileKey (List ArcRow)) → Comes held file name slew load one → Comes held file name slew load other → IsDecided one → IsDecided other → SameStep one other
-one_coming held file name slew load one other (stops w r is) (stops v s its) d e =
+one_coming : (held : Held) (file name : List ℕ) (slew load : ℕ) (beyond : Beyond) (one other : Step Refusal FileKey (List ArcRow)) → Comes held file name slew load beyond one → Comes held file name slew load beyond other → IsDecided one → IsDecided other → SameStep one other
+one_coming held file name slew load beyond one other (stops w r is) (stops v s its) d e =
     subst (λ (x : Step Refusal FileKey (List ArcRow)). SameStep x other) (sym is) (subst (λ (x : Step Refusal FileKey (List ArcRow)). SameStep (Halt w) x) (sym its)
     (stops_alike held Lib file w v r s (subst (λ (x : Step Refusal FileKey (List ArcRow)). IsDecided x) is d) (subst (λ (x : Step Refusal FileKey (List ArcRow)). IsDecided x) its e)))
-one_coming held file name slew load one other (stops w r is) (reads y b s u its) d e = absurd (reads_or_stops held Lib file y w s r (subst (λ (x : Step Refusal FileKey (List ArcRow)). IsDecided x) is d))
-one_coming held file name slew load one other (reads y b s u its) (stops w r is) d e = absurd (reads_or_stops held Lib file y w s r (subst (λ (x : Step Refusal FileKey (List ArcRow)). IsDecided x) is e))
-one_coming held file name slew load one other (reads x a r t is) (reads y b s u its) d e =
-    let same : a ≡ b = one_answer name slew load x a b t (subst (λ (z : List ℕ). ReadsArcs name slew load z b) (reads_alike held Lib file y x s r) u) in
+one_coming held file name slew load beyond one other (stops w r is) (reads y b s u its) d e = absurd (reads_or_stops held Lib file y w s r (subst (λ (x : Step Refusal FileKey (List ArcRow)). IsDecided x) is d))
+one_coming held file name slew load beyond one other (reads y b s u its) (stops w r is) d e = absurd (reads_or_stops held Lib file y w s r (subst (λ (x : Step Refusal FileKey (List ArcRow)). IsDecided x) is e))
+one_coming held file name slew load beyond one other (reads x a r t is) (reads y b s u its) d e =
+    let same : a ≡ b = one_answer name slew load beyond x a b t (subst (λ (z : List ℕ). ReadsArcs name slew load beyond z b) (reads_alike held Lib file y x s r) u) in
     subst (λ (z : Step Refusal FileKey (List ArcRow)). SameStep z other) (sym is) (subst (λ (z : Step Refusal FileKey (List ArcRow)). SameStep (step_of a) z) (sym its)
     (subst (λ (z : Result (List ArcRow) Refusal). SameStep (step_of a) (step_of z)) same (same_step a)))
 
-pub one_lookup : (held : Held) (file name : List ℕ) (slew load : ℕ) → HasOneAnswer (LookupGives (Some held) file name slew load)
-one_lookup held file name slew load one other r s d e = one_coming held file name slew load one other (comes held file name slew load one r) (comes held file name slew load other s) d e
+pub one_lookup : (held : Held) (file name : List ℕ) (slew load : ℕ) (beyond : Beyond) → HasOneAnswer (LookupGives (Some held) file name slew load beyond)
+one_lookup held file name slew load beyond one other r s d e = one_coming held file name slew load beyond one other (comes held file name slew load beyond one r) (comes held file name slew load beyond other s) d e

@@ -28,7 +28,7 @@ one_text limit held key too_long name (Halt (Unread k)) (Halt (Unread j)) r s d 
 one_text limit held key too_long name (Halt (Unread k)) (Halt (Reads j)) r s d e = absurd e
 one_text limit held key too_long name (Halt (Reads k)) other r s d e = absurd d
 
-same_stop : (one other : Stop Refusal FileKey) → one ≡ other → IsFinal one → SameStop one other
+pub same_stop : (one other : Stop Refusal FileKey) → one ≡ other → IsFinal one → SameStop one other
 same_stop one other same final = subst (SameStop one) same (by one final)
   where
     by : (stop : Stop Refusal FileKey) → IsFinal stop → SameStop stop stop
@@ -47,11 +47,13 @@ module _ (held : Held) (key : FileKey) (name : List ℕ) where
   abbrev ReadsIt : Step Refusal FileKey (List ℕ) → Type 0
   ReadsIt step = ReadsFile file_limit (Some held) key (Limit (File key)) name step
 
-  pub stops_alike : (one other : Stop Refusal FileKey) → ReadsIt (Halt one) → ReadsIt (Halt other) → IsFinal one → IsFinal other → SameStop one other
-  stops_alike one other r s d e =
+  pub stops_equal : (one other : Stop Refusal FileKey) → ReadsIt (Halt one) → ReadsIt (Halt other) → IsFinal one → IsFinal other → one ≡ other
+  stops_equal one other r s d e =
       let same : stopped one ≡ stopped other = one_text file_limit held key (Limit (File key)) name (Halt one) (Halt other) r s d e in
-      let equal : one ≡ other = cc in
-      same_stop one other equal d
+      cc
+
+  pub stops_alike : (one other : Stop Refusal FileKey) → ReadsIt (Halt one) → ReadsIt (Halt other) → IsFinal one → IsFinal other → SameStop one other
+  stops_alike one other r s d e = same_stop one other (stops_equal one other r s d e) d
 
   pub reads_or_stops : (bytes : List ℕ) (why : Stop Refusal FileKey) → ReadsIt (Go bytes) → ReadsIt (Halt why) → IsFinal why → ⊥
   reads_or_stops bytes why r s e =

@@ -1,14 +1,14 @@
 -- Two verdicts on the same words and on the same files are one.
-use Rattle.std.proofs.Common.{◌≡◌, ℕ, inl, List, Some, Result, Ok, Err, refl, sym, ap, ◌∙◌, subst}
+use Rattle.std.proofs.Common.{◌≡◌, ℕ, inl, List, [], ◌∷◌, Some, Result, Ok, Err, refl, sym, ap, ◌∙◌, subst}
 use Rattle.edge_io.specs.Holding.{Held}
 use Rattle.verdict_phases.specs.Phases.{Step, Go, Halt}
 use Rattle.verdict_phases.specs.FileReading.{ReadsFile}
 use Rattle.sdf_reader.specs.declared.rows.SdfRow.{SdfRow}
 use Rattle.sdf_reader.proofs.OneFault.{one_fault}
 use Rattle.sdf_reader.proofs.SoFar.{one_rows}
-use Rattle.gdc_words.specs.CommandLine.{Request, value_of, pick_from}
+use Rattle.gdc_words.specs.CommandLine.{Request, value_of, pick_from, beyond_from}
 use Rattle.gdc_words.specs.declared.commands.Command.{Command}
-use Rattle.gdc_words.specs.declared.commands.Command.TheVariants.{Wires, Show, Lookup, Help, Version}
+use Rattle.gdc_words.specs.declared.commands.Command.TheVariants.{Wires, Show, Lookup, Flat, Help, Version}
 use Rattle.gdc_words.specs.declared.commands.Key.TheVariants as key
 use Rattle.gdc_words.specs.declared.faults.UsageFault.{UsageFault}
 use Rattle.gdc_words.proofs.Pairs.{one_request}
@@ -20,8 +20,9 @@ use Rattle.delay_core.specs.declared.refusal.Refusal.TheVariants.{Limit, SdfSynt
 use Rattle.gdc_run.specs.declared.output.Output.{Output}
 use Rattle.gdc_run.specs.declared.output.Output.TheVariants as output
 use Rattle.delay_core.specs.InputFiles.{file_limit}
-use Rattle.gdc_run.specs.Verdict.{ParsesSdf, is_sdf_file, is_no_sdf_file, ShowGives, WiresGives, LookupGives, at_sdf_reading, at_sdf, with_sdf_rows, As, CommandGives, Faulty, Answers}
+use Rattle.gdc_run.specs.Verdict.{ParsesSdf, is_sdf_file, is_no_sdf_file, ShowGives, WiresGives, LookupGives, FlatGives, at_sdf_reading, at_sdf, with_sdf_rows, As, CommandGives, Faulty, Answers}
 use Rattle.gdc_run.specs.OneVerdict.{SameStep, HasOneAnswer, OneVerdict}
+use Rattle.gdc_run.proofs.OneFlat.{one_design}
 use Rattle.gdc_run.proofs.OneLookup.{one_grains, one_lookup}
 use Rattle.gdc_run.proofs.OneText.{read, stops_alike, reads_or_stops, reads_alike}
 use Rattle.gdc_run.proofs.OneWires.{one_wires}
@@ -80,7 +81,8 @@ one_fixed fixed one other r s d e = subst (λ (x : Step Refusal FileKey Output).
 
 -- `lookup`, whose slew and load are one
 abbrev Looks : Held → Request → ℕ → ℕ → Step Refusal FileKey Output → Type 0
-Looks held request slew load step = As output.Arcs (LookupGives (Some held) (value_of request.given key.Lib) (value_of request.given key.Cell) slew load) step
+Looks held request slew load step =
+    As output.Arcs (LookupGives (Some held) (value_of request.given key.Lib) (value_of request.given key.Cell) slew load (beyond_from request.given)) step
 
 one_point : (held : Held) (request : Request) → HasOneAnswer (CommandGives (Some held) Lookup request)
 one_point held request one other r s d e =
@@ -88,13 +90,15 @@ one_point held request one other r s d e =
     let load : s.load ≡ r.load = one_grains (value_of request.given key.Load) s.load r.load s.load_reads r.load_reads in
     let its : Looks held request r.slew r.load other =
     subst (λ (n : ℕ). Looks held request r.slew n other) load (subst (λ (n : ℕ). Looks held request n s.load other) slew s.holds) in
-    one_put output.Arcs (LookupGives (Some held) (value_of request.given key.Lib) (value_of request.given key.Cell) r.slew r.load)
-    (one_lookup held (value_of request.given key.Lib) (value_of request.given key.Cell) r.slew r.load) one other r.holds its d e
+    one_put output.Arcs (LookupGives (Some held) (value_of request.given key.Lib) (value_of request.given key.Cell) r.slew r.load (beyond_from request.given))
+    (one_lookup held (value_of request.given key.Lib) (value_of request.given key.Cell) r.slew r.load (beyond_from request.given)) one other r.holds its d e
 
 one_command : (held : Held) (command : Command) (request : Request) → HasOneAnswer (CommandGives (Some held) command request)
 one_command held Wires request = one_put output.Sdf (WiresGives (Some held) (pick_from request.given) (value_of request.given key.Spef)) (one_wires held (pick_from request.given) (value_of request.given key.Spef))
 one_command held Show request = one_put output.Listing (ShowGives (Some held) (value_of request.given key.Sdf)) (one_show held (value_of request.given key.Sdf))
 one_command held Lookup request = one_point held request
+one_command held Flat request = one_put output.Flat (FlatGives (Some held) (value_of request.given key.Netlist) (value_of request.given key.Top) (value_of request.given key.Lib))
+    (one_design held 1 (value_of request.given key.Netlist) (value_of request.given key.Top) (value_of request.given key.Lib ∷ []))
 one_command held Help request = one_fixed output.Help
 one_command held Version request = one_fixed output.Version
 

@@ -1,4 +1,4 @@
--- `wires` has one answer, the resistor of a mesh aside.
+-- `wires` has one answer, but for the resistor of a mesh.
 use Rattle.std.proofs.Common.{◌≡◌, ℕ, inl, List, Some, Result, Ok, Err, refl, sym, subst}
 use Rattle.std.specs.Prelude.{All}
 use Rattle.corner_set.specs.declared.pick.Pick.{Pick}
@@ -11,13 +11,14 @@ use Rattle.verdict_phases.specs.Phases.{Stop, RefusedBy, Step, Go, Halt}
 use Rattle.delay_core.specs.declared.refusal.FileKey.{FileKey}
 use Rattle.delay_core.specs.declared.refusal.FileKey.TheVariants.{Spef}
 use Rattle.delay_core.specs.declared.refusal.Refusal.{Refusal}
+use Rattle.delay_core.specs.OneAnswer.{SameAnswer}
 use Rattle.delay_core.specs.SpefPhases.{sole_corner, DesignNets, NetsSpef, are_nets, ReadsNets, through}
 use Rattle.delay_core.specs.WireNets.{RowsOf}
 use Rattle.delay_core.specs.WireRows.{TextGives, unread, of_design}
 use Rattle.gdc_run.specs.Verdict.{ReadsSpef, WiresGives, at_reading, at_spef, at_nets, with_rows}
 use Rattle.gdc_run.specs.OneVerdict.{IsDecided, SameStep, HasOneAnswer}
 use Rattle.delay_core.proofs.OneSpefFile.{one_file_refusal, no_design_beside, one_design}
-use Rattle.delay_core.proofs.OneRows.{SameAnswer, one_rows}
+use Rattle.delay_core.proofs.OneRows.{one_rows}
 use Rattle.gdc_run.proofs.OneText.{stops_alike, reads_or_stops, reads_alike}
 
 whole_nets : (pick : Pick) (file : SpefText) (head : HeadText) (nets : List NetElements) → NetsSpef (sole_corner pick) file head (Ok nets) → All (AreWhole 1) nets

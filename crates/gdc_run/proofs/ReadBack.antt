@@ -10,7 +10,7 @@ use Rattle.edge_io.specs.Holding.{Held}
 use Rattle.edge_io.specs.Told.{appended}
 use Rattle.gdc_words.specs.CommandLine.{Request}
 use Rattle.gdc_words.specs.declared.commands.Command.{Command}
-use Rattle.gdc_words.specs.declared.commands.Command.TheVariants.{Wires, Show, Lookup, Help, Version}
+use Rattle.gdc_words.specs.declared.commands.Command.TheVariants.{Wires, Show, Lookup, Flat, Help, Version}
 use Rattle.name_table.specs.declared.spef_names.NodeName.{NodeName}
 use Rattle.rc_tree.specs.ListedPins.{listed_pins}
 use Rattle.rc_tree.specs.NetElements.{NetElements as TreeElements}
@@ -132,6 +132,7 @@ module _ (halves : HalvesSettle) (named : NamedSettles) (law : ReadBack IsSettle
   command_readable held Wires request made (rows, gives, is) = subst IsReadable (sym is) (wires_readable held _ _ rows gives)
   command_readable held Show request made (rows, gives, is) = subst IsReadable (sym is) tt
   command_readable held Lookup request made point = subst IsReadable (sym point.holds.2) tt
+  command_readable held Flat request made (design, gives, is) = subst IsReadable (sym is) tt
   command_readable held Help request made is = let same : output.Help ≡ made = cc in subst IsReadable same tt
   command_readable held Version request made is = let same : output.Version ≡ made = cc in subst IsReadable same tt
 

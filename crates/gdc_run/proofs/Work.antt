@@ -5,7 +5,7 @@ use Rattle.corner_set.specs.declared.pick.Pick.{Pick}
 use Rattle.edge_io.specs.Holding.{Held}
 use Rattle.verdict_phases.specs.Phases.{Go}
 use Rattle.gdc_words.specs.declared.commands.Command.{Command}
-use Rattle.gdc_words.specs.declared.commands.Command.TheVariants.{Wires, Show, Lookup, Help, Version}
+use Rattle.gdc_words.specs.declared.commands.Command.TheVariants.{Wires, Show, Lookup, Flat, Help, Version}
 use Rattle.gdc_words.specs.CommandLine.{Request, Asks}
 use Rattle.liberty_groups.specs.Groups.{Group}
 use Rattle.cell_models.specs.Cells.{TimedCell}
@@ -42,6 +42,7 @@ no_command_work : (held : Option Held) (command : Command) (request : Request) â
 no_command_work held Wires request = no_file
 no_command_work held Show request = refl
 no_command_work held Lookup request = no_library
+no_command_work held Flat request = refl
 no_command_work held Help request = refl
 no_command_work held Version request = refl
 

@@ -1,12 +1,13 @@
--- The rows of a cell's arcs at one slew of their inputs and one load of their outputs.
-use Rattle.std.specs.Prelude.{◌≡◌, ℕ, List, [], ◌∷◌, ◌++◌, flat_map, slice_get, Option, Some, None, Result, Ok, Err, All}
+-- The rows of a cell's arcs at one slew of their inputs and one load of their outputs, where a way is chosen to go past the ends of an axis.
+use Rattle.std.specs.Prelude.{◌≡◌, ℕ, ℤ, List, [], ◌∷◌, ◌++◌, flat_map, slice_get, Option, Some, None, Result, Ok, Err, All}
 use Rattle.std.specs.List.{AllZip}
-use Rattle.nldm_lookup.specs.Betweens.{IsPassed}
 use Rattle.nldm_lookup.specs.Interpolant.{IsInterpolant, IsLookupEnd}
 use Rattle.nldm_lookup.specs.Tables.{TimingTable}
-use Rattle.nldm_lookup.specs.declared.beyond.Beyond.TheVariants.{Refuse}
+use Rattle.nldm_lookup.specs.declared.beyond.Beyond.{Beyond}
+use Rattle.nldm_lookup.specs.declared.faults.LookupEnd.{LookupEnd}
 use Rattle.nldm_lookup.specs.declared.faults.LookupEnd.TheVariants as lookup_end
 use Rattle.nldm_lookup.specs.declared.faults.Outside.{Outside}
+use Rattle.nldm_lookup.specs.declared.grain.Grain.{Grain}
 use Rattle.nldm_lookup.specs.declared.grain.Grain.TheVariants.{Atto, Femto}
 use Rattle.cell_models.specs.Cells.{TimedCell}
 use Rattle.cell_models.specs.declared.cell.Arc.{Arc}
@@ -46,57 +47,59 @@ pub record IsNamed (pins : List Pin) (place : ℕ) (name : List ℕ) : Type 0 wh
 
 -- the row of an edge: its pins, and the interpolants of its tables, each rounded once, the delay to a femtosecond and the transition to an
 -- attosecond
-pub record IsArcRow (pins : List Pin) (slew load : ℕ) (at : ArcEdge) (row : ArcRow) : Type 0 where
+pub record IsArcRow (pins : List Pin) (slew load : ℕ) (beyond : Beyond) (at : ArcEdge) (row : ArcRow) : Type 0 where
   pub from : IsNamed pins at.arc.from row.from
   pub to : IsNamed pins at.arc.to row.to
   pub edge : row.edge ≡ at.edge
-  pub delay : IsInterpolant at.tables.delay slew load Femto Refuse row.delay
-  pub transition : IsInterpolant at.tables.slew slew load Atto Refuse row.slew.0
+  pub delay : IsInterpolant at.tables.delay slew load Femto beyond row.delay
+  pub transition : IsInterpolant at.tables.slew slew load Atto beyond row.slew.0
 
--- a table reaches a slew and a load
-pub record Reaches (table : TimingTable) (slew load : ℕ) : Type 0 where
-  pub slew_within : ¬ IsPassed table.slew slew
-  pub load_within : ¬ IsPassed table.load load
+-- a table has a value at a slew and a load
+abbrev pub HasValue : TimingTable → ℕ → ℕ → Grain → Beyond → Type 0
+HasValue table slew load grain beyond = (value : ℤ) × IsInterpolant table slew load grain beyond value
 
--- both tables of an edge do
-pub record IsInside (slew load : ℕ) (tables : EdgeTables) : Type 0 where
-  pub delay : Reaches tables.delay slew load
-  pub transition : Reaches tables.slew slew load
+-- both tables of an edge have one
+pub record HasValues (slew load : ℕ) (beyond : Beyond) (tables : EdgeTables) : Type 0 where
+  pub delay : HasValue tables.delay slew load Femto beyond
+  pub transition : HasValue tables.slew slew load Atto beyond
 
--- the first table of an edge that does not, the delay before the transition
-pub data IsEdgeOutside (slew load : ℕ) (tables : EdgeTables) : Part → Outside → Type 0 where
-  delay_outside : {outside : Outside} → IsLookupEnd tables.delay slew load Femto Refuse (lookup_end.Outside outside)
-      → IsEdgeOutside slew load tables Delay outside
-  transition_outside : {outside : Outside} → Reaches tables.delay slew load
-      → IsLookupEnd tables.slew slew load Atto Refuse (lookup_end.Outside outside) → IsEdgeOutside slew load tables Transition outside
+-- the first table of an edge that has none, the delay before the transition, and why
+pub data IsEdgeEnd (slew load : ℕ) (beyond : Beyond) (tables : EdgeTables) : Part → LookupEnd → Type 0 where
+  at_delay : {end : LookupEnd} → IsLookupEnd tables.delay slew load Femto beyond end → IsEdgeEnd slew load beyond tables Delay end
+  at_transition : {end : LookupEnd} → HasValue tables.delay slew load Femto beyond → IsLookupEnd tables.slew slew load Atto beyond end
+      → IsEdgeEnd slew load beyond tables Transition end
 
--- the refusal of an edge that is outside, with the name of its cell
-pub data IsEdgeRefusal (cell : List ℕ) (pins : List Pin) (arc : Arc) (edge : Edge) (part : Part) (outside : Outside) : Refusal
-    → Type 0 where
-  outside_at : {from to : List ℕ} → IsNamed pins arc.from from → IsNamed pins arc.to to
-      → IsEdgeRefusal cell pins arc edge part outside (refusal.Outside cell from to edge 0 part outside.axis outside.value)
+-- the refusal of an edge whose table has no value, with the name of its cell
+pub data IsEdgeRefusal (cell : List ℕ) (pins : List Pin) (arc : Arc) (edge : Edge) (part : Part) : LookupEnd → Refusal → Type 0 where
+  outside_at : {from to : List ℕ} (outside : Outside) → IsNamed pins arc.from from → IsNamed pins arc.to to
+      → IsEdgeRefusal cell pins arc edge part (lookup_end.Outside outside)
+      (refusal.Outside cell from to edge 0 part outside.axis outside.value)
+  past_time_at : {from to : List ℕ} → IsNamed pins arc.from from → IsNamed pins arc.to to
+      → IsEdgeRefusal cell pins arc edge part lookup_end.PastTime (refusal.PastTime cell from to edge 0 part)
 
--- the first of some edges that is outside is refused
-pub record IsFirstOutside (cell : List ℕ) (pins : List Pin) (slew load : ℕ) (edges : List ArcEdge) (refusal : Refusal) : Type 0 where
+-- the first of some edges with a table that has no value is refused
+pub record IsFirstRefused (cell : List ℕ) (pins : List Pin) (slew load : ℕ) (beyond : Beyond) (edges : List ArcEdge) (refusal : Refusal)
+    : Type 0 where
   pub before : List ArcEdge
   pub here : ArcEdge
   pub behind : List ArcEdge
   pub split : edges ≡ before ++ here ∷ behind
-  pub inside : All (λ earlier. IsInside slew load earlier.tables) before
+  pub valued : All (λ earlier. HasValues slew load beyond earlier.tables) before
   pub part : Part
-  pub outside : Outside
-  pub is_outside : IsEdgeOutside slew load here.tables part outside
-  pub refused : IsEdgeRefusal cell pins here.arc here.edge part outside refusal
+  pub end : LookupEnd
+  pub is_end : IsEdgeEnd slew load beyond here.tables part end
+  pub refused : IsEdgeRefusal cell pins here.arc here.edge part end refusal
 
 -- the rows of these edges stand behind those before
-pub record AddsEdges (pins : List Pin) (slew load : ℕ) (edges : List ArcEdge) (before after : List ArcRow) : Type 0 where
+pub record AddsEdges (pins : List Pin) (slew load : ℕ) (beyond : Beyond) (edges : List ArcEdge) (before after : List ArcRow) : Type 0 where
   pub added : List ArcRow
   pub is : after ≡ before ++ added
-  pub each : AllZip (IsArcRow pins slew load) edges added
-  pub inside : All (λ edge. IsInside slew load edge.tables) edges
+  pub each : AllZip (IsArcRow pins slew load beyond) edges added
+  pub valued : All (λ edge. HasValues slew load beyond edge.tables) edges
 
--- a cell of a name gives a row for each edge of its arcs, or is refused for the first that is outside
-pub data CellGives (name : List ℕ) (cell : TimedCell) (slew load : ℕ) : Result (List ArcRow) Refusal → Type 0 where
-  all_inside : (rows : List ArcRow) → AddsEdges cell.pins slew load (arc_edges cell.arcs) [] rows → CellGives name cell slew load (Ok rows)
-  some_outside : (refusal : Refusal) → IsFirstOutside name cell.pins slew load (arc_edges cell.arcs) refusal
-      → CellGives name cell slew load (Err refusal)
+-- a cell of a name gives a row for each edge of its arcs, or is refused for the first with a table that has no value
+pub data CellGives (name : List ℕ) (cell : TimedCell) (slew load : ℕ) (beyond : Beyond) : Result (List ArcRow) Refusal → Type 0 where
+  all_valued : (rows : List ArcRow) → AddsEdges cell.pins slew load beyond (arc_edges cell.arcs) [] rows
+      → CellGives name cell slew load beyond (Ok rows)
+  some_refused : (refusal : Refusal) → IsFirstRefused name cell.pins slew load beyond (arc_edges cell.arcs) refusal
+      → CellGives name cell slew load beyond (Err refusal)

@@ -1,6 +1,8 @@
 pub mod ArcRows
 pub mod Completeness
 pub mod Ends
+pub mod FlatLines
+pub mod FlatText
 pub mod Lines
 pub mod Looking
 pub mod OneVerdict

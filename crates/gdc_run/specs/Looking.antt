@@ -1,7 +1,7 @@
 -- One edge of an arc, looked up.
 use Rattle.std.specs.Prelude.{◌≡◌, ℕ, List}
 use Rattle.nldm_lookup.specs.Interpolant.{IsInterpolant}
-use Rattle.nldm_lookup.specs.declared.beyond.Beyond.TheVariants.{Refuse}
+use Rattle.nldm_lookup.specs.declared.beyond.Beyond.{Beyond}
 use Rattle.nldm_lookup.specs.declared.grain.Grain.TheVariants.{Atto, Femto}
 use Rattle.cell_models.specs.declared.cell.Arc.{Arc}
 use Rattle.cell_models.specs.declared.cell.EdgeTables.{EdgeTables}
@@ -12,9 +12,9 @@ use Rattle.gdc_run.specs.declared.arc_rows.Looked.{Looked}
 use Rattle.cell_models.specs.declared.edge.Edge.{Edge}
 
 -- what both tables say
-pub record IsLooked (slew load : ℕ) (tables : EdgeTables) (looked : Looked) : Type 0 where
-  pub delay : IsInterpolant tables.delay slew load Femto Refuse looked.delay
-  pub transition : IsInterpolant tables.slew slew load Atto Refuse looked.slew.0
+pub record IsLooked (slew load : ℕ) (beyond : Beyond) (tables : EdgeTables) (looked : Looked) : Type 0 where
+  pub delay : IsInterpolant tables.delay slew load Femto beyond looked.delay
+  pub transition : IsInterpolant tables.slew slew load Atto beyond looked.slew.0
 
 -- the row of it
 pub record IsRowOf (pins : List Pin) (arc : Arc) (edge : Edge) (looked : Looked) (row : ArcRow) : Type 0 where

@@ -17,20 +17,20 @@ abbrev pub IsDecided : {R K A : Type 0} → Step R K A → Type 0
 IsDecided (Go value) = Unit {0}
 IsDecided (Halt why) = IsFinal why
 
--- two stops are one, the resistor of a mesh aside
+-- two stops are one, but for what is left free
 abbrev pub SameStop : Stop Refusal FileKey → Stop Refusal FileKey → Type 0
 SameStop (RefusedBy one) (RefusedBy other) = SameRefusal one other
 SameStop (Unread one) (Unread other) = one ≡ other
 SameStop (Reads one) (Reads other) = one ≡ other
 SameStop _ _ = ⊥
 
--- two answers of phases are one, the resistor of a mesh aside
+-- two answers of phases are one, but for what is left free
 abbrev pub SameStep : {A : Type 0} → Step Refusal FileKey A → Step Refusal FileKey A → Type 0
 SameStep (Go one) (Go other) = one ≡ other
 SameStep (Halt one) (Halt other) = SameStop one other
 SameStep _ _ = ⊥
 
--- phases have one answer, the resistor of a mesh and the reading of a file aside
+-- phases have one answer, but for what is left free, and the reading of a file aside
 abbrev pub HasOneAnswer : {A : Type 0} → (Step Refusal FileKey A → Type 0) → Type 0
 HasOneAnswer {A} phase = (one other : Step Refusal FileKey A) → phase one → phase other → IsDecided one → IsDecided other
     → SameStep one other
@@ -44,7 +44,7 @@ SameVerdict (Faulty one) (Faulty other) = one ≡ other
 SameVerdict (Answers one) (Answers other) = SameStep one other
 SameVerdict _ _ = ⊥
 
--- these words and what is held have one verdict, the resistor of a mesh and the reading of a file aside
+-- these words and what is held have one verdict, but for what is left free, and the reading of a file aside
 abbrev pub HasOneVerdict : List (List ℕ) → Held → Type 0
 HasOneVerdict words held = (one other : Verdict) → Gives words (Some held) one → Gives words (Some held) other → IsDecidedVerdict one
     → IsDecidedVerdict other → SameVerdict one other

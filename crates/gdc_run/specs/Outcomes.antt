@@ -4,11 +4,11 @@ use Rattle.edge_io.specs.Counts.{Rose, RoseBy}
 use Rattle.edge_io.specs.Holding.{Held, TellsMissing}
 use Rattle.verdict_phases.specs.Phases.{Reads, Go, Halt}
 use Rattle.gdc_words.specs.declared.commands.Command.{Command}
-use Rattle.gdc_words.specs.declared.commands.Command.TheVariants.{Wires, Show, Lookup}
+use Rattle.gdc_words.specs.declared.commands.Command.TheVariants.{Wires, Show, Lookup, Flat}
 use Rattle.gdc_words.specs.declared.commands.Key.TheVariants as key
 use Rattle.gdc_words.specs.declared.faults.UsageFault.{UsageFault}
 use Rattle.delay_core.specs.declared.refusal.FileKey.{FileKey}
-use Rattle.delay_core.specs.declared.refusal.FileKey.TheVariants.{Spef, Sdf, Lib}
+use Rattle.delay_core.specs.declared.refusal.FileKey.TheVariants.{Netlist, Spef, Sdf, Lib}
 use Rattle.delay_core.specs.declared.refusal.Refusal.{Refusal}
 use Rattle.gdc_run.specs.declared.outcome.Outcome.{Outcome}
 use Rattle.gdc_run.specs.declared.outcome.Outcome.TheVariants.{Done, Refused, Usage, ReadFault, WriteFault, OutOfMemory}
@@ -59,6 +59,7 @@ GivesReadable words held fact = (output : Output) × Gives words held (Answers (
 
 -- the name of the file of a key, and nothing where no command has the key
 abbrev pub name_of : Request → FileKey → List ℕ
+name_of request Netlist = value_of request.given key.Netlist
 name_of request Spef = value_of request.given key.Spef
 name_of request Sdf = value_of request.given key.Sdf
 name_of request Lib = value_of request.given key.Lib
@@ -69,6 +70,8 @@ abbrev pub place_for : Command → FileKey → ℕ
 place_for Wires Spef = 1
 place_for Show Sdf = 1
 place_for Lookup Lib = 1
+place_for Flat Netlist = 1
+place_for Flat Lib = 2
 place_for _ _ = 0
 
 -- the same by what is asked for

@@ -1,7 +1,7 @@
 -- The verdict on the words and on what a shelf holds: what a run has to answer.
 --
 -- The phases are asked in order, and the first that stops decides. Each is a relation, named for what it relates.
-use Rattle.std.specs.Prelude.{◌≡◌, ℕ, List, Option, Result, Ok, Err}
+use Rattle.std.specs.Prelude.{◌≡◌, ℕ, List, [], ◌∷◌, Option, Result, Ok, Err}
 use Rattle.edge_io.specs.Holding.{Held}
 use Rattle.sdf_writer.specs.SdfText.{SdfRows}
 use Rattle.sdf_reader.specs.Answers.{SaysRows}
@@ -11,7 +11,7 @@ use Rattle.sdf_reader.specs.declared.rows.SdfRow.{SdfRow}
 use Rattle.verdict_phases.specs.Phases.{Stop, RefusedBy, Step, Go, Halt}
 use Rattle.verdict_phases.specs.FileReading.{ReadsFile}
 use Rattle.gdc_words.specs.declared.commands.Command.{Command}
-use Rattle.gdc_words.specs.declared.commands.Command.TheVariants.{Wires, Show, Lookup, Help, Version}
+use Rattle.gdc_words.specs.declared.commands.Command.TheVariants.{Wires, Show, Lookup, Flat, Help, Version}
 use Rattle.gdc_words.specs.declared.commands.Key.TheVariants as key
 use Rattle.gdc_words.specs.declared.faults.UsageFault.{UsageFault}
 use Rattle.delay_core.specs.declared.refusal.FileKey.{FileKey}
@@ -19,12 +19,14 @@ use Rattle.delay_core.specs.declared.refusal.FileKey.TheVariants.{Spef, Sdf, Lib
 use Rattle.delay_core.specs.declared.refusal.LimitKind.TheVariants.{File}
 use Rattle.delay_core.specs.declared.refusal.Refusal.{Refusal}
 use Rattle.delay_core.specs.declared.refusal.Refusal.TheVariants.{Limit, SdfSyntax}
-use Rattle.gdc_words.specs.CommandLine.{Request, Asks, value_of, pick_from}
+use Rattle.gdc_words.specs.CommandLine.{Request, Asks, value_of, pick_from, beyond_from}
 use Rattle.corner_set.specs.declared.pick.Pick.{Pick}
+use Rattle.delay_core.specs.DesignReading.{LinkedDesign, ReadsDesign}
 use Rattle.delay_core.specs.InputFiles.{file_limit}
 use Rattle.delay_core.specs.SpefPhases.{sole_corner, DesignNets, ReadsNets}
 use Rattle.gdc_words.specs.Decimals.{IsGrains}
 use Rattle.liberty_groups.specs.Groups.{Group}
+use Rattle.nldm_lookup.specs.declared.beyond.Beyond.{Beyond}
 use Rattle.cell_models.specs.Cells.{TimedCell}
 use Rattle.gdc_run.specs.ArcRows.{CellGives}
 use Rattle.delay_core.specs.LibraryPhases.{ParsesLibrary, ModelsCell}
@@ -72,20 +74,25 @@ ReadsLib held name step = ReadsFile file_limit held Lib (Limit (File Lib)) name 
 
 -- what the bytes of a library say of the cell of a name at a slew and a load: its grammar is read, then the model of the cell, and then
 -- each of its tables is looked up
-pub data ReadsArcs (name : List ℕ) (slew load : ℕ) (bytes : List ℕ) : Result (List ArcRow) Refusal → Type 0 where
-  at_library : (refusal : Refusal) → ParsesLibrary 0 bytes (Err refusal) → ReadsArcs name slew load bytes (Err refusal)
+pub data ReadsArcs (name : List ℕ) (slew load : ℕ) (beyond : Beyond) (bytes : List ℕ) : Result (List ArcRow) Refusal → Type 0 where
+  at_library : (refusal : Refusal) → ParsesLibrary 0 bytes (Err refusal) → ReadsArcs name slew load beyond bytes (Err refusal)
   at_cell : (library : Group) (refusal : Refusal) → ParsesLibrary 0 bytes (Ok library) → ModelsCell 0 library name (Err refusal)
-      → ReadsArcs name slew load bytes (Err refusal)
+      → ReadsArcs name slew load beyond bytes (Err refusal)
   of_cell : (library : Group) (cell : TimedCell) (answer : Result (List ArcRow) Refusal) → ParsesLibrary 0 bytes (Ok library)
-      → ModelsCell 0 library name (Ok cell) → CellGives name cell slew load answer → ReadsArcs name slew load bytes answer
+      → ModelsCell 0 library name (Ok cell) → CellGives name cell slew load beyond answer → ReadsArcs name slew load beyond bytes answer
 
 -- `lookup`: the library is read, and then what it says of the cell
-pub data LookupGives (held : Option Held) (file name : List ℕ) (slew load : ℕ) : Step Refusal FileKey (List ArcRow) → Type 0 where
-  at_library_reading : (why : Stop Refusal FileKey) → ReadsLib held file (Halt why) → LookupGives held file name slew load (Halt why)
-  at_arcs : (bytes : List ℕ) (refusal : Refusal) → ReadsLib held file (Go bytes) → ReadsArcs name slew load bytes (Err refusal)
-      → LookupGives held file name slew load (Halt (RefusedBy refusal))
-  with_arc_rows : (bytes : List ℕ) (rows : List ArcRow) → ReadsLib held file (Go bytes) → ReadsArcs name slew load bytes (Ok rows)
-      → LookupGives held file name slew load (Go rows)
+pub data LookupGives (held : Option Held) (file name : List ℕ) (slew load : ℕ) (beyond : Beyond) : Step Refusal FileKey (List ArcRow)
+    → Type 0 where
+  at_library_reading : (why : Stop Refusal FileKey) → ReadsLib held file (Halt why) → LookupGives held file name slew load beyond (Halt why)
+  at_arcs : (bytes : List ℕ) (refusal : Refusal) → ReadsLib held file (Go bytes) → ReadsArcs name slew load beyond bytes (Err refusal)
+      → LookupGives held file name slew load beyond (Halt (RefusedBy refusal))
+  with_arc_rows : (bytes : List ℕ) (rows : List ArcRow) → ReadsLib held file (Go bytes)
+      → ReadsArcs name slew load beyond bytes (Ok rows) → LookupGives held file name slew load beyond (Go rows)
+
+-- `flat`: the netlist is read, then the cells that its top uses, then the library, and then the flat netlist is made
+abbrev pub FlatGives : Option Held → List ℕ → List ℕ → List ℕ → Step Refusal FileKey LinkedDesign → Type 0
+FlatGives held netlist top library step = ReadsDesign held 1 netlist top (library ∷ []) step
 
 -- a fact of the slew and the load that are asked for, in grains
 pub record ReadsPoint (request : Request) (fact : ℕ → ℕ → Type 0) : Type 0 where
@@ -106,7 +113,10 @@ CommandGives held Wires request step = As output.Sdf
     (WiresGives held (pick_from request.given) (value_of request.given key.Spef)) step
 CommandGives held Show request step = As output.Listing (ShowGives held (value_of request.given key.Sdf)) step
 CommandGives held Lookup request step = ReadsPoint request
-    (λ slew load. As output.Arcs (LookupGives held (value_of request.given key.Lib) (value_of request.given key.Cell) slew load) step)
+    (λ slew load. As output.Arcs (LookupGives held (value_of request.given key.Lib) (value_of request.given key.Cell) slew load
+    (beyond_from request.given)) step)
+CommandGives held Flat request step = As output.Flat
+    (FlatGives held (value_of request.given key.Netlist) (value_of request.given key.Top) (value_of request.given key.Lib)) step
 CommandGives held Help request step = step ≡ Go output.Help
 CommandGives held Version request step = step ≡ Go output.Version
 

@@ -6,7 +6,7 @@ use Rattle.verdict_phases.specs.Phases.{Go}
 use Rattle.verdict_phases.specs.declared.ends.PhaseEnd.{PhaseEnd}
 use Rattle.verdict_phases.specs.declared.ends.PhaseEnd.TheVariants as phase
 use Rattle.gdc_words.specs.declared.commands.Command.{Command}
-use Rattle.gdc_words.specs.declared.commands.Command.TheVariants.{Wires, Show, Lookup, Help, Version}
+use Rattle.gdc_words.specs.declared.commands.Command.TheVariants.{Wires, Show, Lookup, Flat, Help, Version}
 use Rattle.gdc_words.specs.declared.commands.Key.TheVariants as key
 use Rattle.gdc_words.specs.CommandLine.{Request, Asks, value_of, pick_from}
 use Rattle.delay_core.specs.declared.refusal.FileKey.{FileKey}
@@ -43,6 +43,7 @@ abbrev pub CommandWork : Option Held → Command → Request → ℕ → Type 0
 CommandWork held Wires request work = WiresWork held (pick_from request.given) (value_of request.given key.Spef) work
 CommandWork held Show request work = work ≡ 0
 CommandWork held Lookup request work = LookupWork held (value_of request.given key.Lib) (value_of request.given key.Cell) work
+CommandWork held Flat request work = work ≡ 0
 CommandWork held Help request work = work ≡ 0
 CommandWork held Version request work = work ≡ 0
 

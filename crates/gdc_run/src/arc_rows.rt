@@ -3,39 +3,43 @@ ghost use Rattle.std.specs.Prelude.{◌≡◌, ◌+◌, ◌*◌, ◌<◌, ◌≤
 ghost use Rattle.verdict_phases.specs.Phases.{FollowsNoFile};
 ghost use Rattle.nldm_lookup.specs.Axes.{most};
 ghost use Rattle.delay_core.specs.Refused.{OnRefusal};
-ghost use Rattle.gdc_run.specs.ArcRows.{arc_edges, edge_of, edges_of, IsInside, IsEdgeOutside, IsEdgeRefusal, IsFirstOutside, AddsEdges, CellGives};
+ghost use Rattle.gdc_run.specs.ArcRows.{arc_edges, edge_of, edges_of, IsEdgeEnd, IsEdgeRefusal, IsFirstRefused, AddsEdges, CellGives};
 ghost use Rattle.gdc_run.specs.Looking.{IsLooked, IsRowOf};
 
 use cell_models::{Edge, Part};
 use delay_core::Refusal;
 use delay_units::{Atto, Farads};
 use edge_io::{OutOfMemory, Steps, Text};
-use nldm_lookup::{Beyond, Grain, LookupEnd, Outside};
+use nldm_lookup::{Beyond, Grain, LookupEnd};
 use std::alloc::Global;
 use std::marker::Model;
 use std::sync::ledger::Ledger;
 use timing_arcs::{Arc, Cell, EdgeTables, Pin};
 use verdict_phases::NoFileEnd;
 
-/// Where tables are looked up: a slew of the input, from 0 to a microsecond, and a load of the output.
+/// Where tables are looked up: a slew of the input, from 0 to a microsecond, and a load of the output; and what is done past the end of
+/// an axis.
 #[derive(Clone, Copy)]
 pub struct Point {
     pub slew: Atto,
     pub load: Farads,
+    pub beyond: Beyond,
     pub ghost not_negative: { pos 0 ≤ℤ slew.0 },
     pub ghost small: { slew.0 ≤ℤ pos most },
 }
 
 impl Point {
     /// The slew of so many attoseconds, and the load of so many grains of 10^-21 F.
-    pub fn new(slew: u64, load: u64) -> Point
+    pub fn new(slew: u64, load: u64, beyond: Beyond) -> Point
         requires { slew ≤ most }
         ensures slew { unsigned_abs result.slew.0 ≡ slew }
         ensures load { result.load.0 ≡ load }
+        ensures beyond { result.beyond ≡ beyond }
     {
         Point {
             slew: Atto(slew as i64),
             load: Farads(load),
+            beyond,
         }
     }
 }
@@ -48,11 +52,11 @@ struct Looked {
     slew: Atto,
 }
 
-/// A table of an edge does not reach a slew or a load.
+/// A table of an edge that has no value, and why.
 #[derive(Clone, Copy)]
-struct EdgeOutside {
+struct EdgeEnd {
     part: Part,
-    outside: Outside,
+    end: LookupEnd,
 }
 
 /// An edge of an arc: the pins that it leads from and to, its delay in femtoseconds, and the transition of the output.
@@ -108,69 +112,77 @@ impl ArcRows {
     }
 }
 
-// What the tables of an edge say at a point, or the first of them that does not reach it.
-#[tactic(auto, using(crate::specs::ArcRows::delay_outside, crate::specs::ArcRows::transition_outside))]
+// What the tables of an edge say at a point, or the first of them that has no value there.
+#[tactic(auto, using(crate::specs::ArcRows::at_delay, crate::specs::ArcRows::at_transition))]
 fn look_up<L: Ledger>(
     tables: &EdgeTables,
     at: Point,
     steps: &mut Steps<L>,
-) -> Result<Looked, EdgeOutside>
-    ensures ok { IfOk result (IsLooked (unsigned_abs at.slew.0) at.load.0 tables.now) }
-    ensures inside { OnOk result (IsInside (unsigned_abs at.slew.0) at.load.0 tables.now) }
-    ensures outside { IfErr result (λ end. IsEdgeOutside (unsigned_abs at.slew.0) at.load.0 tables.now end.part end.outside) }
+) -> Result<Looked, EdgeEnd>
+    ensures ok { IfOk result (IsLooked (unsigned_abs at.slew.0) at.load.0 at.beyond tables.now) }
+    ensures end { IfErr result (λ end. IsEdgeEnd (unsigned_abs at.slew.0) at.load.0 at.beyond tables.now end.part end.end) }
     ensures forward { steps.old ≤ steps.new }
     ensures steps { steps.new ≤ steps.old + 64 }
 {
     let table = &tables.delay;
-    let delay = match table.lookup(at.slew, at.load, Grain::Femto, Beyond::Refuse, steps) {
+    let delay = match table.lookup(at.slew, at.load, Grain::Femto, at.beyond, steps) {
         Ok(delay) => delay,
-        Err(LookupEnd::Outside(outside)) => {
-            return Err(EdgeOutside {
+        Err(end) => {
+            return Err(EdgeEnd {
                 part: Part::Delay,
-                outside,
+                end,
             });
         }
-        // Only extended values are past time.
-        Err(LookupEnd::PastTime) => unreachable!(),
     };
     let table = &tables.slew;
-    match table.lookup(at.slew, at.load, Grain::Atto, Beyond::Refuse, steps) {
+    match table.lookup(at.slew, at.load, Grain::Atto, at.beyond, steps) {
         Ok(slew) => Ok(Looked {
             delay,
             slew: Atto(slew),
         }),
-        Err(LookupEnd::Outside(outside)) => Err(EdgeOutside {
+        Err(end) => Err(EdgeEnd {
             part: Part::Transition,
-            outside,
+            end,
         }),
-        Err(LookupEnd::PastTime) => unreachable!(),
     }
 }
 
-// The refusal of an edge whose tables do not reach a point.
-#[tactic(auto, using(crate::specs::ArcRows::outside_at))]
+// The refusal of an edge with a table that has no value at a point.
 fn refusal_of(
     alloc: Global,
     cell: &Text,
     pins: &[Pin],
     arc: &Arc,
     edge: Edge,
-    end: EdgeOutside,
+    end: EdgeEnd,
 ) -> Result<Refusal, OutOfMemory>
     requires from { arc.now.from < length pins.now }
     requires to { arc.now.to < length pins.now }
-    ensures { IfOk result (IsEdgeRefusal cell.now pins.now arc.now edge end.part end.outside) }
+    ensures { IfOk result (IsEdgeRefusal cell.now pins.now arc.now edge end.part end.end) }
 {
-    Ok(Refusal::Outside {
-        instance: Text::from_bytes(alloc, cell.bytes())?,
-        from: Text::from_bytes(alloc, pins[arc.from].name.bytes())?,
-        to: Text::from_bytes(alloc, pins[arc.to].name.bytes())?,
-        edge,
-        corner: 0,
-        part: end.part,
-        axis: end.outside.axis,
-        value: end.outside.value,
-    })
+    let instance = Text::from_bytes(alloc, cell.bytes())?;
+    let from = Text::from_bytes(alloc, pins[arc.from].name.bytes())?;
+    let to = Text::from_bytes(alloc, pins[arc.to].name.bytes())?;
+    match end.end {
+        LookupEnd::Outside(outside) => Ok(Refusal::Outside {
+            instance,
+            from,
+            to,
+            edge,
+            corner: 0,
+            part: end.part,
+            axis: outside.axis,
+            value: outside.value,
+        }),
+        LookupEnd::PastTime => Ok(Refusal::PastTime {
+            instance,
+            from,
+            to,
+            edge,
+            corner: 0,
+            part: end.part,
+        }),
+    }
 }
 
 // The row of an edge.
@@ -208,9 +220,9 @@ fn add_edge<L: Ledger>(
 ) -> Result<(), NoFileEnd<Refusal>>
     requires from { arc.now.from < length pins.now }
     requires to { arc.now.to < length pins.now }
-    ensures ok { OnOk result (AddsEdges pins.now (unsigned_abs at.slew.0) at.load.0 (edge_of arc.now edge tables.now) rows.old rows.new) }
+    ensures ok { OnOk result (AddsEdges pins.now (unsigned_abs at.slew.0) at.load.0 at.beyond (edge_of arc.now edge tables.now) rows.old rows.new) }
     ensures refused { OnRefusal result
-        (IsFirstOutside cell.now pins.now (unsigned_abs at.slew.0) at.load.0 (edge_of arc.now edge tables.now)) }
+        (IsFirstRefused cell.now pins.now (unsigned_abs at.slew.0) at.load.0 at.beyond (edge_of arc.now edge tables.now)) }
     ensures forward { steps.old ≤ steps.new }
     ensures steps { steps.new ≤ steps.old + 64 * length (edge_of arc.now edge tables.now) }
 {
@@ -242,8 +254,8 @@ fn add_arc<L: Ledger>(
 ) -> Result<(), NoFileEnd<Refusal>>
     requires from { arc.now.from < length pins.now }
     requires to { arc.now.to < length pins.now }
-    ensures ok { OnOk result (AddsEdges pins.now (unsigned_abs at.slew.0) at.load.0 (edges_of arc.now) rows.old rows.new) }
-    ensures refused { OnRefusal result (IsFirstOutside cell.now pins.now (unsigned_abs at.slew.0) at.load.0 (edges_of arc.now)) }
+    ensures ok { OnOk result (AddsEdges pins.now (unsigned_abs at.slew.0) at.load.0 at.beyond (edges_of arc.now) rows.old rows.new) }
+    ensures refused { OnRefusal result (IsFirstRefused cell.now pins.now (unsigned_abs at.slew.0) at.load.0 at.beyond (edges_of arc.now)) }
     ensures forward { steps.old ≤ steps.new }
     ensures steps { steps.new ≤ steps.old + 64 * length (edges_of arc.now) }
 {
@@ -273,7 +285,7 @@ fn add_arc<L: Ledger>(
 }
 
 /// The rows of a cell at a point: of each arc in order its rise and then its fall, if it has them. A cell is refused for the first
-/// of them with a table that does not reach the point. At most 64 steps for each.
+/// of them with a table that has no value there. At most 64 steps for each.
 pub fn arc_rows<L: Ledger>(
     alloc: Global,
     name: &Text,
@@ -281,7 +293,7 @@ pub fn arc_rows<L: Ledger>(
     at: Point,
     steps: &mut Steps<L>,
 ) -> Result<ArcRows, NoFileEnd<Refusal>>
-    ensures follows { FollowsNoFile (CellGives name.now cell.now (unsigned_abs at.slew.0) at.load.0) result }
+    ensures follows { FollowsNoFile (CellGives name.now cell.now (unsigned_abs at.slew.0) at.load.0 at.beyond) result }
     ensures forward { steps.old ≤ steps.new }
     ensures steps { steps.new ≤ steps.old + 64 * length (arc_edges cell.now.arcs) }
 {

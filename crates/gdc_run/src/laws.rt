@@ -15,8 +15,9 @@ pub fn always_readable()
 }
 
 /// The law of verdicts, which its contract states: on words and on files that are told there is one verdict.
-/// A net whose resistors close a loop may be refused by any resistor of it. That the phases come to the reading of a
-/// file, where a fault of the outside may come or not, stands beside the verdict. It does nothing when it is called.
+/// A net whose resistors close a loop may be refused by any resistor of it, and a design by any of its modules that contain themselves.
+/// That the phases come to the reading of a file, where a fault of the outside may come or not, stands beside the verdict. It does
+/// nothing when it is called.
 #[tactic(auto, using(crate::proofs::OneVerdict::one_verdict_lem))]
 pub fn one_verdict()
     ensures law { OneVerdict }

@@ -19,7 +19,7 @@ use verdict_phases::{NoFileEnd, PhaseEnd, read_phase};
 // The number of the corner of a run with one library.
 const SOLE_CORNER: usize = 0;
 
-/// The rows of the cell of that name in the text of a library, at a slew and a load.
+/// The rows of the cell of that name in the text of a library, at a point.
 #[tactic(auto, using(crate::specs::Verdict::at_library, crate::specs::Verdict::at_cell, crate::specs::Verdict::of_cell, crate::proofs::Work::no_cell_work, crate::proofs::Work::cell_work, crate::proofs::ArcLemmas::rows_late))]
 fn arc_rows_of_library<L: Ledger>(
     alloc: Global,
@@ -29,7 +29,7 @@ fn arc_rows_of_library<L: Ledger>(
     steps: &mut Steps<L>,
 ) -> Result<ArcRows, NoFileEnd<Refusal>>
     requires { length text < 2 ^ 32 }
-    ensures follows { FollowsNoFile (ReadsArcs cell.now (unsigned_abs at.slew.0) at.load.0 text) result }
+    ensures follows { FollowsNoFile (ReadsArcs cell.now (unsigned_abs at.slew.0) at.load.0 at.beyond text) result }
     ensures steps { IsWithin (CellWork cell.now text) steps.old steps.new }
     ensures no_steps { OnRefusal result (λ refusal. IsTrue (is_early refusal) → steps.new ≡ steps.old) }
 {
@@ -38,7 +38,7 @@ fn arc_rows_of_library<L: Ledger>(
     arc_rows(alloc, cell, &model, at, steps)
 }
 
-/// The rows of the cell of that name in the library of that file, at a slew and a load.
+/// The rows of the cell of that name in the library of that file, at a point.
 #[tactic(auto, using(crate::specs::Verdict::at_library_reading, crate::specs::Verdict::at_arcs, crate::specs::Verdict::with_arc_rows, crate::proofs::Work::no_lookup_work, crate::proofs::Work::lookup_work))]
 pub fn lookup<H: Shelf, L: Ledger>(
     alloc: Global,
@@ -48,7 +48,7 @@ pub fn lookup<H: Shelf, L: Ledger>(
     at: Point,
     steps: &mut Steps<L>,
 ) -> Result<ArcRows, PhaseEnd<Refusal, FileKey>>
-    ensures follows { Follows (LookupGives (H.held shelf.old) library.now cell.now (unsigned_abs at.slew.0) at.load.0) result }
+    ensures follows { Follows (LookupGives (H.held shelf.old) library.now cell.now (unsigned_abs at.slew.0) at.load.0 at.beyond) result }
     ensures fault { AtReadFault result (λ key. (key ≡ Lib)
         × (Rose (H.faults shelf.old) (H.faults shelf.new) ⊎ TellsMissing (H.held shelf.old) library.now)) }
     ensures opens { RoseBy 1 (H.opens shelf.old) (H.opens shelf.new) }

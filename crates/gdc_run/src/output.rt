@@ -6,8 +6,9 @@ ghost use Rattle.delay_core.specs.RefusalLine.{edge_text};
 ghost use Rattle.gdc_run.specs.Outputs.{listing_text, names_text, times_text, arc_line, arcs_text, output_text};
 
 use crate::arc_rows::{ArcRow, ArcRows};
+use crate::flat_text::write_flat;
 use corner_set::Single;
-use delay_core::edge_word;
+use delay_core::{Design, edge_word};
 use delay_units::{Femto, Text32, write_atto, write_femto};
 use edge_io::{Failed, Sink, write_5, write_all};
 use gdc_words::{help_text, version_text};
@@ -23,6 +24,8 @@ pub enum Output {
     Listing(SdfRows),
     /// A line for each of these rows of arcs.
     Arcs(ArcRows),
+    /// A line for each instance and each net of this design.
+    Flat(Design<Single>),
     /// The text of help.
     Help,
     /// The version.
@@ -90,6 +93,7 @@ pub fn write_output<O: Sink>(output: &Output, out: &mut O) -> Result<(), Failed>
         Output::Sdf(rows) => write(rows, out),
         Output::Listing(rows) => write_listing(rows, out),
         Output::Arcs(rows) => write_arcs(rows, out),
+        Output::Flat(design) => write_flat(design, out),
         Output::Help => write_all(out, help_text()),
         Output::Version => write_all(out, version_text()),
     }

@@ -8,6 +8,7 @@ ghost use Rattle.delay_core.specs.SpefWork.{IsWithin};
 ghost use Rattle.gdc_run.specs.Work.{CommandWork, OnEarly};
 
 use crate::arc_rows::Point;
+use crate::flat::flat;
 use crate::lookup::lookup;
 use crate::output::Output;
 use crate::show::show;
@@ -20,7 +21,7 @@ use std::sync::ledger::Ledger;
 use verdict_phases::PhaseEnd;
 
 /// What the command that is asked for has to write.
-#[tactic(auto, using(crate::proofs::Work::no_work_of_command))]
+#[tactic(auto, using(crate::proofs::Work::no_work_of_command, crate::proofs::FlatFiles::flat_cause))]
 pub fn perform<H: Shelf, L: Ledger>(
     alloc: Global,
     asked: &Asked,
@@ -46,6 +47,7 @@ pub fn perform<H: Shelf, L: Ledger>(
             let at = Point::new(
                 asked.needed_grains(Key::Slew),
                 asked.needed_grains(Key::Load),
+                asked.beyond(),
             );
             let rows = lookup(
                 alloc,
@@ -56,6 +58,16 @@ pub fn perform<H: Shelf, L: Ledger>(
                 steps,
             )?;
             Ok(Output::Arcs(rows))
+        }
+        Command::Flat => {
+            let design = flat(
+                alloc,
+                shelf,
+                asked.needed(Key::Netlist),
+                asked.needed(Key::Top),
+                asked.needed(Key::Lib),
+            )?;
+            Ok(Output::Flat(design))
         }
         Command::Help => Ok(Output::Help),
         Command::Version => Ok(Output::Version),

@@ -4,9 +4,9 @@ use Rattle.std.specs.List.{find, list_any}
 use Rattle.std.proofs.lemmas.Slice.Eq.{bytes_eq-Decides}
 use Rattle.gdc_words.specs.declared.commands.Command.{Command}
 use Rattle.gdc_words.specs.declared.commands.Key.{Key}
-use Rattle.gdc_words.specs.declared.commands.Key.TheVariants.{Spef, Triple, Sdf, Lib, Cell, Slew, Load}
+use Rattle.gdc_words.specs.declared.commands.Key.TheVariants.{Spef, Triple, Sdf, Netlist, Top, Lib, LibMin, LibTyp, LibMax, Cell, Slew, Load, Outside}
 use Rattle.gdc_words.specs.declared.asked.Given.{Given}
-use Rattle.gdc_words.specs.CommandLine.{first_missing, needs_key, needed_keys, is_given, same_key, key_word, key_of}
+use Rattle.gdc_words.specs.CommandLine.{first_missing, needs_key, needed_keys, libraries_of, is_given, same_key, key_word, key_of}
 
 none_at_head : {X : Type 0} (here : Bool) (x : X) (rest : Option X) (others : Bool) → (rest ≡ None → others ≡ false) → cond here (Some x) rest ≡ None → (here || others) ≡ false
 none_at_head true x rest others later e = cc
@@ -21,10 +21,16 @@ word_names : (key : Key) → key_of (key_word key) ≡ Some key
 word_names Spef = refl
 word_names Triple = refl
 word_names Sdf = refl
+word_names Netlist = refl
+word_names Top = refl
 word_names Lib = refl
+word_names LibMin = refl
+word_names LibTyp = refl
+word_names LibMax = refl
 word_names Cell = refl
 word_names Slew = refl
 word_names Load = refl
+word_names Outside = refl
 
 some_is : {X : Type 0} (a b : X) → Some a ≡ Some b → a ≡ b
 some_is a b e = cc
@@ -45,8 +51,8 @@ each_stands given key (k ∷ keys) none e =
     stands_at_head (is_given given k) (list_any (λ k. not (is_given given k)) keys) (is_given given key) (same_key k key) (list_any (λ k. same_key k key) keys) none
     (λ same. ap (is_given given) (same_key_is k key same)) (each_stands given key keys) e
 
-pub needed_is_found : (command : Command) (given : List Given) (key : Key) → first_missing command given ≡ None → needs_key command key ≡ true → find (λ g. same_key g.key key) given ≡ None → ⊥
+pub needed_is_found : (command : Command) (given : List Given) (key : Key) → first_missing command given ≡ None → needs_key command given key ≡ true → find (λ g. same_key g.key key) given ≡ None → ⊥
 needed_is_found command given key complete needed missing =
-    let stands = each_stands given key (needed_keys command) (none_found (λ k. not (is_given given k)) (needed_keys command) complete) needed in
+    let stands = each_stands given key (needed_keys command (libraries_of given)) (none_found (λ k. not (is_given given k)) (needed_keys command (libraries_of given)) complete) needed in
     let absent = none_found (λ (g : Given). same_key g.key key) given missing in
     cc (stands, absent)

@@ -6,7 +6,7 @@ use Rattle.std.specs.List.{find, AllByRecursion}
 use Rattle.std.proofs.lemmas.List.Elements.{All-from_recursion, All-push, recursion_from_All}
 use Rattle.gdc_words.specs.declared.commands.Command.{Command}
 use Rattle.gdc_words.specs.declared.commands.Key.{Key}
-use Rattle.gdc_words.specs.declared.commands.Key.TheVariants.{Slew, Load, Spef, Triple, Sdf, Lib, Cell}
+use Rattle.gdc_words.specs.declared.commands.Key.TheVariants.{Slew, Load, Spef, Triple, Sdf, Netlist, Top, Lib, LibMin, LibTyp, LibMax, Cell, Outside}
 use Rattle.gdc_words.specs.declared.asked.Given.{Given}
 use Rattle.gdc_words.specs.declared.faults.UsageFault.{UsageFault}
 use Rattle.gdc_words.specs.declared.faults.WordsEnd.{WordsEnd}
@@ -14,7 +14,7 @@ use Rattle.gdc_words.specs.declared.faults.WordsEnd.TheVariants.{Usage, OutOfMem
 use Rattle.gdc_words.specs.WordsEnds.{FaultOf, Answers}
 use Rattle.gdc_words.specs.Decimals.{IsGrains}
 use Rattle.gdc_words.proofs.NeededKeys.{same_key_is}
-use Rattle.gdc_words.specs.CommandLine.{Request, same_key, key_word, pair_at, IsValue, is_decimal, command_of, first_missing, PairsFrom, no_more, bad_key, no_value, bad_value, and_pair, AsksFor, bad_pair, no_key, with_keys, Asks, no_command, unknown_command, for_command, IsWhole}
+use Rattle.gdc_words.specs.CommandLine.{Request, same_key, key_word, pair_at, IsValue, is_decimal, command_of, mixed_key, first_missing, PairsFrom, no_more, bad_key, no_value, bad_value, and_pair, AsksFor, bad_pair, mixed_keys, no_key, with_keys, Asks, no_command, unknown_command, for_command, IsWhole}
 
 -- a pair whose value has the form that its key wants
 abbrev pub IsFormed : Given → Type 0
@@ -63,8 +63,14 @@ decimal_reads Load value decimal is = is
 decimal_reads Spef value decimal is = cc
 decimal_reads Triple value decimal is = cc
 decimal_reads Sdf value decimal is = cc
+decimal_reads Netlist value decimal is = cc
+decimal_reads Top value decimal is = cc
 decimal_reads Lib value decimal is = cc
+decimal_reads LibMin value decimal is = cc
+decimal_reads LibTyp value decimal is = cc
+decimal_reads LibMax value decimal is = cc
 decimal_reads Cell value decimal is = cc
+decimal_reads Outside value decimal is = cc
 
 -- pairs are read in one way
 one_key : (a b : Result Key UsageFault) (key other : Key) → a ≡ Ok key → a ≡ Ok other → key ≡ other
@@ -94,19 +100,26 @@ one_pairs command given place (word ∷ value ∷ rest) one other (and_pair {key
     (subst (λ (k : Key). PairsFrom command (given ++ record { key = k; value = value } ∷ []) (place + 2) rest other) is more)
 
 -- the words ask for one thing, or have one first fault
-same_missing : (command : Command) (words : List (List ℕ)) (one other : List Given) → PairsFrom command [] 2 words (Ok one) → PairsFrom command [] 2 words (Ok other) → one ≡ other
-same_missing command words one other a b = let e = one_pairs command [] 2 words (Ok one) (Ok other) a b in cc
+same_given : (command : Command) (words : List (List ℕ)) (one other : List Given) → PairsFrom command [] 2 words (Ok one) → PairsFrom command [] 2 words (Ok other) → one ≡ other
+same_given command words one other a b = let e = one_pairs command [] 2 words (Ok one) (Ok other) a b in cc
 
 pub one_request_for : (command : Command) (words : List (List ℕ)) (one other : Result Request UsageFault) → AsksFor command words one → AsksFor command words other → one ≡ other
-one_request_for command words one other (bad_pair {fault = f} a) (bad_pair {fault = g} b) = let e = one_pairs command [] 2 words (Err f) (Err g) a b in cc
-one_request_for command words one other (bad_pair {fault = f} a) (no_key {given = g} b m) = let e = one_pairs command [] 2 words (Err f) (Ok g) a b in cc
-one_request_for command words one other (bad_pair {fault = f} a) (with_keys {given = g} b m) = let e = one_pairs command [] 2 words (Err f) (Ok g) a b in cc
-one_request_for command words one other (no_key {given = g} a m) (bad_pair {fault = f} b) = let e = one_pairs command [] 2 words (Ok g) (Err f) a b in cc
-one_request_for command words one other (with_keys {given = g} a m) (bad_pair {fault = f} b) = let e = one_pairs command [] 2 words (Ok g) (Err f) a b in cc
-one_request_for command words one other (no_key {given = g} a m) (no_key {given = h} b n) = let e = same_missing command words g h a b in cc
-one_request_for command words one other (no_key {given = g} a m) (with_keys {given = h} b n) = let e = same_missing command words g h a b in cc
-one_request_for command words one other (with_keys {given = g} a m) (no_key {given = h} b n) = let e = same_missing command words g h a b in cc
-one_request_for command words one other (with_keys {given = g} a m) (with_keys {given = h} b n) = let e = same_missing command words g h a b in cc
+one_request_for command words one other (bad_pair {fault = f} a) (bad_pair {fault = k} b) = let e = one_pairs command [] 2 words (Err f) (Err k) a b in cc
+one_request_for command words one other (bad_pair {fault = f} a) (mixed_keys {given = h} b n) = let e = one_pairs command [] 2 words (Err f) (Ok h) a b in cc
+one_request_for command words one other (bad_pair {fault = f} a) (no_key {given = h} b v n) = let e = one_pairs command [] 2 words (Err f) (Ok h) a b in cc
+one_request_for command words one other (bad_pair {fault = f} a) (with_keys {given = h} b v n) = let e = one_pairs command [] 2 words (Err f) (Ok h) a b in cc
+one_request_for command words one other (mixed_keys {given = g} a m) (bad_pair {fault = k} b) = let e = one_pairs command [] 2 words (Ok g) (Err k) a b in cc
+one_request_for command words one other (mixed_keys {given = g} a m) (mixed_keys {given = h} b n) = let e = same_given command words g h a b in cc
+one_request_for command words one other (mixed_keys {given = g} a m) (no_key {given = h} b v n) = let e = same_given command words g h a b in cc
+one_request_for command words one other (mixed_keys {given = g} a m) (with_keys {given = h} b v n) = let e = same_given command words g h a b in cc
+one_request_for command words one other (no_key {given = g} a u m) (bad_pair {fault = k} b) = let e = one_pairs command [] 2 words (Ok g) (Err k) a b in cc
+one_request_for command words one other (no_key {given = g} a u m) (mixed_keys {given = h} b n) = let e = same_given command words g h a b in cc
+one_request_for command words one other (no_key {given = g} a u m) (no_key {given = h} b v n) = let e = same_given command words g h a b in cc
+one_request_for command words one other (no_key {given = g} a u m) (with_keys {given = h} b v n) = let e = same_given command words g h a b in cc
+one_request_for command words one other (with_keys {given = g} a u m) (bad_pair {fault = k} b) = let e = one_pairs command [] 2 words (Ok g) (Err k) a b in cc
+one_request_for command words one other (with_keys {given = g} a u m) (mixed_keys {given = h} b n) = let e = same_given command words g h a b in cc
+one_request_for command words one other (with_keys {given = g} a u m) (no_key {given = h} b v n) = let e = same_given command words g h a b in cc
+one_request_for command words one other (with_keys {given = g} a u m) (with_keys {given = h} b v n) = let e = same_given command words g h a b in cc
 
 pub one_request : (words : List (List ℕ)) (one other : Result Request UsageFault) → Asks words one → Asks words other → one ≡ other
 one_request [] one other no_command no_command = refl
@@ -118,8 +131,8 @@ one_request (word ∷ words) one other (for_command {command = c} a asks) (for_c
     one_request_for c words one other asks (subst (λ (x : Command). AsksFor x words other) is more)
 
 -- what was asked for is whole
-pub asked_whole : (command : Command) (words : List (List ℕ)) (given : List Given) → PairsFrom command [] 2 words (Ok given) → first_missing command given ≡ None → IsWhole (record { command = command; given = given })
-asked_whole command words given pairs none = record { complete = none; formed = pairs_formed command words given pairs }
+pub asked_whole : (command : Command) (words : List (List ℕ)) (given : List Given) → PairsFrom command [] 2 words (Ok given) → mixed_key given ≡ None → first_missing command given ≡ None → IsWhole (record { command = command; given = given })
+asked_whole command words given pairs unmixed none = record { unmixed = unmixed; complete = none; formed = pairs_formed command words given pairs }
 
 -- grains are found in the value of a decimal key that stands
 pub decimal_found : (pairs : List Given) (word : List ℕ) (pair : Given) (found : Option ℕ) (P : Type 0) → All IsFormed pairs → pair_at pairs word ≡ Some pair → is_decimal pair.key ≡ true → IfNone found ((grains : ℕ) → ¬ IsGrains pair.value grains) → IfNone found P

@@ -6,10 +6,11 @@ use Rattle.gdc_words.specs.declared.commands.Command.{Command}
 use Rattle.gdc_words.specs.declared.commands.Key.{Key}
 use Rattle.gdc_words.specs.declared.asked.Given.{Given}
 use Rattle.gdc_words.specs.declared.faults.UsageFault.{UsageFault}
+use Rattle.gdc_words.specs.declared.faults.UsageKind.{UsageKind}
 use Rattle.gdc_words.specs.declared.faults.WordsEnd.{WordsEnd}
 use Rattle.gdc_words.specs.declared.faults.WordsEnd.TheVariants.{Usage, OutOfMemory}
-use Rattle.gdc_words.specs.CommandLine.{PairsFrom, and_pair, bad_value, IsValue, new_key, key_of, AsksFor, bad_pair}
-use Rattle.gdc_words.specs.WordsEnds.{IsValueEnd, FaultOf}
+use Rattle.gdc_words.specs.CommandLine.{PairsFrom, and_pair, bad_value, IsValue, new_key, key_of, keyed_fault, AsksFor, bad_pair}
+use Rattle.gdc_words.specs.WordsEnds.{IsValueEnd, IsKeyEnd, FaultOf}
 
 -- an error that is handed on keeps what holds of it
 pub handed_on : {A : Type 0} (result : Result A WordsEnd) (end : WordsEnd) (P : WordsEnd → Type 0) → IsErrAnd result (λ other. other ≡ end) → P end → IfErr result P
@@ -62,6 +63,11 @@ value_end command given place rest word value key (Usage fault) Says some is val
 pub pair_end : (command : Command) (words : List (List ℕ)) (end : WordsEnd) → FaultOf (PairsFrom command [] 2 words) end → FaultOf (AsksFor command words) end
 pair_end command words OutOfMemory is = tt
 pair_end command words (Usage fault) is = bad_pair is
+
+-- the fault of a key is that of the words
+pub key_fault : (command : Command) (words : List (List ℕ)) (kind : UsageKind) (key : Key) (end : WordsEnd) → IsKeyEnd kind key end → AsksFor command words (Err (keyed_fault kind key)) → FaultOf (AsksFor command words) end
+key_fault command words kind key OutOfMemory is asks = tt
+key_fault command words kind key (Usage fault) is asks = subst (λ (f : UsageFault). AsksFor command words (Err f)) (sym is) asks
 
 -- the first word, and those behind it
 pub first_word : (words : List (List ℕ)) (word : List ℕ) → 1 ≤ length words → word ≡ get_or words 0 word → words ≡ word ∷ take (length words - 1) (drop 1 words)

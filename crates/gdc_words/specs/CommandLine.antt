@@ -1,16 +1,20 @@
 -- The words of the command line. Word 1 is the command. The rest are pairs of a key and its value, read from the left.
-use Rattle.std.specs.Prelude.{◌≡◌, ℕ, ◌+◌, Bool, true, false, not, IsTrue, All, Option, Some, None, Result, Ok, Err, List, [], ◌∷◌, ◌++◌, if◌then◌else◌, codes, is_some, option_map, unwrap_or}
+use Rattle.std.specs.Prelude.{◌≡◌, ℕ, ◌+◌, Bool, true, false, not, ◌||◌, IsTrue, All, Option, Some, None, Result, Ok, Err, List, [], ◌∷◌, ◌++◌, if◌then◌else◌, codes, is_some, option_map, unwrap_or}
 use Rattle.std.specs.List.{find, list_any}
 use Rattle.std.specs.Str.{bytes_eq}
 use Rattle.gdc_words.specs.declared.commands.Command.{Command}
-use Rattle.gdc_words.specs.declared.commands.Command.TheVariants.{Wires, Show, Lookup, Help, Version}
+use Rattle.gdc_words.specs.declared.commands.Command.TheVariants.{Wires, Show, Lookup, Flat, Help, Version}
 use Rattle.gdc_words.specs.declared.commands.Key.{Key}
 use Rattle.corner_set.specs.declared.pick.Pick.{Pick}
 use Rattle.corner_set.specs.declared.pick.Pick.TheVariants.{Min, Typ, Max}
-use Rattle.gdc_words.specs.declared.commands.Key.TheVariants.{Spef, Triple, Sdf, Lib, Cell, Slew, Load}
+use Rattle.gdc_words.specs.declared.commands.Key.TheVariants.{Spef, Triple, Sdf, Netlist, Top, Lib, LibMin, LibTyp, LibMax, Cell, Slew, Load, Outside}
+use Rattle.gdc_words.specs.declared.commands.Libraries.{Libraries}
+use Rattle.gdc_words.specs.declared.commands.Libraries.TheVariants.{One, EachCorner}
+use Rattle.nldm_lookup.specs.declared.beyond.Beyond.{Beyond}
+use Rattle.nldm_lookup.specs.declared.beyond.Beyond.TheVariants.{Refuse, Edge, Extend}
 use Rattle.gdc_words.specs.declared.asked.Given.{Given}
 use Rattle.gdc_words.specs.declared.faults.UsageKind.{UsageKind}
-use Rattle.gdc_words.specs.declared.faults.UsageKind.TheVariants.{NoCommand, UnknownCommand, UnknownWord, Repeated, MissingValue, BadValue, MissingKey}
+use Rattle.gdc_words.specs.declared.faults.UsageKind.TheVariants.{NoCommand, UnknownCommand, UnknownWord, Repeated, MissingValue, BadValue, Mixed, MissingKey}
 use Rattle.gdc_words.specs.declared.faults.UsageFault.{UsageFault}
 use Rattle.gdc_words.specs.Decimals.{IsGrains}
 
@@ -25,6 +29,7 @@ command_of word =
     if bytes_eq word (codes "wires") then Some Wires
     else if bytes_eq word (codes "show") then Some Show
     else if bytes_eq word (codes "lookup") then Some Lookup
+    else if bytes_eq word (codes "flat") then Some Flat
     else if bytes_eq word (codes "--help") then Some Help
     else if bytes_eq word (codes "--version") then Some Version
     else None
@@ -34,46 +39,53 @@ abbrev pub key_word : Key → List ℕ
 key_word Spef = codes "--spef"
 key_word Triple = codes "--triple"
 key_word Sdf = codes "--sdf"
+key_word Netlist = codes "--netlist"
+key_word Top = codes "--top"
 key_word Lib = codes "--lib"
+key_word LibMin = codes "--lib-min"
+key_word LibTyp = codes "--lib-typ"
+key_word LibMax = codes "--lib-max"
 key_word Cell = codes "--cell"
 key_word Slew = codes "--slew"
 key_word Load = codes "--load"
+key_word Outside = codes "--outside"
+
+-- all keys
+abbrev pub keys : List Key
+keys =
+    Spef ∷ Triple ∷ Sdf ∷ Netlist ∷ Top ∷ Lib ∷ LibMin ∷ LibTyp ∷ LibMax ∷ Cell ∷ Slew ∷ Load ∷ Outside ∷ []
 
 -- the key that a word names
 abbrev pub key_of : List ℕ → Option Key
-key_of word =
-    if bytes_eq word (codes "--spef") then Some Spef
-    else if bytes_eq word (codes "--triple") then Some Triple
-    else if bytes_eq word (codes "--sdf") then Some Sdf
-    else if bytes_eq word (codes "--lib") then Some Lib
-    else if bytes_eq word (codes "--cell") then Some Cell
-    else if bytes_eq word (codes "--slew") then Some Slew
-    else if bytes_eq word (codes "--load") then Some Load
-    else None
+key_of word = find (λ key. bytes_eq (key_word key) word) keys
 
 -- two keys are one key, which has one word
 abbrev pub same_key : Key → Key → Bool
 same_key one other = bytes_eq (key_word one) (key_word other)
 
--- the keys that a command needs, in the order in which a missing one is named
-abbrev pub needed_keys : Command → List Key
-needed_keys Wires = Spef ∷ []
-needed_keys Show = Sdf ∷ []
-needed_keys Lookup = Lib ∷ Cell ∷ Slew ∷ Load ∷ []
-needed_keys Help = []
-needed_keys Version = []
+-- The keys that a command needs beside such libraries, in the order in which a missing one is named. No command takes a library for each
+-- corner yet.
+abbrev pub needed_keys : Command → Libraries → List Key
+needed_keys Wires libraries = Spef ∷ []
+needed_keys Show libraries = Sdf ∷ []
+needed_keys Lookup libraries = Lib ∷ Cell ∷ Slew ∷ Load ∷ []
+needed_keys Flat libraries = Netlist ∷ Top ∷ Lib ∷ []
+needed_keys Help libraries = []
+needed_keys Version libraries = []
 
 -- the keys that may stand beside them
 abbrev pub further_keys : Command → List Key
 further_keys Wires = Triple ∷ []
 further_keys Show = []
-further_keys Lookup = []
+further_keys Lookup = Outside ∷ []
+further_keys Flat = []
 further_keys Help = []
 further_keys Version = []
 
--- a command takes a key
+-- a command takes a key, beside one library or beside one for each corner
 abbrev pub takes_key : Command → Key → Bool
-takes_key command key = list_any (λ taken. same_key taken key) (needed_keys command ++ further_keys command)
+takes_key command key =
+    list_any (λ taken. same_key taken key) (needed_keys command One ++ (needed_keys command EachCorner ++ further_keys command))
 
 -- the member of a triple that a word names
 abbrev pub pick_of : List ℕ → Option Pick
@@ -81,6 +93,14 @@ pick_of word =
     if bytes_eq word (codes "min") then Some Min
     else if bytes_eq word (codes "typ") then Some Typ
     else if bytes_eq word (codes "max") then Some Max
+    else None
+
+-- what a word says is done past the end of an axis
+abbrev pub beyond_of : List ℕ → Option Beyond
+beyond_of word =
+    if bytes_eq word (codes "refuse") then Some Refuse
+    else if bytes_eq word (codes "edge") then Some Edge
+    else if bytes_eq word (codes "extend") then Some Extend
     else None
 
 abbrev pub is_filled : List ℕ → Bool
@@ -93,37 +113,58 @@ is_decimal Slew = true
 is_decimal Load = true
 is_decimal _ = false
 
--- A value has the form that its key wants: the name of a file or of a cell is a text that is not empty, a member of a triple has its word,
--- and a
--- decimal reads as grains.
+-- A value has the form that its key wants: the name of a file, of a module or of a cell is a text that is not empty, a member of a triple
+-- and what is done past an axis have their words, and a decimal reads as grains.
 abbrev pub IsValue : Key → List ℕ → Type 0
 IsValue Spef value = IsTrue (is_filled value)
 IsValue Triple value = IsTrue (is_some (pick_of value))
 IsValue Sdf value = IsTrue (is_filled value)
+IsValue Netlist value = IsTrue (is_filled value)
+IsValue Top value = IsTrue (is_filled value)
 IsValue Lib value = IsTrue (is_filled value)
+IsValue LibMin value = IsTrue (is_filled value)
+IsValue LibTyp value = IsTrue (is_filled value)
+IsValue LibMax value = IsTrue (is_filled value)
 IsValue Cell value = IsTrue (is_filled value)
 IsValue Slew value = (grains : ℕ) × IsGrains value grains
 IsValue Load value = (grains : ℕ) × IsGrains value grains
+IsValue Outside value = IsTrue (is_some (beyond_of value))
 
 -- a key stands among these
 abbrev pub is_given : List Given → Key → Bool
 is_given given key = list_any (λ g. same_key g.key key) given
 
+-- the keys of a library for each corner, in the order in which the first that stands is named
+abbrev pub corner_keys : List Key
+corner_keys = LibMin ∷ LibTyp ∷ LibMax ∷ []
+
+-- the first of them that stands
+abbrev pub corner_key : List Given → Option Key
+corner_key given = find (λ key. is_given given key) corner_keys
+
+-- the libraries that are given: one for each corner where such a key stands
+abbrev pub libraries_of : List Given → Libraries
+libraries_of given = if is_some (corner_key given) then EachCorner else One
+
+-- the key of one library, or of the member of a triple that one corner takes, stands together with this library of a corner
+abbrev pub mixed_key : List Given → Option Key
+mixed_key given = if is_given given Lib || is_given given Triple then corner_key given else None
+
 -- the first needed key that does not stand
 abbrev pub first_missing : Command → List Given → Option Key
-first_missing command given = find (λ key. not (is_given given key)) (needed_keys command)
+first_missing command given = find (λ key. not (is_given given key)) (needed_keys command (libraries_of given))
 
--- a command needs a key
-abbrev pub needs_key : Command → Key → Bool
-needs_key command key = list_any (λ needed. same_key needed key) (needed_keys command)
+-- a command needs a key beside these
+abbrev pub needs_key : Command → List Given → Key → Bool
+needs_key command given key = list_any (λ needed. same_key needed key) (needed_keys command (libraries_of given))
 
 -- a fault at a word
 abbrev pub fault_at : UsageKind → ℕ → UsageFault
 fault_at kind place = record { kind = kind; place = place; key = None }
 
--- a needed key that does not stand, which has no place among the words
-abbrev pub missing_key : Key → UsageFault
-missing_key key = record { kind = MissingKey; place = 0; key = Some (key_word key) }
+-- a fault of a key, which has no place among the words
+abbrev pub keyed_fault : UsageKind → Key → UsageFault
+keyed_fault kind key = record { kind = kind; place = 0; key = Some (key_word key) }
 
 -- the key that a word names is one of the command's, and does not stand yet
 abbrev pub new_key : Command → List Given → ℕ → Option Key → Result Key UsageFault
@@ -150,13 +191,16 @@ pub data PairsFrom (command : Command) : List Given → ℕ → List (List ℕ) 
       → PairsFrom command (given ++ record { key = key; value = value } ∷ []) (place + 2) rest answer
       → PairsFrom command given place (word ∷ value ∷ rest) answer
 
--- What the words after the command ask for, or their first fault: that of a pair, and then the first needed key that does not stand.
+-- What the words after the command ask for, or their first fault: that of a pair, then keys that do not stand together, and then the first
+-- needed key that does not stand.
 pub data AsksFor (command : Command) (words : List (List ℕ)) : Result Request UsageFault → Type 0 where
   bad_pair : {fault : UsageFault} → PairsFrom command [] 2 words (Err fault) → AsksFor command words (Err fault)
-  no_key : {given : List Given} {key : Key} → PairsFrom command [] 2 words (Ok given) → first_missing command given ≡ Some key
-      → AsksFor command words (Err (missing_key key))
-  with_keys : {given : List Given} → PairsFrom command [] 2 words (Ok given) → first_missing command given ≡ None
-      → AsksFor command words (Ok (record { command = command; given = given }))
+  mixed_keys : {given : List Given} {key : Key} → PairsFrom command [] 2 words (Ok given) → mixed_key given ≡ Some key
+      → AsksFor command words (Err (keyed_fault Mixed key))
+  no_key : {given : List Given} {key : Key} → PairsFrom command [] 2 words (Ok given) → mixed_key given ≡ None
+      → first_missing command given ≡ Some key → AsksFor command words (Err (keyed_fault MissingKey key))
+  with_keys : {given : List Given} → PairsFrom command [] 2 words (Ok given) → mixed_key given ≡ None
+      → first_missing command given ≡ None → AsksFor command words (Ok (record { command = command; given = given }))
 
 -- what the words ask for, or their first fault
 pub data Asks : List (List ℕ) → Result Request UsageFault → Type 0 where
@@ -165,8 +209,9 @@ pub data Asks : List (List ℕ) → Result Request UsageFault → Type 0 where
   for_command : {word : List ℕ} {words : List (List ℕ)} {command : Command} {answer : Result Request UsageFault}
       → command_of word ≡ Some command → AsksFor command words answer → Asks (word ∷ words) answer
 
--- every key that the command needs stands, and each value has the form that its key wants
+-- no keys stand that do not stand together, every key that the command needs stands, and each value has the form that its key wants
 pub record IsWhole (request : Request) : Type 0 where
+  pub unmixed : mixed_key request.given ≡ None
   pub complete : first_missing request.command request.given ≡ None
   pub formed : All (λ pair. IsValue pair.key pair.value) request.given
 
@@ -205,3 +250,11 @@ pick_in (Some g) = unwrap_or (pick_of g.value) Typ
 
 abbrev pub pick_from : List Given → Pick
 pick_from given = pick_in (find (λ g. same_key g.key Triple) given)
+
+-- what is done past the end of an axis: the look-up is refused where no other is asked for
+abbrev pub beyond_in : Option Given → Beyond
+beyond_in None = Refuse
+beyond_in (Some g) = unwrap_or (beyond_of g.value) Refuse
+
+abbrev pub beyond_from : List Given → Beyond
+beyond_from given = beyond_in (find (λ g. same_key g.key Outside) given)

@@ -3,20 +3,22 @@
 use Rattle.std.specs.Prelude.{ℕ, List, [], ◌∷◌, ◌++◌, codes}
 use Rattle.std.specs.List.{flat_map}
 use Rattle.gdc_words.specs.declared.commands.Command.{Command}
-use Rattle.gdc_words.specs.declared.commands.Command.TheVariants.{Wires, Show, Lookup, Help, Version}
+use Rattle.gdc_words.specs.declared.commands.Command.TheVariants.{Wires, Show, Lookup, Flat, Help, Version}
 use Rattle.gdc_words.specs.declared.commands.Key.{Key}
-use Rattle.gdc_words.specs.declared.commands.Key.TheVariants.{Spef, Triple, Sdf, Lib, Cell, Slew, Load}
+use Rattle.gdc_words.specs.declared.commands.Key.TheVariants.{Spef, Triple, Sdf, Netlist, Top, Lib, LibMin, LibTyp, LibMax, Cell, Slew, Load, Outside}
+use Rattle.gdc_words.specs.declared.commands.Libraries.TheVariants.{One}
 use Rattle.gdc_words.specs.CommandLine.{key_word, needed_keys, further_keys}
 
 -- the commands, in the order in which they are told
 abbrev pub commands : List Command
-commands = Wires ∷ Show ∷ Lookup ∷ Help ∷ Version ∷ []
+commands = Wires ∷ Show ∷ Lookup ∷ Flat ∷ Help ∷ Version ∷ []
 
 -- the word of a command
 abbrev pub command_word : Command → List ℕ
 command_word Wires = codes "wires"
 command_word Show = codes "show"
 command_word Lookup = codes "lookup"
+command_word Flat = codes "flat"
 command_word Help = codes "--help"
 command_word Version = codes "--version"
 
@@ -25,16 +27,23 @@ abbrev pub value_word : Key → List ℕ
 value_word Spef = codes "FILE"
 value_word Triple = codes "min|typ|max"
 value_word Sdf = codes "FILE"
+value_word Netlist = codes "FILE"
+value_word Top = codes "MODULE"
 value_word Lib = codes "FILE"
+value_word LibMin = codes "FILE"
+value_word LibTyp = codes "FILE"
+value_word LibMax = codes "FILE"
 value_word Cell = codes "CELL"
 value_word Slew = codes "PICOSECONDS"
 value_word Load = codes "FEMTOFARADS"
+value_word Outside = codes "refuse|edge|extend"
 
 -- what a command does
 abbrev pub purpose : Command → List ℕ
 purpose Wires = codes "writes the delays of the wires of a SPEF file as SDF"
 purpose Show = codes "prints the rows of an SDF file, and their summary"
 purpose Lookup = codes "prints the delay and the transition of each arc of a cell of a Liberty library, at one slew and one load"
+purpose Flat = codes "prints the instances and the nets of a design, with what drives them"
 purpose Help = codes "prints this text"
 purpose Version = codes "prints the version"
 
@@ -49,11 +58,11 @@ needed_text key = codes " " ++ (key_word key ++ (codes " " ++ value_word key))
 abbrev pub further_text : Key → List ℕ
 further_text key = codes " [" ++ (key_word key ++ (codes " " ++ (value_word key ++ codes "]")))
 
--- the two lines of a command: its word with its keys, and what it does
+-- the two lines of a command: its word with its keys beside one library, and what it does
 abbrev pub command_lines : Command → List ℕ
 command_lines command =
     line (codes "  " ++ (command_word command
-    ++ (flat_map needed_text (needed_keys command) ++ flat_map further_text (further_keys command))))
+    ++ (flat_map needed_text (needed_keys command One) ++ flat_map further_text (further_keys command))))
     ++ line (codes "      " ++ purpose command)
 
 -- the statuses with which the program ends

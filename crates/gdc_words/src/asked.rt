@@ -1,13 +1,14 @@
 //! What the words ask for.
 ghost use Rattle.std.specs.Prelude.{◌≡◌, IsTrue, IfSome, IfNone, option_copied, option_map};
 ghost use Rattle.std.specs.List.{find};
-ghost use Rattle.gdc_words.specs.CommandLine.{same_key, needs_key, is_given, first_missing, value_of, value_at, pair_at, is_decimal, IsValue, HasGrains, HasNoGrains, pick_from};
+ghost use Rattle.gdc_words.specs.CommandLine.{same_key, needs_key, is_given, corner_key, corner_keys, libraries_of, mixed_key, first_missing, value_of, value_at, pair_at, is_decimal, IsValue, HasGrains, HasNoGrains, pick_from, beyond_from};
 ghost use Rattle.gdc_words.specs.Decimals.{IsGrains};
 
-use crate::commands::{Command, Key, pick_of};
+use crate::commands::{Command, Key, Libraries, beyond_of, pick_of};
 use crate::decimals::grains_of;
 use corner_set::Pick;
 use edge_io::Text;
+use nldm_lookup::Beyond;
 use std::marker::Model;
 
 /// A key that stands, and its value.
@@ -38,19 +39,58 @@ fn pair_at<'a>(given: &'a [Given], word: &[u8]) -> Option<&'a Given>
     given.iter().find(|pair| pair.key.word() == word)
 }
 
+/// The keys of a library for each corner, in the order in which the first that stands is named.
+fn corner_keys() -> &'static [Key]
+    ensures { result.now ≡ corner_keys }
+{
+    &[Key::LibMin, Key::LibTyp, Key::LibMax]
+}
+
+/// The first of them that stands.
+fn corner_key(given: &[Given]) -> Option<Key>
+    ensures { result ≡ corner_key given.now }
+{
+    corner_keys()
+        .iter()
+        .copied()
+        .find(|key| stands(given, *key))
+}
+
+/// The libraries that are given: one for each corner where such a key stands.
+fn libraries_of(given: &[Given]) -> Libraries
+    ensures { result ≡ libraries_of given.now }
+{
+    if corner_key(given).is_some() {
+        Libraries::EachCorner
+    } else {
+        Libraries::One
+    }
+}
+
+/// The library of a corner that stands together with the key of one library, or of the member of a triple that one corner takes.
+pub(crate) fn mixed_key(given: &[Given]) -> Option<Key>
+    ensures { result ≡ mixed_key given.now }
+{
+    if stands(given, Key::Lib) || stands(given, Key::Triple) {
+        corner_key(given)
+    } else {
+        None
+    }
+}
+
 /// The first needed key that does not stand.
 pub(crate) fn first_missing(command: Command, given: &[Given]) -> Option<Key>
     ensures { result ≡ first_missing command given.now }
 {
     command
-        .needed_keys()
+        .needed_keys(libraries_of(given))
         .iter()
         .copied()
         .find(|key| !stands(given, *key))
 }
 
-/// What the words ask for: a command, and each key that stands with its value. Every key that the command needs stands, and each
-/// value has the form that its key wants.
+/// What the words ask for: a command, and each key that stands with its value. Every key that the command needs stands, no two stand
+/// that do not stand together, and each value has the form that its key wants.
 #[derive(Debug, Drop)]
 pub struct Asked {
     pub(crate) command: Command,
@@ -84,7 +124,7 @@ impl Asked {
 
     /// The value of a key that the command needs.
     pub fn needed(&self, key: Key) -> &Text
-        requires { IsTrue (needs_key self.now.command key) }
+        requires { IsTrue (needs_key self.now.command self.now.given key) }
         ensures value { result.now ≡ value_of self.now.given key }
         ensures formed { IsValue key result.now }
     {
@@ -108,7 +148,7 @@ impl Asked {
 
     /// The grains of a decimal key that the command needs.
     pub fn needed_grains(&self, key: Key) -> u64
-        requires needed { IsTrue (needs_key self.now.command key) }
+        requires needed { IsTrue (needs_key self.now.command self.now.given key) }
         requires decimal { IsTrue (is_decimal key) }
         ensures { IsGrains (value_of self.now.given key) result }
     {
@@ -124,5 +164,14 @@ impl Asked {
     {
         let asked = pair_of(&self.given, Key::Triple).and_then(|pair| pick_of(pair.value.bytes()));
         asked.unwrap_or(Pick::Typ)
+    }
+    /// What is done past the end of an axis: the look-up is refused where the words ask for no other.
+    pub fn beyond(&self) -> Beyond
+        ensures { result ≡ beyond_from self.now.given }
+    {
+        let asked = pair_of(&self.given, Key::Outside).and_then(|pair| beyond_of(
+            pair.value.bytes(),
+        ));
+        asked.unwrap_or(Beyond::Refuse)
     }
 }

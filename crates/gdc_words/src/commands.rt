@@ -1,9 +1,10 @@
 //! The commands and the keys, with the tables that say which key stands with which command.
 ghost use Rattle.std.specs.Prelude.{◌≡◌, ◌↔◌, IsTrue};
-ghost use Rattle.gdc_words.specs.CommandLine.{command_of, key_of, key_word, takes_key, needed_keys, is_decimal, IsValue, pick_of};
+ghost use Rattle.gdc_words.specs.CommandLine.{command_of, key_of, keys, key_word, takes_key, needed_keys, is_decimal, IsValue, pick_of, beyond_of};
 
 use crate::decimals::grains_of;
 use corner_set::Pick;
+use nldm_lookup::Beyond;
 
 /// A command of the program, which is its first word.
 #[derive(Clone, Copy, Debug, PartialEq, Eq)]
@@ -14,6 +15,8 @@ pub enum Command {
     Show,
     /// `lookup`: the delay and the transition of each arc of a library's cell, at one slew and one load.
     Lookup,
+    /// `flat`: the instances and the nets of a design, with what drives them.
+    Flat,
     /// `--help`: the commands, their keys, and the statuses.
     Help,
     /// `--version`: the version of the program.
@@ -29,14 +32,35 @@ pub enum Key {
     Triple,
     /// `--sdf`: the name of an SDF file.
     Sdf,
+    /// `--netlist`: the name of a Verilog file.
+    Netlist,
+    /// `--top`: the name of the module of a netlist whose instances and nets are the design.
+    Top,
     /// `--lib`: the name of a Liberty file.
     Lib,
+    /// `--lib-min`: the name of the Liberty file of the corner `min`.
+    LibMin,
+    /// `--lib-typ`: the name of the Liberty file of the corner `typ`.
+    LibTyp,
+    /// `--lib-max`: the name of the Liberty file of the corner `max`.
+    LibMax,
     /// `--cell`: the name of a cell of the library.
     Cell,
     /// `--slew`: a transition in picoseconds, from 0 to a microsecond.
     Slew,
     /// `--load`: a capacitance in femtofarads, from 0 to a nanofarad.
     Load,
+    /// `--outside`: what is done past the end of a table's axis, `refuse`, `edge` or `extend`.
+    Outside,
+}
+
+/// The libraries that the words name.
+#[derive(Clone, Copy, Debug, PartialEq, Eq)]
+pub enum Libraries {
+    /// One library, of the key `--lib`.
+    One,
+    /// A library for each corner, of the keys `--lib-min`, `--lib-typ` and `--lib-max`.
+    EachCorner,
 }
 
 /// The member of a triple that a word names.
@@ -54,6 +78,21 @@ pub(crate) fn pick_of(word: &[u8]) -> Option<Pick>
     }
 }
 
+/// What a word says is done past the end of an axis.
+pub(crate) fn beyond_of(word: &[u8]) -> Option<Beyond>
+    ensures { result ≡ beyond_of word.now }
+{
+    if word == b"refuse".as_slice() {
+        Some(Beyond::Refuse)
+    } else if word == b"edge".as_slice() {
+        Some(Beyond::Edge)
+    } else if word == b"extend".as_slice() {
+        Some(Beyond::Extend)
+    } else {
+        None
+    }
+}
+
 impl Command {
     /// The command that a word names.
     pub(crate) fn of(word: &[u8]) -> Option<Command>
@@ -65,6 +104,8 @@ impl Command {
             Some(Command::Show)
         } else if word == b"lookup".as_slice() {
             Some(Command::Lookup)
+        } else if word == b"flat".as_slice() {
+            Some(Command::Flat)
         } else if word == b"--help".as_slice() {
             Some(Command::Help)
         } else if word == b"--version".as_slice() {
@@ -81,47 +122,55 @@ impl Command {
         match (self, key) {
             (Command::Wires, Key::Spef | Key::Triple) => true,
             (Command::Show, Key::Sdf) => true,
-            (Command::Lookup, Key::Lib | Key::Cell | Key::Slew | Key::Load) => true,
+            (Command::Lookup, Key::Lib | Key::Cell | Key::Slew | Key::Load | Key::Outside) => true,
+            (Command::Flat, Key::Netlist | Key::Top | Key::Lib) => true,
             _ => false,
         }
     }
 
-    /// The keys that the command needs, in the order in which a missing one is named.
-    pub(crate) fn needed_keys(self) -> &'static [Key]
-        ensures { result.now ≡ needed_keys self }
+    /// The keys that the command needs beside such libraries, in the order in which a missing one is named. No command takes a library
+    /// for each corner yet.
+    pub(crate) fn needed_keys(self, libraries: Libraries) -> &'static [Key]
+        ensures { result.now ≡ needed_keys self libraries }
     {
-        match self {
-            Command::Wires => &[Key::Spef],
-            Command::Show => &[Key::Sdf],
-            Command::Lookup => &[Key::Lib, Key::Cell, Key::Slew, Key::Load],
-            Command::Help => &[],
-            Command::Version => &[],
+        match (self, libraries) {
+            (Command::Wires, _) => &[Key::Spef],
+            (Command::Show, _) => &[Key::Sdf],
+            (Command::Lookup, _) => &[Key::Lib, Key::Cell, Key::Slew, Key::Load],
+            (Command::Flat, _) => &[Key::Netlist, Key::Top, Key::Lib],
+            (Command::Help, _) => &[],
+            (Command::Version, _) => &[],
         }
     }
 }
 
 impl Key {
+    /// All keys.
+    fn all() -> &'static [Key]
+        ensures { result.now ≡ keys }
+    {
+        &[
+            Key::Spef,
+            Key::Triple,
+            Key::Sdf,
+            Key::Netlist,
+            Key::Top,
+            Key::Lib,
+            Key::LibMin,
+            Key::LibTyp,
+            Key::LibMax,
+            Key::Cell,
+            Key::Slew,
+            Key::Load,
+            Key::Outside,
+        ]
+    }
+
     /// The key that a word names.
     pub(crate) fn of(word: &[u8]) -> Option<Key>
         ensures { result ≡ key_of word.now }
     {
-        if word == b"--spef".as_slice() {
-            Some(Key::Spef)
-        } else if word == b"--triple".as_slice() {
-            Some(Key::Triple)
-        } else if word == b"--sdf".as_slice() {
-            Some(Key::Sdf)
-        } else if word == b"--lib".as_slice() {
-            Some(Key::Lib)
-        } else if word == b"--cell".as_slice() {
-            Some(Key::Cell)
-        } else if word == b"--slew".as_slice() {
-            Some(Key::Slew)
-        } else if word == b"--load".as_slice() {
-            Some(Key::Load)
-        } else {
-            None
-        }
+        Key::all().iter().copied().find(|key| key.word() == word)
     }
 
     /// The word of a key.
@@ -132,10 +181,16 @@ impl Key {
             Key::Spef => b"--spef",
             Key::Triple => b"--triple",
             Key::Sdf => b"--sdf",
+            Key::Netlist => b"--netlist",
+            Key::Top => b"--top",
             Key::Lib => b"--lib",
+            Key::LibMin => b"--lib-min",
+            Key::LibTyp => b"--lib-typ",
+            Key::LibMax => b"--lib-max",
             Key::Cell => b"--cell",
             Key::Slew => b"--slew",
             Key::Load => b"--load",
+            Key::Outside => b"--outside",
         }
     }
 
@@ -157,10 +212,16 @@ impl Key {
             Key::Spef => !value.is_empty(),
             Key::Triple => pick_of(value).is_some(),
             Key::Sdf => !value.is_empty(),
+            Key::Netlist => !value.is_empty(),
+            Key::Top => !value.is_empty(),
             Key::Lib => !value.is_empty(),
+            Key::LibMin => !value.is_empty(),
+            Key::LibTyp => !value.is_empty(),
+            Key::LibMax => !value.is_empty(),
             Key::Cell => !value.is_empty(),
             Key::Slew => grains_of(value).is_some(),
             Key::Load => grains_of(value).is_some(),
+            Key::Outside => beyond_of(value).is_some(),
         }
     }
 }

@@ -12,8 +12,10 @@ Commands, each with its keys:
       writes the delays of the wires of a SPEF file as SDF
   show --sdf FILE
       prints the rows of an SDF file, and their summary
-  lookup --lib FILE --cell CELL --slew PICOSECONDS --load FEMTOFARADS
+  lookup --lib FILE --cell CELL --slew PICOSECONDS --load FEMTOFARADS [--outside refuse|edge|extend]
       prints the delay and the transition of each arc of a cell of a Liberty library, at one slew and one load
+  flat --netlist FILE --top MODULE --lib FILE
+      prints the instances and the nets of a design, with what drives them
   --help
       prints this text
   --version

@@ -11,7 +11,7 @@ mod reading;
 mod words;
 
 pub use asked::{Asked, Given};
-pub use commands::{Command, Key};
+pub use commands::{Command, Key, Libraries};
 pub use faults::{UsageFault, UsageKind, WordsEnd};
 pub use help::{help_text, version_text};
 pub use reading::read_words;

@@ -1,10 +1,10 @@
 //! Reading the words.
 ghost use Rattle.std.specs.Prelude.{◌≡◌, Result, IfOk, IfErr, Ok, []};
-ghost use Rattle.gdc_words.specs.WordsEnds.{IsValueEnd, FaultOf, Answers};
+ghost use Rattle.gdc_words.specs.WordsEnds.{IsValueEnd, IsKeyEnd, FaultOf, Answers};
 ghost use Rattle.gdc_words.specs.CommandLine.{Request, key_of, new_key, IsValue, PairsFrom, AsksFor, Asks};
 ghost use Rattle.gdc_words.specs.declared.faults.UsageFault.{UsageFault};
 
-use crate::asked::{Asked, Given, first_missing, stands};
+use crate::asked::{Asked, Given, first_missing, mixed_key, stands};
 use crate::commands::{Command, Key};
 use crate::faults::{UsageFault, UsageKind, WordsEnd, fault_at};
 use crate::words::Words;
@@ -76,22 +76,32 @@ fn read_pairs(alloc: Global, command: Command, words: &[Text]) -> Result<Vec<Giv
     }
 }
 
+/// The end at a fault of a key, which has no place among the words.
+fn key_end(alloc: Global, kind: UsageKind, key: Key) -> WordsEnd
+    ensures { IsKeyEnd kind key result }
+{
+    match Text::from_bytes(alloc, key.word()) {
+        Ok(word) => WordsEnd::Usage(UsageFault {
+            kind,
+            place: 0,
+            key: Some(word),
+        }),
+        Err(_) => WordsEnd::OutOfMemory,
+    }
+}
+
 /// What the words after the command ask for.
 fn read_request(alloc: Global, command: Command, words: &[Text]) -> Result<Asked, WordsEnd>
     ensures ok { IfOk result (λ asked. AsksFor command words.now (Ok asked)) }
     ensures err { IfErr result (FaultOf (AsksFor command words.now)) }
 {
     let given = read_pairs(alloc, command, words)?;
-    match first_missing(command, &given) {
-        None => Ok(Asked { command, given }),
-        Some(key) => {
-            let word = Text::from_bytes(alloc, key.word())?;
-            Err(WordsEnd::Usage(UsageFault {
-                kind: UsageKind::MissingKey,
-                place: 0,
-                key: Some(word),
-            }))
-        }
+    match mixed_key(&given) {
+        Some(key) => Err(key_end(alloc, UsageKind::Mixed, key)),
+        None => match first_missing(command, &given) {
+            Some(key) => Err(key_end(alloc, UsageKind::MissingKey, key)),
+            None => Ok(Asked { command, given }),
+        },
     }
 }
 

@@ -12,6 +12,7 @@ use std::process::Abort;
 use std::sync::ledger::{Blank, Ledger};
 use std::test::Fail;
 
+mod flat;
 mod lookup;
 mod refusals;
 mod rows;
@@ -26,6 +27,8 @@ struct Plan<'a> {
     point: &'a [u8],
     /// What stands in `a.spef`, and in `a.sdf` and `a.lib` too.
     file: &'a [u8],
+    /// What stands in `a.v`.
+    netlist: &'a [u8],
     /// How many bytes a call of the sink for the text takes.
     most: usize,
     /// The call of that sink that fails, or 0.
@@ -48,12 +51,21 @@ impl<'a> Plan<'a> {
         }
     }
 
+    /// `flat` of the module `top` over this netlist and this library, with no fault.
+    fn flat(netlist: &'a [u8], library: &'a [u8]) -> Plan<'a> {
+        Plan {
+            netlist,
+            ..Plan::of(b"flat\n--netlist\na.v\n--top\ntop\n--lib\na.lib\n", library)
+        }
+    }
+
     /// These words over these bytes, with no fault.
     fn of(words: &'a [u8], file: &'a [u8]) -> Plan<'a> {
         Plan {
             words,
             point: b"",
             file,
+            netlist: b"",
             most: 1000,
             failing_write: 0,
             failing_read: 0,
@@ -109,6 +121,10 @@ fn shelf_of(alloc: Global, plan: &Plan) -> Result<MemShelf, OutOfMemory> {
         let held = Text::from_bytes(alloc, plan.file)?;
         shelf.put(name, held)?;
     }
+    shelf.put(
+        Text::from_bytes(alloc, b"a.v")?,
+        Text::from_bytes(alloc, plan.netlist)?,
+    )?;
     shelf.fail_at(plan.failing_read)?;
     Ok(shelf)
 }

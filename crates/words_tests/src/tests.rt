@@ -5,11 +5,12 @@ use gdc_words::{
     Asked, Command, Key, UsageFault, UsageKind, Words, WordsEnd, help_text, read_words,
     version_text,
 };
+use nldm_lookup::Beyond;
 use std::alloc::Global;
 use std::test::Fail;
 
 /// Words, one a line, with the kind and the place of their first fault.
-const FAULTS: [(&[u8], UsageKind, usize); 26] = [
+const FAULTS: [(&[u8], UsageKind, usize); 36] = [
     (b"", UsageKind::NoCommand, 1),
     (b"\n", UsageKind::UnknownCommand, 1),
     (b"wire\n", UsageKind::UnknownCommand, 1),
@@ -38,6 +39,24 @@ const FAULTS: [(&[u8], UsageKind, usize); 26] = [
     (b"lookup\n--lib\n\n", UsageKind::BadValue, 3),
     (b"lookup\n--cell\n\n", UsageKind::BadValue, 3),
     (b"lookup\n--triple\nmax\n", UsageKind::UnknownWord, 2),
+    (b"lookup\n--outside\nEdge\n", UsageKind::BadValue, 3),
+    (b"lookup\n--outside\n\n", UsageKind::BadValue, 3),
+    (b"lookup\n--lib-min\na\n", UsageKind::UnknownWord, 2),
+    (b"wires\n--outside\nedge\n", UsageKind::UnknownWord, 2),
+    (
+        b"wires\n--spef\na\n--lib-typ\nb\n",
+        UsageKind::UnknownWord,
+        4,
+    ),
+    (b"flat\n--top\n", UsageKind::MissingValue, 2),
+    (b"flat\n--top\n\n", UsageKind::BadValue, 3),
+    (
+        b"flat\n--netlist\na\n--netlist\nb\n",
+        UsageKind::Repeated,
+        4,
+    ),
+    (b"flat\n--lib\na\n--lib-max\nb\n", UsageKind::UnknownWord, 4),
+    (b"flat\n--outside\nedge\n", UsageKind::UnknownWord, 2),
     (b"--help\nwires\n", UsageKind::UnknownWord, 2),
     (b"--version\n--help\n", UsageKind::UnknownWord, 2),
 ];
@@ -81,12 +100,15 @@ fn asked_by(alloc: Global, lines: &[u8]) -> Result<Asked, OutOfMemory> {
 }
 
 /// Words that lack a key, and the first that they lack.
-const LACKING: [(&[u8], &[u8]); 5] = [
+const LACKING: [(&[u8], &[u8]); 8] = [
     (b"wires\n", b"--spef"),
     (b"wires\n--triple\nmin\n", b"--spef"),
     (b"show\n", b"--sdf"),
     (b"lookup\n--slew\n1000000\n", b"--lib"),
     (b"lookup\n--lib\na\n--slew\n1\n--load\n2\n", b"--cell"),
+    (b"lookup\n--outside\nextend\n", b"--lib"),
+    (b"flat\n--lib\na\n", b"--netlist"),
+    (b"flat\n--top\nt\n--netlist\nn.v\n", b"--lib"),
 ];
 
 #[test]
@@ -163,6 +185,44 @@ fn decimals_are_grains(rt: HostRuntime) -> Result<(), Fail> {
         assert_eq!(rt; asked.grains(b"--cell"), None);
         assert_eq!(rt; asked.grains(b"--spef"), None);
     }
+    Ok(())
+}
+
+/// The words of a look-up without `--outside`, and what these say that is done past the end of an axis, behind them.
+const OUTSIDE: [(&[u8], Beyond); 4] = [
+    (b"", Beyond::Refuse),
+    (b"--outside\nrefuse\n", Beyond::Refuse),
+    (b"--outside\nedge\n", Beyond::Edge),
+    (b"--outside\nextend\n", Beyond::Extend),
+];
+
+#[test]
+fn words_say_what_is_done_past_an_axis(rt: HostRuntime) -> Result<(), Fail> {
+    let alloc = rt.alloc();
+    for row in &OUTSIDE {
+        let mut lines = Vec::new(alloc);
+        lines.extend_from_slice(b"lookup\n--load\n2\n--lib\na.lib\n--cell\nINV\n--slew\n1\n")?;
+        lines.extend_from_slice(row.0)?;
+        assert_eq!(rt; asked_by(alloc, lines.as_slice())?.beyond(), row.1);
+    }
+    Ok(())
+}
+
+#[test]
+fn flat_asks_for_its_files(rt: HostRuntime) -> Result<(), Fail> {
+    let alloc = rt.alloc();
+    let asked = asked_by(alloc, b"flat\n--top\ntop\n--lib\na.lib\n--netlist\nn.v\n")?;
+    assert_eq!(rt; asked.command(), Command::Flat);
+    assert!(rt;
+        asked
+            .value(b"--netlist")
+            .is_some_and(|value| value.bytes() == b"n.v".as_slice())
+    );
+    assert!(rt;
+        asked
+            .value(Key::Top.word())
+            .is_some_and(|value| value.bytes() == b"top".as_slice())
+    );
     Ok(())
 }
 

@@ -47,7 +47,7 @@ const LIBRARY: &[u8] = b"library (L) {
 ";
 
 /// Words behind `lookup --lib a.lib`, one a line, and what comes of them over the library: status, text and line.
-const ROWS: [(&[u8], u8, &[u8], &[u8]); 8] = [
+const ROWS: [(&[u8], u8, &[u8], &[u8]); 12] = [
     (
         b"--cell\nINV\n--slew\n20\n--load\n2\n",
         0,
@@ -83,6 +83,30 @@ const ROWS: [(&[u8], u8, &[u8], &[u8]); 8] = [
         1,
         b"",
         b"gdc: E41 outside INV A Z rise only delay load 3000001\n",
+    ),
+    (
+        b"--cell\nINV\n--slew\n30\n--load\n4\n--outside\nextend\n",
+        0,
+        b"A Z rise 75.000 32.000000\nA Z fall 40.000 24.000000\n",
+        b"",
+    ),
+    (
+        b"--cell\nINV\n--outside\nedge\n--slew\n30\n--load\n4\n",
+        0,
+        b"A Z rise 60.000 28.000000\nA Z fall 32.000 22.000000\n",
+        b"",
+    ),
+    (
+        b"--outside\nrefuse\n--cell\nINV\n--slew\n30\n--load\n4\n",
+        1,
+        b"",
+        b"gdc: E41 outside INV A Z rise only delay load 4000000\n",
+    ),
+    (
+        b"--cell\nINV\n--slew\n30\n--load\n1000000\n--outside\nextend\n",
+        1,
+        b"",
+        b"gdc: E43 past time INV A Z rise only delay\n",
     ),
     (
         b"--cell\nDFF\n--slew\n9\n--load\n4\n",

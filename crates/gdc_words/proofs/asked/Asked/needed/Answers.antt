@@ -9,7 +9,7 @@ use Rattle.gdc_words.proofs.asked.Asked.needed.Goals as goal
 
 pub unreachable-requires : goal.unreachable-requires
 unreachable-requires c =
-    let needed : needs_key c.self.inside.command c.args.key ≡ true = grind (arith, common_steps) in
+    let needed : needs_key c.self.inside.command c.self.inside.given.items c.args.key ≡ true = grind (arith, common_steps) in
     let missing : find (λ (g : Given). same_key g.key c.args.key) c.self.inside.given.items ≡ None = rw (← c.deref.ensures.value) (sym c.in-None.ensures) in
     needed_is_found c.self.inside.command c.self.inside.given.items c.args.key c.self.invariant.complete needed missing
 
