@@ -1,0 +1,15 @@
+pub mod NetTimes
+pub mod FlatArcs
+pub mod Sinks
+pub mod SinkPlaces
+pub mod Lookups
+pub mod WireBehind
+pub mod Timings
+pub mod Designs
+pub mod NetStates
+pub mod Cycles
+pub mod SlewEnds
+pub mod Slews
+pub mod PinSlews
+pub mod LivePaths
+pub mod SlewLaws

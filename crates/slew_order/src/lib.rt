@@ -1,0 +1,32 @@
+//! The slews of a flat netlist: the load of each net and the Elmore sum of each sink, the arcs between nets, and the slew at each pin.
+#![tactic(auto)]
+
+mod arcs;
+mod at_corner;
+mod corners;
+mod delays;
+mod design;
+mod ends;
+mod flattening;
+mod laws;
+mod limits;
+mod lookups;
+mod net_delays;
+mod net_order;
+mod net_states;
+mod propagation;
+mod refusals;
+mod sinks;
+mod slews;
+mod wires;
+
+pub use arcs::ArcAt;
+pub use ends::{ArcList, SlewEnd};
+pub use laws::{
+    corners_agree, deep_slews_are_the_same, live_arcs_have_delays, lookups_are_a_function,
+    slews_are_one, worst_at_pins,
+};
+pub use lookups::{EdgeLookups, PartEnd};
+pub use net_delays::NetDelays;
+pub use propagation::propagate;
+pub use slews::Slews;

@@ -1,0 +1,130 @@
+//! The slews of a design, or why it has none.
+ghost use Rattle.std.specs.Prelude.{◌≡◌, ◌+◌, ◌*◌, ◌<◌, ◌≤◌, pos, ◌≤ℤ◌, unsigned_abs, length, IfOk, IfErr, OnOk};
+ghost use Rattle.netlist_link.specs.Linked.{IsLinked};
+ghost use Rattle.slew_states.specs.PinState.{most};
+ghost use Rattle.slew_order.specs.Cycles.{HasNoCycle};
+ghost use Rattle.slew_order.specs.NetStates.{AreNetStates, edges_in};
+ghost use Rattle.slew_order.specs.NetTimes.{Fits};
+ghost use Rattle.slew_order.specs.SinkPlaces.{ArePlaces};
+ghost use Rattle.slew_order.specs.Sinks.{ArePinStarts};
+ghost use Rattle.slew_order.specs.SlewEnds.{IsSlewEnd, NoRefusals, NoLimits};
+ghost use Rattle.slew_order.specs.Slews.{AreSlews};
+ghost use Rattle.slew_order.specs.Timings.{arcs_in, source_of};
+
+use crate::design::Design;
+use crate::ends::SlewEnd;
+use crate::flattening::drivers_of;
+use crate::limits::{first_limit, limit_end};
+use crate::net_delays::NetDelays;
+use crate::net_order::net_order;
+use crate::net_states::{NetStates, settle_corners};
+use crate::refusals::{first_refusal, refused_end};
+use crate::sinks::{PinSinks, pin_sinks};
+use crate::slews::Slews;
+use cell_models::CellSets;
+use corner_set::CornerSet;
+use delay_units::Atto;
+use edge_io::Steps;
+use netlist_link::Netlist;
+use nldm_lookup::Beyond;
+use std::alloc::Global;
+use std::sync::ledger::Ledger;
+use wire_slews::WireSlew;
+
+// The states of all nets at all corners, or a cycle.
+fn states_of<C: CornerSet, L: Ledger>(
+    alloc: Global,
+    design: &Design<'_, C>,
+    steps: &mut Steps<L>,
+) -> Result<Vec<NetStates>, SlewEnd>
+    ensures none { OnOk result (HasNoCycle design.now.netlist design.now.cells) }
+    ensures states { IfOk result (λ corners. AreNetStates design.now corners.items) }
+    ensures end { IfErr result (IsSlewEnd design.now) }
+    ensures steps { steps.new ≤ steps.old + 64 * (design.now.count * edges_in design.now) }
+{
+    let drivers = drivers_of(alloc, design.netlist())?;
+    let order = net_order(alloc, design)?;
+    let corners = settle_corners(alloc, design, &drivers, &order, steps)?;
+    Ok(corners)
+}
+
+// Asks whether a look-up is refused.
+fn ask_lookups<C: CornerSet, L: Ledger>(
+    design: &Design<'_, C>,
+    corners: &[NetStates],
+    steps: &mut Steps<L>,
+) -> Result<(), SlewEnd>
+    requires none { HasNoCycle design.now.netlist design.now.cells }
+    requires states { AreNetStates design.now corners.now }
+    ensures refusals { OnOk result (NoRefusals design.now (length (arcs_in design.now))) }
+    ensures end { IfErr result (IsSlewEnd design.now) }
+    ensures steps { steps.new ≤ steps.old + 64 * (design.now.count * edges_in design.now) }
+{
+    match first_refusal(design, corners, steps) {
+        Some(refusal) => Err(refused_end(design, refusal)),
+        None => Ok(()),
+    }
+}
+
+// Asks whether a slew is past the limit behind a wire.
+fn ask_limits<C: CornerSet>(design: &Design<'_, C>, corners: &[NetStates]) -> Result<(), SlewEnd>
+    requires none { HasNoCycle design.now.netlist design.now.cells }
+    requires refusals { NoRefusals design.now (length (arcs_in design.now)) }
+    requires states { AreNetStates design.now corners.now }
+    ensures limits { OnOk result (NoLimits design.now (length design.now.netlist.nets)) }
+    ensures end { IfErr result (IsSlewEnd design.now) }
+{
+    match first_limit(design, corners) {
+        Some(limit) => Err(limit_end(design, limit)),
+        None => Ok(()),
+    }
+}
+
+// The slews of a design, whose pins are these sinks.
+fn slews_of<C: CornerSet, L: Ledger>(
+    alloc: Global,
+    design: &Design<'_, C>,
+    pins: PinSinks,
+    steps: &mut Steps<L>,
+) -> Result<Slews<C>, SlewEnd>
+    requires starts { ArePinStarts design.now.netlist pins.starts.items }
+    requires places { ArePlaces design.now.netlist pins.starts.items pins.places.items }
+    ensures slews { IfOk result (AreSlews design.now) }
+    ensures end { IfErr result (IsSlewEnd design.now) }
+    ensures steps { steps.new ≤ steps.old + 128 * (design.now.count * edges_in design.now) }
+{
+    let corners = states_of(alloc, design, steps)?;
+    ask_lookups(design, &corners, steps)?;
+    ask_limits(design, &corners)?;
+    Ok(Slews::of(corners, pins, design.beyond(), design.mode(), design.slew()))
+}
+
+/// The slews of all pins of a netlist at both edges and all corners, or why there are none: a cycle, then a refused look-up, then a
+/// slew that is past 10^12 attoseconds behind a wire. The slew of the input ports is from 0 to 10^12 attoseconds.
+///
+/// Each edge of each arc is looked up at most four times at each corner: it takes at most 128 steps for each pair of an arc of an
+/// instance and an edge that it has, and each corner, whatever it answers.
+pub fn propagate<C: CornerSet, L: Ledger>(
+    alloc: Global,
+    netlist: &Netlist,
+    cells: &CellSets<C>,
+    nets: &NetDelays<C>,
+    input_slew: Atto,
+    beyond: Beyond,
+    mode: WireSlew,
+    steps: &mut Steps<L>,
+) -> Result<Slews<C>, SlewEnd>
+    requires linked { IsLinked cells.now netlist.now }
+    requires fits { Fits netlist.now nets.now }
+    requires not_negative { pos 0 ≤ℤ input_slew.0 }
+    requires small { input_slew.0 ≤ℤ pos most }
+    ensures slews { IfOk result (AreSlews (source_of netlist.now cells.now C.COUNT nets.now beyond mode (unsigned_abs input_slew.0))) }
+    ensures end { IfErr result (IsSlewEnd (source_of netlist.now cells.now C.COUNT nets.now beyond mode (unsigned_abs input_slew.0))) }
+    ensures steps { steps.new ≤ steps.old
+        + 128 * (C.COUNT * edges_in (source_of netlist.now cells.now C.COUNT nets.now beyond mode (unsigned_abs input_slew.0))) }
+{
+    let pins = pin_sinks(alloc, netlist)?;
+    let slew = input_slew.0.unsigned_abs();
+    let design = Design::new(alloc, netlist, cells, nets, &pins, beyond, mode, slew)?;
+    slews_of(alloc, &design, pins, steps)
+}

@@ -1,0 +1,178 @@
+//! The first look-up that is refused.
+ghost use Rattle.std.specs.Prelude.{◌≡◌, ◌+◌, ◌*◌, ◌<◌, ◌≤◌, if◌then◌else◌, length, IfSome, IfNone};
+ghost use Rattle.slew_states.specs.Arcs.{arc_at, has_edge};
+ghost use Rattle.slew_states.specs.PinState.{IsSmall, worst};
+ghost use Rattle.slew_order.specs.Cycles.{HasNoCycle};
+ghost use Rattle.slew_order.specs.NetStates.{AreNetStates, AreStatesAt, edges_in, net_state};
+ghost use Rattle.slew_order.specs.SlewEnds.{IsRefusal, IsFirstRefusal, NoRefusalAt, NoRefusalTo, NoRefusals, IsSlewEnd};
+ghost use Rattle.slew_order.specs.Timings.{arcs_in, flat_in, wire_at};
+
+use crate::at_corner::AtCorner;
+use crate::design::Design;
+use crate::ends::SlewEnd;
+use crate::lookups::PartEnd;
+use crate::net_states::NetStates;
+use cell_models::Edge;
+use corner_set::CornerSet;
+use edge_io::Steps;
+use nldm_lookup::LookupEnd;
+use slew_states::{EdgeStates, FlatArc, PinState, worst_input};
+use std::sync::ledger::Ledger;
+
+/// A look-up that is refused, by the numbers of its arc and its corner.
+#[derive(Clone, Copy)]
+pub(crate) struct Refusal {
+    pub(crate) arc: usize,
+    pub(crate) edge: Edge,
+    pub(crate) corner: usize,
+    pub(crate) end: PartEnd,
+}
+
+// Whether the output pin has an edge by this arc.
+fn has_edge(arc: &FlatArc, edge: Edge) -> bool
+    ensures { result ≡ has_edge arc.now edge }
+{
+    match edge {
+        Edge::Rise => arc.rise,
+        Edge::Fall => arc.fall,
+    }
+}
+
+/// Known with the worst input slew of an arc at an edge of its output and a corner.
+pub(crate) fn worst_at<C: CornerSet>(
+    design: &Design<'_, C>,
+    arc: usize,
+    edge: Edge,
+    number: usize,
+    states: &[EdgeStates],
+) -> PinState
+    requires arc { arc < length (arcs_in design.now) }
+    requires corner { number < design.now.count }
+    requires states { AreStatesAt design.now number states.now }
+    ensures value { result ≡ worst (wire_at design.now number) (net_state design.now number) arc (arc_at (flat_in design.now) arc) edge }
+    ensures small { IsSmall result }
+{
+    let flat = design.flat();
+    let timing = AtCorner {
+        design,
+        corner: design.corner(number),
+    };
+    worst_input(&timing, arc, &flat[arc], edge, states)
+}
+
+// The look-up of an edge of an arc that is refused at a corner.
+fn refusal_at<C: CornerSet, L: Ledger>(
+    design: &Design<'_, C>,
+    arc: usize,
+    edge: Edge,
+    number: usize,
+    states: &[EdgeStates],
+    steps: &mut Steps<L>,
+) -> Option<PartEnd>
+    requires arc { arc < length (arcs_in design.now) }
+    requires corner { number < design.now.count }
+    requires states { AreStatesAt design.now number states.now }
+    ensures refused { IfSome result (IsRefusal design.now arc edge number) }
+    ensures none { IfNone result (NoRefusalAt design.now arc edge number) }
+    ensures steps { steps.new ≤ steps.old + 64 * (if has_edge (arc_at (flat_in design.now) arc) edge then 1 else 0) }
+{
+    if !has_edge(&design.flat()[arc], edge) {
+        return None;
+    }
+    let PinState::Known(slew) = worst_at(design, arc, edge, number, states) else {
+        return None;
+    };
+    let looked = design.lookups(arc, edge, slew, design.corner(number), steps)?;
+    looked.refused()
+}
+
+// A look-up that is refused, by the number of its corner.
+#[derive(Clone, Copy)]
+struct CornerEnd {
+    corner: usize,
+    end: PartEnd,
+}
+
+// The first look-up of an edge of an arc that is refused, by corner.
+fn refusal_of_edge<C: CornerSet, L: Ledger>(
+    design: &Design<'_, C>,
+    arc: usize,
+    edge: Edge,
+    corners: &[NetStates],
+    steps: &mut Steps<L>,
+) -> Option<CornerEnd>
+    requires arc { arc < length (arcs_in design.now) }
+    requires states { AreNetStates design.now corners.now }
+    ensures refused { IfSome result (λ at. IsRefusal design.now arc edge at.corner at.end) }
+    ensures earlier { IfSome result (λ at. NoRefusalTo design.now arc edge at.corner) }
+    ensures none { IfNone result (NoRefusalTo design.now arc edge design.now.count) }
+    ensures steps { steps.new ≤ steps.old + 64 * (design.now.count * (if has_edge (arc_at (flat_in design.now) arc) edge then 1 else 0)) }
+{
+    for number in 0..design.corner_count() {
+        let states = corners[number].as_slice();
+        if let Some(end) = refusal_at(design, arc, edge, number, states, steps) {
+            return Some(CornerEnd {
+                corner: number,
+                end,
+            });
+        }
+    }
+    None
+}
+
+/// The first look-up that is refused, by arc, edge (rise first) and corner. It takes at most 64 steps for each corner and each pair of
+/// an arc and an edge that it has.
+pub(crate) fn first_refusal<C: CornerSet, L: Ledger>(
+    design: &Design<'_, C>,
+    corners: &[NetStates],
+    steps: &mut Steps<L>,
+) -> Option<Refusal>
+    requires states { AreNetStates design.now corners.now }
+    ensures first { IfSome result (λ refusal. IsFirstRefusal design.now refusal.arc refusal.edge refusal.corner refusal.end) }
+    ensures none { IfNone result (NoRefusals design.now (length (arcs_in design.now))) }
+    ensures steps { steps.new ≤ steps.old + 64 * (design.now.count * edges_in design.now) }
+{
+    for arc in 0..design.arcs().len() {
+        if let Some(at) = refusal_of_edge(design, arc, Edge::Rise, corners, steps) {
+            return Some(Refusal {
+                arc,
+                edge: Edge::Rise,
+                corner: at.corner,
+                end: at.end,
+            });
+        }
+        if let Some(at) = refusal_of_edge(design, arc, Edge::Fall, corners, steps) {
+            return Some(Refusal {
+                arc,
+                edge: Edge::Fall,
+                corner: at.corner,
+                end: at.end,
+            });
+        }
+    }
+    None
+}
+
+/// The end of a design by its first look-up that is refused.
+pub(crate) fn refused_end<C: CornerSet>(design: &Design<'_, C>, refusal: Refusal) -> SlewEnd
+    requires none { HasNoCycle design.now.netlist design.now.cells }
+    requires first { IsFirstRefusal design.now refusal.arc refusal.edge refusal.corner refusal.end }
+    ensures { IsSlewEnd design.now result }
+{
+    let at = design.arcs()[refusal.arc];
+    match refusal.end.end {
+        LookupEnd::Outside(outside) => SlewEnd::Outside {
+            at,
+            edge: refusal.edge,
+            corner: refusal.corner,
+            part: refusal.end.part,
+            outside,
+        },
+        LookupEnd::PastTime => SlewEnd::PastTime {
+            at,
+            edge: refusal.edge,
+            corner: refusal.corner,
+            part: refusal.end.part,
+        },
+    }
+}

@@ -1,0 +1,139 @@
+//! The slews of a design.
+
+ghost use Rattle.std.specs.Prelude.{◌≡◌, ◌<◌, length};
+ghost use Rattle.netlist_link.specs.FlatNetlist.{instance_at};
+ghost use Rattle.slew_states.specs.PinState.{IsSmall};
+ghost use Rattle.slew_states.specs.Settled.{states_in};
+ghost use Rattle.slew_order.specs.FlatArcs.{net_on};
+ghost use Rattle.slew_order.specs.NetStates.{states_at};
+ghost use Rattle.slew_order.specs.NetTimes.{Fits};
+ghost use Rattle.slew_order.specs.PinSlews.{IsSlewOf, state_of_pin};
+ghost use Rattle.slew_order.specs.Slews.{AreTablesOf, tables_of};
+
+use crate::net_delays::NetDelays;
+use crate::net_states::NetStates;
+use crate::sinks::{PinSinks, is_driver};
+use crate::wires::state_behind;
+use cell_models::Edge;
+use corner_set::CornerSet;
+use delay_units::Atto;
+use netlist_link::Netlist;
+use nldm_lookup::Beyond;
+use slew_states::PinState;
+use std::marker::{Model, PhantomData};
+use wire_slews::WireSlew;
+
+/// The slews of a design at all edges and corners. Contracts see the states of its nets, which sink of its net each pin is, what a look-up
+/// does past an axis, what a wire does to a slew, and the slew of the input ports in attoseconds.
+#[derive(Drop)]
+pub struct Slews<C: CornerSet> {
+    corners: Vec<NetStates>,
+    pins: PinSinks,
+    beyond: Beyond,
+    mode: WireSlew,
+    slew: u64,
+    set: PhantomData<C>,
+}
+
+impl<C: CornerSet> Model for Slews<C> {
+    ghost use Rattle.slew_order.specs.Slews.{SlewTables, tables_of};
+
+    ghost Value = { SlewTables };
+
+    ghost view = { λ s. tables_of s.corners.items s.pins.starts.items s.pins.places.items s.beyond s.mode s.slew };
+}
+
+impl<C: CornerSet> Slews<C> {
+    /// The slews of these states of nets and places of pins.
+    pub(crate) fn of(
+        corners: Vec<NetStates>,
+        pins: PinSinks,
+        beyond: Beyond,
+        mode: WireSlew,
+        slew: u64,
+    ) -> Slews<C>
+        ensures { result ≡ tables_of corners.items pins.starts.items pins.places.items beyond mode slew }
+    {
+        Slews {
+            corners,
+            pins,
+            beyond,
+            mode,
+            slew,
+            set: PhantomData,
+        }
+    }
+
+    // What a look-up does past an axis.
+    pub(crate) fn beyond(&self) -> Beyond
+        ensures { result ≡ self.now.beyond }
+    {
+        self.beyond
+    }
+
+    /// The state of a pin of an instance, at an edge and a corner.
+    pub(crate) fn state(
+        &self,
+        netlist: &Netlist,
+        nets: &NetDelays<C>,
+        instance: usize,
+        pin: usize,
+        edge: Edge,
+        corner: C::Index,
+    ) -> PinState
+        requires tables { AreTablesOf netlist.now C.COUNT self.now }
+        requires fits { Fits netlist.now nets.now }
+        requires instance { instance < length netlist.now.instances }
+        requires pin { pin < length (instance_at netlist.now instance).nets }
+        ensures value { result ≡ state_of_pin netlist.now C.COUNT nets.now self.now.mode (C.number_of corner)
+            (states_in (states_at self.now.corners (C.number_of corner))) instance pin edge }
+        ensures small { IsSmall result }
+    {
+        let Some(net) = netlist.net_of(instance, pin) else {
+            return PinState::Absent;
+        };
+        let state = self.net_state(netlist, net, edge, corner);
+        if is_driver(netlist.driver(net), instance, pin) {
+            return state;
+        }
+        match self.pins.sink_of(netlist, instance, pin, net) {
+            Some(sink) => state_behind(self.mode, nets.elmore(net, sink, corner), state),
+            None => PinState::Absent,
+        }
+    }
+
+    // The state of a net, at an edge and a corner.
+    fn net_state(&self, netlist: &Netlist, net: usize, edge: Edge, corner: C::Index) -> PinState
+        requires tables { AreTablesOf netlist.now C.COUNT self.now }
+        requires net { net < length netlist.now.nets }
+        ensures value { result ≡ states_in (states_at self.now.corners (C.number_of corner)) net edge }
+        ensures small { IsSmall result }
+    {
+        let states = self.corners[C::number(corner)].as_slice();
+        states[net].at(edge)
+    }
+
+    /// The slew at a pin of an instance, at an edge and a corner, in attoseconds, for the netlist and the loads and Elmore sums that the
+    /// slews are of. None where no edge comes to the pin.
+    pub fn at(
+        &self,
+        netlist: &Netlist,
+        nets: &NetDelays<C>,
+        instance: usize,
+        pin: usize,
+        edge: Edge,
+        corner: C::Index,
+    ) -> Option<Atto>
+        requires tables { AreTablesOf netlist.now C.COUNT self.now }
+        requires fits { Fits netlist.now nets.now }
+        requires instance { instance < length netlist.now.instances }
+        requires pin { pin < length (instance_at netlist.now instance).nets }
+        ensures { IsSlewOf (state_of_pin netlist.now C.COUNT nets.now self.now.mode (C.number_of corner)
+            (states_in (states_at self.now.corners (C.number_of corner))) instance pin edge) result }
+    {
+        match self.state(netlist, nets, instance, pin, edge, corner) {
+            PinState::Known(slew) => Some(Atto(slew as i64)),
+            _ => None,
+        }
+    }
+}
