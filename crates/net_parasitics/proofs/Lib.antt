@@ -1,0 +1,11 @@
+pub mod Lists
+pub mod EndLists
+pub mod CellPins
+pub mod NodeNames
+pub mod NetPins
+pub mod MissingNets
+pub mod NetPuts
+pub mod TreeTimes
+pub mod AllNets
+pub mod OneAnswer
+pub mod NamedApart

@@ -1,0 +1,34 @@
+-- Answers that are the same, but for what may be told freely.
+use Rattle.std.specs.Prelude.{◌≡◌, ℕ, ◌<◌, length, ⊤}
+use Rattle.netlist_link.specs.FlatNetlist.{net_at}
+use Rattle.rc_tree.specs.Nodes.{node_of}
+use Rattle.rc_tree.specs.declared.ends.TreeEnd.{TreeEnd}
+use Rattle.rc_tree.specs.declared.ends.TreeEnd.TheVariants as tree
+use Rattle.slew_order.specs.NetTimes.{NetTimes, load_at, elmore_at}
+use Rattle.net_parasitics.specs.Inputs.{Inputs}
+use Rattle.net_parasitics.specs.declared.ends.ParasiticsEnd.{ParasiticsEnd}
+use Rattle.net_parasitics.specs.declared.ends.ParasiticsEnd.TheVariants.{MissingNet, Tree, OutOfMemory}
+
+-- the same end of a tree: an unreached node however it is written, and a mesh by whichever resistor
+abbrev pub IsSameTreeEnd : TreeEnd → TreeEnd → Type 0
+IsSameTreeEnd (tree.StrangePin one) (tree.StrangePin other) = one ≡ other
+IsSameTreeEnd tree.TooLarge tree.TooLarge = ⊤
+IsSameTreeEnd (tree.Unreached one) (tree.Unreached other) = node_of one ≡ node_of other
+IsSameTreeEnd (tree.Mesh one) (tree.Mesh other) = ⊤
+IsSameTreeEnd _ _ = ⊥
+
+-- the same end, but for where memory is short
+abbrev pub IsSameEnd : ParasiticsEnd → ParasiticsEnd → Type 0
+IsSameEnd OutOfMemory other = ⊤
+IsSameEnd (MissingNet one) OutOfMemory = ⊤
+IsSameEnd (Tree net end) OutOfMemory = ⊤
+IsSameEnd (MissingNet one) (MissingNet other) = one ≡ other
+IsSameEnd (Tree one some) (Tree other more) = (one ≡ other) × IsSameTreeEnd some more
+IsSameEnd _ _ = ⊥
+
+-- the same load at each net, and the same Elmore sum at each sink
+pub record AreSameTimes (inputs : Inputs) (one other : NetTimes) : Type 0 where
+  pub loads : (net corner : ℕ) → net < length inputs.netlist.nets → corner < inputs.count
+      → load_at inputs.count one net corner ≡ load_at inputs.count other net corner
+  pub elmores : (net sink corner : ℕ) → net < length inputs.netlist.nets → sink < length (net_at inputs.netlist net).sinks
+      → corner < inputs.count → elmore_at inputs.count one net sink corner ≡ elmore_at inputs.count other net sink corner

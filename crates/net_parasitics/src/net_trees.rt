@@ -1,0 +1,85 @@
+//! The trees of nets, built one after another in the same lists.
+ghost use Rattle.std.specs.Prelude.{◌≡◌, ◌+◌, ◌*◌, ◌<◌, ◌≤◌, ℕ, length, IfOk, IfErr, OnOk};
+ghost use Rattle.netlist_link.specs.FlatNetlist.{net_at};
+ghost use Rattle.rc_tree.specs.Arenas.{node_count};
+ghost use Rattle.rc_tree.specs.Builds.{IsTreeEnd, IsTreeOf};
+ghost use Rattle.net_parasitics.specs.NetPins.{end_name, net_pins};
+ghost use Rattle.net_parasitics.specs.NetTrees.{IsWired};
+ghost use Rattle.net_parasitics.specs.NetSteps.{AreSums};
+
+use crate::inputs::NetInputs;
+use corner_set::{CornerSet, Grid};
+use delay_units::Farads;
+use edge_io::{OutOfMemory, Steps};
+use elmore_pass::elmore_into;
+use name_table::NodeName;
+use netlist_link::End;
+use rc_tree::{RcTree, Scratch, TreeEnd, Workspace};
+use spef_nets::Net;
+use std::alloc::Global;
+use std::marker::Model;
+use std::sync::ledger::Ledger;
+
+/// The tree of a net with its Elmore sums, and the lists that serve net after net. Contracts see the tree and the sums.
+#[derive(Drop)]
+pub struct TreeWork<C: CornerSet> {
+    pub tree: RcTree<C>,
+    pub sums: Scratch<C>,
+    workspace: Workspace,
+    // the loads of one sink
+    row: Grid<C, Farads>,
+    // the names of the sinks of one net
+    names: Vec<NodeName>,
+}
+
+impl<C: CornerSet> Model for TreeWork<C> {
+    ghost use Rattle.std.specs.Prelude.{◌≡◌, length};
+    ghost use Rattle.net_parasitics.specs.NetSteps.{DrawnTree};
+
+    ghost Value = { DrawnTree };
+
+    ghost view = { λ w. record { tree = w.tree; sums = w.sums } };
+
+    ghost invariant = { λ w. length w.row.values ≡ C.COUNT };
+}
+
+impl<C: CornerSet> TreeWork<C> {
+    /// No tree yet.
+    pub fn new(alloc: Global) -> Result<TreeWork<C>, OutOfMemory> {
+        Ok(TreeWork {
+            tree: RcTree::new(alloc)?,
+            sums: Scratch::reserve(alloc, 0)?,
+            workspace: Workspace::new(alloc),
+            row: Grid::with_rows(alloc, 1, Farads(0))?,
+            names: Vec::new(alloc),
+        })
+    }
+
+    /// Draws the tree of a net from its section, and takes its Elmore sums.
+    pub fn draw<L: Ledger>(
+        &mut self,
+        alloc: Global,
+        inputs: &NetInputs<'_, '_, '_, C>,
+        net: usize,
+        driver: End,
+        section: &Net<C>,
+        steps: &mut Steps<L>,
+    ) -> Result<(), TreeEnd>
+        requires { IsWired inputs.now.netlist net driver }
+        ensures tree { OnOk result (IsTreeOf C.COUNT section.now (net_pins inputs.now net driver) self.new.tree) }
+        ensures sums { OnOk result ((corner : ℕ) → corner < C.COUNT → AreSums C.COUNT self.new.tree self.new.sums corner) }
+        ensures room { OnOk result (node_count self.new.tree * C.COUNT ≤ length self.new.sums) }
+        ensures refused { IfErr result (IsTreeEnd C.COUNT section.now (net_pins inputs.now net driver)) }
+        ensures steps { steps.new ≤ steps.old + length section.now.joints + C.COUNT * (length section.now.joints + length section.now.caps)
+            + 12 * C.COUNT * (length section.now.joints + 1) }
+    {
+        let name = inputs.driver_name(alloc, net, driver)?;
+        inputs.put_names(alloc, net, &mut self.names)?;
+        let pins = inputs.pins(alloc, net, driver, &name, &self.names, &mut self.row)?;
+        self.tree
+            .rebuild(alloc, &mut self.workspace, section, &pins, steps)?;
+        self.sums.make_room(alloc, self.tree.len())?;
+        elmore_into(&self.tree, &mut self.sums, steps);
+        Ok(())
+    }
+}
