@@ -54,6 +54,24 @@ pub trait CornerSet: Drop {
     ghost no_more: { (number : ℕ) → COUNT ≤ number → corner_of number ≡ None };
 }
 
+/// The corner of a number.
+pub fn corner_at<C: CornerSet>(number: usize) -> C::Index
+    requires { number < C.COUNT }
+    ensures { C.number_of result ≡ number }
+{
+    match C::nth(number) {
+        Some(corner) => corner,
+        None => unreachable!(),
+    }
+}
+
+/// The first corner, which every corner set has.
+pub fn first_corner<C: CornerSet>() -> C::Index
+    ensures { C.number_of result ≡ 0 }
+{
+    corner_at::<C>(0)
+}
+
 /// One corner alone, which takes of a triple the member that was picked.
 #[derive(Clone, Copy, Debug, PartialEq, Eq)]
 pub struct Single;

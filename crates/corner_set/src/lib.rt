@@ -8,7 +8,7 @@ mod grid;
 mod pick;
 mod triple;
 
-pub use corner::{CornerSet, Single};
+pub use corner::{CornerSet, Single, corner_at, first_corner};
 pub use grid::Grid;
 pub use pick::Pick;
 pub use triple::Triple;

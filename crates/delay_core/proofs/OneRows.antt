@@ -21,7 +21,7 @@ use Rattle.rc_tree.specs.ListedPins.{listed_pins, without, conn_name, no_conn, n
 use Rattle.rc_tree.specs.SectionNets.{net_elements}
 use Rattle.rc_tree.specs.Builds.{names, IsFit}
 use Rattle.rc_tree.proofs.ElmoreSums.{one_elmore}
-use Rattle.rc_tree.proofs.NetShapes.{one_shape}
+use Rattle.rc_tree.proofs.NetShapes.{first_without, one_shape, one_unreached}
 use Rattle.delay_core.specs.AnnotationRows.{Wire, IsWireDelay, IsAnnotationRow}
 use Rattle.delay_core.specs.SpefPhases.{DesignNets}
 use Rattle.delay_core.specs.WireNets.{drives, wires_of, HasDriver, IsNoTree, too_large, unreached, mesh, NetGives, no_driver, many_drivers, no_tree, is_tree, NetsGive, no_net, and_net, refused, RowsOf}
@@ -92,17 +92,6 @@ one_driver net one other r s =
     one_place drives net.conns one other r.driver s.driver r.driver r.stands s.stands (passes drives net.conns r.driver [] r.sole) (passes drives net.conns s.driver [] s.sole) r.sole
 
 -- ---- the shape of a net
-
--- the first element without a property is one
-pub first_without : {X : Type 0} (P : X → Type 0) (front back left right : List X) (x y : X) → front ++ x ∷ back ≡ left ++ y ∷ right → AllByRecursion P front → AllByRecursion P left → (P x → ⊥) → (P y → ⊥) → x ≡ y
-first_without P [] back [] right x y e p q f g = cc
-first_without P [] back (z ∷ left) right x y e p q f g = let same : z ≡ x = cc in absurd (f (subst P same q.0))
-first_without P (z ∷ front) back [] right x y e p q f g = let same : z ≡ y = cc in absurd (g (subst P same p.0))
-first_without P (z ∷ front) back (w ∷ left) right x y e p q f g = let rest : front ++ x ∷ back ≡ left ++ y ∷ right = cc in first_without P front back left right x y rest p.1 q.1 f g
-
-one_unreached : (net : TreeElements Node) (one other : Node) → IsUnreached net one → IsUnreached net other → one ≡ other
-one_unreached net one other r s =
-    first_without (Reached net) r.0 r.1 s.0 s.1 one other (sym r.2 ∙ s.2) (recursion_from_All (Reached net) r.0 r.3) (recursion_from_All (Reached net) s.0 s.3) r.4 s.4
 
 -- the names of listed pins are those of the section's nodes
 module _ (net : NetElements) (whole : AreWhole 1 net) (driver : ℕ) (has : HasDriver net driver) where

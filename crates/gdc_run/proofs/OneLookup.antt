@@ -39,7 +39,7 @@ use Rattle.delay_core.specs.LibraryPhases.{ParsesLibrary, ModelsCell, has_model}
 use Rattle.gdc_run.specs.Verdict.{ReadsLib, ReadsArcs, at_library, at_cell, of_cell, LookupGives, at_library_reading, at_arcs, with_arc_rows}
 use Rattle.gdc_run.specs.OneVerdict.{IsDecided, SameStep, HasOneAnswer}
 use Rattle.delay_core.proofs.OneLibrary.{one_library_lem, one_cell_lem}
-use Rattle.delay_core.proofs.OneRows.{first_without}
+use Rattle.rc_tree.proofs.NetShapes.{first_without}
 use Rattle.gdc_run.proofs.OneText.{stops_alike, reads_or_stops, reads_alike}
 use Rattle.delay_core.proofs.Places.{some_is}
 

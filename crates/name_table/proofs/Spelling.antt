@@ -150,14 +150,14 @@ settled_as (Ok answer) text made is from stays = ap (canonical slash) (is ∙ fr
 settled_as (Err error) text made is from stays = tt
 
 -- a name that is escaped is a part
-spelled_is_letter : (byte : ℕ) → IsLetter (spelled byte)
+pub spelled_is_letter : (byte : ℕ) → IsLetter (spelled byte)
 spelled_is_letter byte = by (is_plain byte) refl
   where
     by : (is : Bool) → is_plain byte ≡ is → IsLetter (if is then byte ∷ [] else backslash ∷ byte ∷ [])
     by true is = plain is
     by false is_not = taken is_not
 
-part_is_part : (name : List ℕ) → name ≢ [] → IsPart (part name)
+pub part_is_part : (name : List ℕ) → name ≢ [] → IsPart (part name)
 part_is_part [] some = absurd (some refl)
 part_is_part (byte ∷ []) some = subst IsPart (sym (append-nil (spelled byte))) (piece (alone (spelled_is_letter byte)))
 part_is_part (byte ∷ next ∷ rest) some = pieces (alone (spelled_is_letter byte)) (part_is_part (next ∷ rest) (λ none. cc))

@@ -72,6 +72,13 @@ impl Names {
         Some(NameId(place as u32))
     }
 
+    /// No two texts are the same. It does nothing when it is called.
+    pub fn distinct(&self)
+        ensures { AreDistinct self.now }
+    {
+        let _ = &self.texts;
+    }
+
     /// The text of a number, which is below `len`.
     pub fn text(&self, id: NameId) -> &[u8]
         requires held { id.0 < length self.now }

@@ -1,9 +1,7 @@
 -- The nets of a netlist have one answer.
 use Rattle.std.proofs.Common.{◌≡◌, ◌≢◌, ℕ, ◌<◌, List, [], ◌∷◌, ◌++◌, length, slice_get, Some, refl, sym, ap, subst, ◌∙◌, arith, inl, inr}
 use Rattle.std.specs.Prelude.{Contains, option_map}
-use Rattle.std.specs.List.{AllByRecursion}
 use Rattle.std.proofs.lemmas.Bool.{cases_lt, cases_eq}
-use Rattle.std.proofs.lemmas.List.Elements.{recursion_from_All}
 use Rattle.std.proofs.lemmas.Option.{slice_get_within, get_or_from_slice_get, slice_get-map, same_Some}
 use Rattle.cell_models.proofs.CornerLemmas.{at_place}
 use Rattle.name_table.specs.Names.{AreDistinct}
@@ -18,11 +16,10 @@ use Rattle.rc_tree.specs.Nodes.{Node, node_of}
 use Rattle.rc_tree.specs.Pins.{pin_nodes}
 use Rattle.rc_tree.specs.RcTree.{IsUnreached}
 use Rattle.rc_tree.specs.SectionNets.{AreListed, IsListed, IsFirstStrange}
-use Rattle.rc_tree.specs.Walk.{Reached}
 use Rattle.rc_tree.specs.declared.ends.TreeEnd.{TreeEnd}
 use Rattle.rc_tree.specs.declared.ends.TreeEnd.TheVariants as tree
 use Rattle.rc_tree.proofs.ElmoreSums.{one_elmore}
-use Rattle.rc_tree.proofs.NetShapes.{one_shape}
+use Rattle.rc_tree.proofs.NetShapes.{one_shape, one_unreached}
 use Rattle.slew_order.specs.NetTimes.{NetTimes, load_at, elmore_at}
 use Rattle.net_parasitics.specs.Inputs.{Inputs}
 use Rattle.net_parasitics.specs.NetPins.{net_pins}
@@ -108,17 +105,6 @@ one_strange section nodes one other some more = elim (cases_eq some.place more.p
     | inr past ↦ absurd (not_before section nodes other one more some (omega (arith, past, differ)))
   ]
 ]
-
--- the first element without a property is one
-first_without : {X : Type 0} (P : X → Type 0) (front back left right : List X) (x y : X) → front ++ x ∷ back ≡ left ++ y ∷ right → AllByRecursion P front → AllByRecursion P left → (P x → ⊥) → (P y → ⊥) → x ≡ y
-first_without P [] back [] right x y e p q f g = cc
-first_without P [] back (z ∷ left) right x y e p q f g = let same : z ≡ x = cc in absurd (f (subst P same q.0))
-first_without P (z ∷ front) back [] right x y e p q f g = let same : z ≡ y = cc in absurd (g (subst P same p.0))
-first_without P (z ∷ front) back (w ∷ left) right x y e p q f g = let rest : front ++ x ∷ back ≡ left ++ y ∷ right = cc in first_without P front back left right x y rest p.1 q.1 f g
-
-one_unreached : (net : NetElements Node) (one other : Node) → IsUnreached net one → IsUnreached net other → one ≡ other
-one_unreached net one other r s =
-    first_without (Reached net) r.0 r.1 s.0 s.1 one other (sym r.2 ∙ s.2) (recursion_from_All (Reached net) r.0 r.3) (recursion_from_All (Reached net) s.0 s.3) r.4 s.4
 
 module _ (inputs : Inputs) (some : 0 < inputs.count) (net : ℕ) (driver : End) (section : SectionElements) where
   -- a net that is a tree has no end

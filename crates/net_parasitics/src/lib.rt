@@ -9,7 +9,6 @@
 //! node of a section is cut into head and tail at its last unescaped delimiter, and both are texts in the same sense.
 #![tactic(auto)]
 
-mod corners;
 mod ends;
 mod inputs;
 mod laws;

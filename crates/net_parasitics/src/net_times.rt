@@ -6,9 +6,8 @@ ghost use Rattle.elmore_pass.specs.Delays.{HasDelay};
 ghost use Rattle.slew_order.specs.NetTimes.{HasNet, HasSink};
 ghost use Rattle.net_parasitics.specs.NetSteps.{AreSums, HasTreeTimes, KeepsOtherCorners, KeepsOtherNets, HasOwnLoad};
 
-use crate::corners::corner_at;
 use crate::inputs::NetInputs;
-use corner_set::CornerSet;
+use corner_set::{CornerSet, corner_at};
 use edge_io::Steps;
 use rc_tree::{RcTree, Scratch};
 use slew_order::NetDelays;

@@ -6,10 +6,9 @@ ghost use Rattle.name_table.specs.SdfNames.{part};
 ghost use Rattle.netlist_link.specs.declared.ends.End.TheVariants as end;
 ghost use Rattle.net_parasitics.specs.NetPins.{IsEnd, PinsDiffer, pin_at, end_name};
 
-use crate::corners::first_corner;
 use crate::inputs::NetInputs;
 use cell_models::Pin;
-use corner_set::CornerSet;
+use corner_set::{CornerSet, first_corner};
 use edge_io::{OutOfMemory, Text};
 use name_table::{NodeName, escape_sdf};
 use netlist_link::End;

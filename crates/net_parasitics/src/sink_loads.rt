@@ -5,9 +5,8 @@ ghost use Rattle.netlist_link.specs.FlatNetlist.{net_at};
 ghost use Rattle.rc_tree.specs.Arenas.{most_elements};
 ghost use Rattle.net_parasitics.specs.NetPins.{IsEnd, end_load, end_loads};
 
-use crate::corners::corner_at;
 use crate::inputs::NetInputs;
-use corner_set::{CornerSet, Grid};
+use corner_set::{CornerSet, Grid, corner_at};
 use delay_units::Farads;
 use netlist_link::End;
 

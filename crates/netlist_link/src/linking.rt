@@ -15,7 +15,7 @@ use crate::design_tables::tables_of;
 use crate::ends::LinkEnd;
 use crate::netlist::Netlist;
 use cell_models::CellSets;
-use corner_set::CornerSet;
+use corner_set::{CornerSet, first_corner};
 use edge_io::Text;
 use std::alloc::Global;
 use verilog_netlist::Modules;
@@ -62,16 +62,6 @@ fn link<C: CornerSet>(
         pins: tables.pins.as_slice(),
     };
     link_design(alloc, &design)
-}
-
-// The first corner, which every corner set has.
-fn first_corner<C: CornerSet>() -> C::Index
-    ensures { C.number_of result ≡ 0 }
-{
-    match C::nth(0) {
-        Some(corner) => corner,
-        None => unreachable!(),
-    }
 }
 
 /// The flat netlist of the design of a top module, over the cells that it uses.

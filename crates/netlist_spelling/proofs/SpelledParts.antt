@@ -1,20 +1,14 @@
 -- A name that has a byte is a part of a path as SDF spells it, also with the index of a bit behind it.
-use Rattle.std.proofs.Common.{◌≡◌, ◌≢◌, ℕ, Bool, true, false, List, [], ◌∷◌, ◌++◌, if◌then◌else◌, Option, Some, None, refl, sym, ap, ◌∙◌, subst, append_assoc}
+use Rattle.std.proofs.Common.{◌≡◌, ◌≢◌, ℕ, List, [], ◌∷◌, ◌++◌, Option, Some, None, refl, sym, ap, ◌∙◌, subst, append_assoc}
 use Rattle.std.specs.Prelude.{decimal}
 use Rattle.std.proofs.lemmas.List.{append-nil}
 use Rattle.edge_io.specs.Bytes.{left_bracket, backslash, right_bracket}
-use Rattle.name_table.specs.SdfNames.{is_plain, spelled, part}
+use Rattle.name_table.specs.SdfNames.{spelled, part}
 use Rattle.verilog_netlist.specs.declared.entries.Range.{Range}
 use Rattle.netlist_link.specs.FlatNames.{index_at, bit_suffix}
-use Rattle.name_table.specs.WellSpelled.{IsLetter, plain, taken, alone, with_bit, IsPart, piece, pieces}
+use Rattle.name_table.specs.WellSpelled.{alone, with_bit, IsPart, piece, pieces}
+use Rattle.name_table.proofs.Spelling.{spelled_is_letter}
 use Rattle.netlist_spelling.proofs.NumberDigits.{IsNumber, decimal_is_number}
-
-spelled_is_letter : (byte : ℕ) → IsLetter (spelled byte)
-spelled_is_letter byte = by (is_plain byte) refl
-  where
-    by : (is : Bool) → is_plain byte ≡ is → IsLetter (if is then byte ∷ [] else backslash ∷ byte ∷ [])
-    by true is = plain is
-    by false is_not = taken is_not
 
 -- the last letter of a name, with the index of a bit where its net is a vector
 letter_is_part : (byte : ℕ) (range : Option Range) (bit : ℕ) → IsPart (spelled byte ++ bit_suffix range bit)
@@ -34,6 +28,3 @@ name_is_part (byte ∷ []) some range bit =
 name_is_part (byte ∷ next ∷ rest) some range bit =
     subst IsPart (sym (append_assoc (spelled byte) (part (next ∷ rest)) (bit_suffix range bit)))
     (pieces (alone (spelled_is_letter byte)) (name_is_part (next ∷ rest) (λ none. cc) range bit))
-
-pub whole_name_is_part : (name : List ℕ) → name ≢ [] → IsPart (part name)
-whole_name_is_part name some = subst IsPart (append-nil (part name)) (name_is_part name some None 0)

@@ -22,7 +22,8 @@ use Rattle.netlist_link.specs.FlatNetlist.{FlatInstance, FlatPort, FlatNetlist}
 use Rattle.netlist_link.specs.FlatDesigns.{IsFlatDesign}
 use Rattle.netlist_link.specs.Links.{AreInstances, ArePorts}
 use Rattle.netlist_spelling.specs.SpelledNetlists.{AreWellSpelled, AreNetsWellSpelled}
-use Rattle.netlist_spelling.proofs.SpelledParts.{name_is_part, whole_name_is_part}
+use Rattle.name_table.proofs.Spelling.{part_is_part}
+use Rattle.netlist_spelling.proofs.SpelledParts.{name_is_part}
 use Rattle.netlist_spelling.proofs.NamedModules.{HasNames, modules_named, instance_named, name_named}
 
 -- what holds of each item of lists that are joined
@@ -60,7 +61,7 @@ module _ (modules : List NetModule) (top : ℕ) (named : All HasNames modules) w
       subst IsWellSpelled
       (sym (append_assoc (front ++ part name) (slash ∷ []) last ∙ append_assoc front (part name) (slash ∷ last)))
       (behind_path outer (part name ++ slash ∷ last) is.0
-      (parts (whole_name_is_part name (instance_named modules named m k is.1.0)) spelled))
+      (parts (part_is_part name (instance_named modules named m k is.1.0)) spelled))
 
   abbrev IsSpelled : NetBit → Type 0
   IsSpelled net = IsWellSpelled (net_sdf modules top net)
@@ -101,7 +102,7 @@ module _ (modules : List NetModule) (top : ℕ) (named : All HasNames modules) w
   instance_spelled met stands =
       let name : List ℕ = (met_instance modules top met).name in
       behind_path met.path (part name) stands.path
-      (one_part (whole_name_is_part name (instance_named modules named (module_on modules top met.path) met.instance stands.within)))
+      (one_part (part_is_part name (instance_named modules named (module_on modules top met.path) met.instance stands.within)))
 
   abbrev IsInstanceSpelled : Met → Type 0
   IsInstanceSpelled met = IsWellSpelled (instance_sdf modules top met)

@@ -1,6 +1,7 @@
 -- A net is not of two shapes.
-use Rattle.std.proofs.Common.{◌≡◌, ℕ, ◌<◌, List, [], ◌∷◌, ◌++◌, length, get_or, refl, subst, arith, All}
-use Rattle.std.specs.List.{Any}
+use Rattle.std.proofs.Common.{◌≡◌, ℕ, ◌<◌, List, [], ◌∷◌, ◌++◌, length, get_or, refl, sym, subst, ◌∙◌, arith, All}
+use Rattle.std.specs.List.{Any, AllByRecursion}
+use Rattle.std.proofs.lemmas.List.Elements.{recursion_from_All}
 use Rattle.rc_tree.specs.NetElements.{NetElements, nodes_of}
 use Rattle.rc_tree.specs.Walk.{Reached, ReachedWithout}
 use Rattle.rc_tree.specs.RcTree.{IsUnreached, CutsOff, OneShape}
@@ -30,3 +31,18 @@ one_shape net = (
   (λ node unreached tree. not_all net node unreached tree.0),
   (λ node unreached mesh. not_all net node unreached mesh.0),
 )
+
+-- the first element without a property is one
+pub first_without : {X : Type 0} (P : X → Type 0) (front back left right : List X) (x y : X) → front ++ x ∷ back ≡ left ++ y ∷ right
+    → AllByRecursion P front → AllByRecursion P left → (P x → ⊥) → (P y → ⊥) → x ≡ y
+first_without P [] back [] right x y e p q f g = cc
+first_without P [] back (z ∷ left) right x y e p q f g = let same : z ≡ x = cc in absurd (f (subst P same q.0))
+first_without P (z ∷ front) back [] right x y e p q f g = let same : z ≡ y = cc in absurd (g (subst P same p.0))
+first_without P (z ∷ front) back (w ∷ left) right x y e p q f g =
+    let rest : front ++ x ∷ back ≡ left ++ y ∷ right = cc in first_without P front back left right x y rest p.1 q.1 f g
+
+-- a net has one first unreached node
+pub one_unreached : {N : Type 0} (net : NetElements N) (one other : N) → IsUnreached net one → IsUnreached net other → one ≡ other
+one_unreached net one other r s =
+    first_without (Reached net) r.0 r.1 s.0 s.1 one other (sym r.2 ∙ s.2)
+    (recursion_from_All (Reached net) r.0 r.3) (recursion_from_All (Reached net) s.0 s.3) r.4 s.4

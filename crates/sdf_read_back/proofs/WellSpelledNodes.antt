@@ -12,6 +12,7 @@ use Rattle.name_table.specs.SdfNames.{is_plain, spelled}
 use Rattle.name_table.specs.SpefNames.{meaning, mark_or_spelled, sdf_of, spelling_of}
 use Rattle.name_table.specs.WellSpelled.{IsLetter, plain, taken, IsPiece, IsPart, IsWellSpelled}
 use Rattle.name_table.specs.WellSpelled as sdf
+use Rattle.name_table.proofs.Spelling.{spelled_is_letter}
 use Rattle.name_table.specs.declared.spef_names.SpefMarks.{SpefMarks}
 use Rattle.sdf_read_back.specs.WellSpelledNodes.{Symbol, letter, mark, mark_or_letter, symbol_of, symbols_of, IsPieceOf, alone, with_bit, IsPartOf, piece, pieces, IsPath, one_part, parts, WholeWellSpelled, HalvesWellSpelled}
 use Rattle.sdf_read_back.proofs.Words.{both}
@@ -38,13 +39,6 @@ symbols_text marks [] = refl
 symbols_text marks (first ∷ name) = ap₂ (λ a b. a ++ b) (symbol_text marks first) (symbols_text marks name)
 
 -- ---- what is such a path is well spelled
-
-spelled_is_letter : (byte : ℕ) → IsLetter (spelled byte)
-spelled_is_letter byte = by (is_plain byte) refl
-  where
-    by : (is : Bool) → is_plain byte ≡ is → IsLetter (cond is (byte ∷ []) (backslash ∷ byte ∷ []))
-    by true is = plain is
-    by false is_not = taken is_not
 
 digit_is_plain : (byte : ℕ) → is_ascii_digit byte ≡ true → is_plain byte ≡ true
 digit_is_plain byte is = grind (arith, nat_tests)

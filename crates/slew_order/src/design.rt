@@ -12,14 +12,13 @@ ghost use Rattle.slew_order.specs.SinkPlaces.{ArePlaces};
 ghost use Rattle.slew_order.specs.Timings.{source_of, arcs_in, flat_in, arc_number, behind_wire, lookups_at, tables_of, wire_at};
 
 use crate::arcs::ArcAt;
-use crate::corners::{corner_at, first_corner};
 use crate::flattening::{all_arcs, cell_arc, flat_arcs};
 use crate::lookups::{EdgeLookups, look_up_both};
 use crate::net_delays::NetDelays;
 use crate::sinks::{PinSinks, related_sinks};
 use crate::wires::slew_behind;
 use cell_models::{Arc, CellSets, Edge, EdgeTables};
-use corner_set::CornerSet;
+use corner_set::{CornerSet, corner_at, first_corner};
 use edge_io::{OutOfMemory, Steps};
 use netlist_link::Netlist;
 use nldm_lookup::Beyond;

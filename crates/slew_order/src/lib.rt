@@ -3,7 +3,6 @@
 
 mod arcs;
 mod at_corner;
-mod corners;
 mod delays;
 mod design;
 mod ends;

@@ -1,5 +1,6 @@
 //! The nets of a file.
 ghost use Rattle.std.specs.Prelude.{◌≡◌, ◌<◌, ℕ, length, map, slice_get, All, Some, Contains, IfSome, IfNone};
+ghost use Rattle.name_table.specs.Names.{AreDistinct};
 ghost use Rattle.spef_nets.specs.NetElements.{NetElements, AreWhole, net_names};
 
 use crate::net::Net;
@@ -71,6 +72,13 @@ impl<'r, 'f, C: CornerSet> Sections<'r, 'f, C> {
     {
         let id = self.nets.find(net)?;
         Some(id.0 as usize)
+    }
+
+    /// No two nets have one name. It does nothing when it is called.
+    pub fn distinct(&self)
+        ensures { AreDistinct (net_names self.now) }
+    {
+        self.nets.distinct();
     }
 
     /// Each net is whole. It does nothing when it is called.

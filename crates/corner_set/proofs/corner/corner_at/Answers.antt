@@ -1,8 +1,8 @@
 use Rattle.std.proofs.Common.{sym, ap, ◌∙◌}
 use Rattle.std.proofs.lemmas.Option.{same_Some, none-some}
-use Rattle.net_parasitics.proofs.corners.corner_at.Goals as goal
+use Rattle.corner_set.proofs.corner.corner_at.Goals as goal
 
--- src/corners.rt
+-- src/corner.rt
 pub returns : goal.returns
 returns g c =
     let law = g.met.C.CornerSet.number_of_corner c.args.number c.requires in

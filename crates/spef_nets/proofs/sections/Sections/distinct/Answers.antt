@@ -1,0 +1,12 @@
+use Rattle.std.proofs.Common.{sym, subst}
+use Rattle.name_table.specs.Names.{AreDistinct}
+use Rattle.spef_nets.specs.RowsOf.{rows_of}
+use Rattle.spef_nets.proofs.TableLemmas.{names_of_all}
+use Rattle.spef_nets.proofs.sections.Sections.distinct.Goals as goal
+
+-- src/sections.rt
+pub returns : goal.returns
+returns g c =
+    subst AreDistinct
+    (sym (names_of_all c.self.inside.file.now c.self.inside.head.now g.C.CornerSet.COUNT c.self.inside.nets c.self.inside.tables.ends.items c.self.inside.tables.nodes.items (rows_of c.self.inside.tables.elements) c.self.invariant.0 c.args.self.now c.self.view_is))
+    c.distinct.ensures
