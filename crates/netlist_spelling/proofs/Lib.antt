@@ -4,3 +4,4 @@ pub mod TokenTexts
 pub mod EntryNames
 pub mod NamedModules
 pub mod SpelledPaths
+pub mod SpelledPins

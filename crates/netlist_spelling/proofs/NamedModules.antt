@@ -6,10 +6,11 @@ use Rattle.std.proofs.lemmas.List.Elements.{All-nil, All-cons, All-head, All-tai
 use Rattle.indexmap.specs.IndexSet.{insert_all, insert_key}
 use Rattle.token_texts.specs.Spans.{text_at}
 use Rattle.verilog_netlist.specs.Namespaces.{name_of, begins_module, begins_instance}
-use Rattle.verilog_netlist.specs.Parts.{Part, parts, until}
+use Rattle.verilog_netlist.specs.Parts.{Part, parts, until, begins_connection}
 use Rattle.verilog_netlist.specs.ModuleNames.{no_name, is_in, texts_of, texts_in, name_in, names_in}
-use Rattle.verilog_netlist.specs.NetModules.{NetModule, instance_of, module_of, module_at, name_at, instance_at, no_module, no_instance}
+use Rattle.verilog_netlist.specs.NetModules.{NetModule, NetInstance, NetConnection, connection_of, instance_of, module_of, module_at, name_at, instance_at, no_module, no_instance}
 use Rattle.verilog_netlist.specs.Parsed.{AreModulesOf}
+use Rattle.verilog_netlist.specs.ModuleNames.{NetName}
 use Rattle.verilog_netlist.specs.declared.entries.Entry.{Entry}
 use Rattle.verilog_netlist.specs.declared.net_names.Group.{Group}
 use Rattle.verilog_netlist.specs.declared.net_names.Group.TheVariants as group
@@ -18,10 +19,15 @@ use Rattle.netlist_link.proofs.NetTexts.{names_within}
 use Rattle.netlist_link.proofs.PathSteps.{module_within}
 use Rattle.netlist_spelling.proofs.EntryNames.{IsNamed, entries_are_named}
 
+-- the port that a connection names has a byte
+abbrev pub IsPortNamed : NetConnection → Type 0
+IsPortNamed connection = connection.port ≢ []
+
 -- each name of a module has a byte
 pub record HasNames (m : NetModule) : Type 0 where
   pub names : All (λ name. name.text ≢ []) m.names
   pub instances : All (λ instance. instance.name ≢ []) m.instances
+  pub ports : All (λ instance. All IsPortNamed instance.connections) m.instances
 
 -- what holds of each entry holds of each entry of a part
 module _ (P : Entry → Type 0) (begins : Entry → Bool) where
@@ -75,6 +81,14 @@ module _ (bytes : List ℕ) where
       (All-append IsNotEmpty headers (wires ++ joined) (group_named group.Headers entries all)
       (All-append IsNotEmpty wires joined (group_named group.Wires entries all) (group_named group.Joined entries all)))
 
+  ports_named : (names : List NetName) (part : Part) → HoldsIn (IsNamed bytes) begins_instance part
+      → All IsPortNamed (instance_of bytes names part).connections
+  ports_named names part holds =
+      let own = parts begins_connection part.behind in
+      All-map IsPortNamed (connection_of bytes names) own
+      (All-weaker (HoldsIn (IsNamed bytes) begins_connection) (λ own. text_at bytes (name_of own.head) ≢ []) (λ own is. is.head) own
+      (parts_hold (IsNamed bytes) begins_connection part.behind holds.behind))
+
   module_named : (part : Part) → HoldsIn (IsNamed bytes) begins_module part → HasNames (module_of bytes part)
   module_named part holds =
       let texts = texts_in bytes part.behind in
@@ -84,6 +98,10 @@ module _ (bytes : List ℕ) where
         instances = All-map (λ instance. instance.name ≢ []) (instance_of bytes (names_in bytes part.behind)) own
             (All-weaker (HoldsIn (IsNamed bytes) begins_instance) (λ own. text_at bytes (name_of own.head) ≢ []) (λ own is. is.head) own
             (parts_hold (IsNamed bytes) begins_instance part.behind holds.behind));
+        ports = All-map (λ instance. All IsPortNamed instance.connections) (instance_of bytes (names_in bytes part.behind)) own
+            (All-weaker (HoldsIn (IsNamed bytes) begins_instance)
+            (λ own. All IsPortNamed (instance_of bytes (names_in bytes part.behind) own).connections)
+            (ports_named (names_in bytes part.behind)) own (parts_hold (IsNamed bytes) begins_instance part.behind holds.behind));
       }
 
   pub modules_named : (modules : List NetModule) → AreModulesOf bytes modules → All HasNames modules
@@ -103,6 +121,11 @@ module _ (modules : List NetModule) (named : All HasNames modules) where
   instance_named m k below =
       All-get_or (λ instance. instance.name ≢ []) (module_at modules m).instances k no_instance below
       (module_has m (module_within modules m k below)).instances
+
+  pub connections_named : (m k : ℕ) → k < instance_count modules m → All IsPortNamed (instance_at modules m k).connections
+  connections_named m k below =
+      All-get_or (λ instance. All IsPortNamed instance.connections) (module_at modules m).instances k no_instance below
+      (module_has m (module_within modules m k below)).ports
 
   pub name_named : (m i : ℕ) → i < length (module_at modules m).names → (name_at modules m i).text ≢ []
   name_named m i below =

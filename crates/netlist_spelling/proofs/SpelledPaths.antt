@@ -49,6 +49,11 @@ all_along P Q d xs ys count each all = λ k other below.
 abbrev no_bit : NetBit
 no_bit = record { path = []; name = 0; bit = 0 }
 
+-- each instance of a cell stands in a module that is visited
+pub cells_stand : (modules : List NetModule) (top : ℕ) → All (StandsIn modules top) (cells_met modules top)
+cells_stand modules top =
+    All-filter (λ met. not (is_module modules top met)) (StandsIn modules top) (whole_walk modules top) (met-stand modules top)
+
 module _ (modules : List NetModule) (top : ℕ) (named : All HasNames modules) where
   -- what follows a path is well spelled behind it
   behind_path : (path last : List ℕ) → IsPath modules top path → IsWellSpelled last → IsWellSpelled (path_sdf modules top path ++ last)
@@ -109,8 +114,7 @@ module _ (modules : List NetModule) (top : ℕ) (named : All HasNames modules) w
 
   cells_spelled : All IsInstanceSpelled (cells_met modules top)
   cells_spelled =
-      All-filter (λ met. not (is_module modules top met)) IsInstanceSpelled (whole_walk modules top)
-      (All-weaker (StandsIn modules top) IsInstanceSpelled instance_spelled (whole_walk modules top) (met-stand modules top))
+      All-weaker (StandsIn modules top) IsInstanceSpelled instance_spelled (cells_met modules top) (cells_stand modules top)
 
   module _ (cells : List NamedCells) where
     instances_spelled : (instances : List FlatInstance) → AreInstances modules top cells instances
