@@ -1,0 +1,141 @@
+//! The rows of the wires of a design.
+ghost use Rattle.std.specs.Prelude.{◌≡◌, ◌<◌, [], ◌∷◌, length, OnOk};
+ghost use Rattle.netlist_link.specs.FlatNetlist.{net_at};
+ghost use Rattle.netlist_link.specs.Linked.{IsLinked};
+ghost use Rattle.sdf_writer.specs.Bounds.{AreWithin};
+ghost use Rattle.slew_order.specs.NetTimes.{Fits, HasSink};
+ghost use Rattle.annotation_rows.specs.SdfEnds.{IsEndThere, end_sdf};
+ghost use Rattle.annotation_rows.specs.WireRows.{driven_rows, net_rows, wire_delays, wire_row, wire_rows, with_wires};
+
+use crate::sdf_ends::end_sdf;
+use cell_models::CellSets;
+use corner_set::{CornerSet, Grid, corner_at};
+use delay_units::Femto;
+use edge_io::{OutOfMemory, Text};
+use elmore_pass::sink_femto;
+use netlist_link::{End, Netlist};
+use sdf_writer::Rows;
+use slew_order::NetDelays;
+use std::alloc::Global;
+
+// Puts the delays of the wire to a sink into a grid of one row.
+#[tactic(auto, using(crate::proofs::Filling::filled_none, crate::proofs::Filling::filled_more, crate::proofs::Filling::filled_all, crate::proofs::Filling::filled_within, crate::proofs::Rounded::rounded_is))]
+fn put_delays<C: CornerSet>(
+    nets: &NetDelays<C>,
+    net: usize,
+    sink: usize,
+    delay: &mut Grid<C, Femto>,
+)
+    requires one_row { length delay.old.values ≡ C.COUNT }
+    requires sink { HasSink nets.now net sink }
+    ensures values { delay.new.values ≡ wire_delays C.COUNT nets.now net sink }
+    ensures one_row { length delay.new.values ≡ C.COUNT }
+    ensures within { AreWithin delay.new.values }
+{
+    for number in 0..C::COUNT {
+        let corner = corner_at::<C>(number);
+        let elmore = nets.elmore(net, sink, corner);
+        delay.set(0, corner, sink_femto(elmore));
+    }
+}
+
+// Adds the row of the wire to a sink of a net, from the end that drives it as SDF spells it. The grid has one row, which is used anew.
+#[tactic(auto, using(crate::proofs::EndsThere::sink_there))]
+fn add_wire<C: CornerSet>(
+    alloc: Global,
+    netlist: &Netlist,
+    cells: &CellSets<C>,
+    nets: &NetDelays<C>,
+    net: usize,
+    driver: End,
+    from: &Text,
+    sink: usize,
+    delay: &mut Grid<C, Femto>,
+    rows: &mut Rows<C>,
+) -> Result<(), OutOfMemory>
+    requires linked { IsLinked cells.now netlist.now }
+    requires fits { Fits netlist.now nets.now }
+    requires net { net < length netlist.now.nets }
+    requires sink { sink < length (net_at netlist.now net).sinks }
+    requires from { from.now ≡ end_sdf cells.now netlist.now driver }
+    requires one_row { length delay.old.values ≡ C.COUNT }
+    ensures row { OnOk result (rows.new ≡ with_wires rows.old (wire_row cells.now netlist.now C.COUNT nets.now driver net sink ∷ [])) }
+    ensures one_row { length delay.new.values ≡ C.COUNT }
+{
+    put_delays(nets, net, sink, delay);
+    let from = Text::from_bytes(alloc, from.bytes())?;
+    let to = end_sdf(alloc, netlist, cells, netlist.sink(net, sink))?;
+    rows.add_wire(from, to, delay)
+}
+
+// Adds the rows of the wires of a net from the end that drives it.
+fn add_driven<C: CornerSet>(
+    alloc: Global,
+    netlist: &Netlist,
+    cells: &CellSets<C>,
+    nets: &NetDelays<C>,
+    net: usize,
+    driver: End,
+    delay: &mut Grid<C, Femto>,
+    rows: &mut Rows<C>,
+) -> Result<(), OutOfMemory>
+    requires linked { IsLinked cells.now netlist.now }
+    requires fits { Fits netlist.now nets.now }
+    requires net { net < length netlist.now.nets }
+    requires driver { IsEndThere cells.now netlist.now driver }
+    requires one_row { length delay.old.values ≡ C.COUNT }
+    ensures rows { OnOk result (rows.new ≡ with_wires rows.old
+        (driven_rows cells.now netlist.now C.COUNT nets.now driver net (length (net_at netlist.now net).sinks))) }
+    ensures one_row { length delay.new.values ≡ C.COUNT }
+{
+    let from = end_sdf(alloc, netlist, cells, driver)?;
+    for sink in 0..netlist.sink_count(net) {
+        add_wire(
+            alloc, netlist, cells, nets, net, driver, &from, sink, delay, rows,
+        )?;
+    }
+    Ok(())
+}
+
+// Adds the rows of the wires of a net: none where nothing drives it.
+#[tactic(auto, using(crate::proofs::EndsThere::driver_there, crate::proofs::WireLists::with_no_wires))]
+fn add_net<C: CornerSet>(
+    alloc: Global,
+    netlist: &Netlist,
+    cells: &CellSets<C>,
+    nets: &NetDelays<C>,
+    net: usize,
+    delay: &mut Grid<C, Femto>,
+    rows: &mut Rows<C>,
+) -> Result<(), OutOfMemory>
+    requires linked { IsLinked cells.now netlist.now }
+    requires fits { Fits netlist.now nets.now }
+    requires net { net < length netlist.now.nets }
+    requires one_row { length delay.old.values ≡ C.COUNT }
+    ensures rows { OnOk result (rows.new ≡ with_wires rows.old (net_rows cells.now netlist.now C.COUNT nets.now net)) }
+    ensures one_row { length delay.new.values ≡ C.COUNT }
+{
+    match netlist.driver(net) {
+        None => Ok(()),
+        Some(driver) => add_driven(alloc, netlist, cells, nets, net, driver, delay, rows),
+    }
+}
+
+/// Adds the rows of the wires of all nets, in order.
+pub(crate) fn add_wires<C: CornerSet>(
+    alloc: Global,
+    netlist: &Netlist,
+    cells: &CellSets<C>,
+    nets: &NetDelays<C>,
+    rows: &mut Rows<C>,
+) -> Result<(), OutOfMemory>
+    requires linked { IsLinked cells.now netlist.now }
+    requires fits { Fits netlist.now nets.now }
+    ensures { OnOk result (rows.new ≡ with_wires rows.old (wire_rows cells.now netlist.now C.COUNT nets.now)) }
+{
+    let mut delay = Grid::with_rows(alloc, 1, Femto(0))?;
+    for net in 0..netlist.net_count() {
+        add_net(alloc, netlist, cells, nets, net, &mut delay, rows)?;
+    }
+    Ok(())
+}
