@@ -26,7 +26,8 @@ use std::sync::ledger::Ledger;
 /// the loads and Elmore sums are those that the slews are of.
 ///
 /// Each edge of each arc is looked up once at each corner: it takes at most 32 steps for each pair of an arc of an instance and an edge
-/// that it has, and each corner, whatever it answers. Each cell has one shape at all corners, which it keeps itself.
+/// that it has, and each corner, whatever it answers. Where it answers rows, each cell has one shape at all corners, as the laws of the
+/// rows ask.
 pub fn annotation_rows<C: CornerSet, L: Ledger>(
     alloc: Global,
     design: &Text,
