@@ -19,3 +19,4 @@ pub mod SlewLaws
 pub mod Driving
 pub mod LiveArcs
 pub mod OneSlewEnd
+pub mod StuckNets

@@ -1,8 +1,10 @@
 //! The first look-up that is refused.
-ghost use Rattle.std.specs.Prelude.{◌≡◌, ◌+◌, ◌*◌, ◌<◌, ◌≤◌, if◌then◌else◌, length, IfSome, IfNone};
-ghost use Rattle.slew_states.specs.Arcs.{arc_at, has_edge};
+ghost use Rattle.std.specs.Prelude.{◌≡◌, ◌+◌, ◌*◌, ◌<◌, ◌≤◌, ◌↔◌, if◌then◌else◌, length, IsTrue, IfSome, IfNone};
+ghost use Rattle.slew_states.specs.declared.arcs.Driver.TheVariants.{Pin};
+ghost use Rattle.slew_states.specs.Arcs.{arc_at, driver_at, has_edge};
 ghost use Rattle.slew_states.specs.PinState.{IsSmall, worst};
 ghost use Rattle.slew_order.specs.Cycles.{HasNoCycle};
+ghost use Rattle.slew_order.specs.FlatArcs.{drivers_of};
 ghost use Rattle.slew_order.specs.NetStates.{AreNetStates, AreStatesAt, edges_in, net_state};
 ghost use Rattle.slew_order.specs.SlewEnds.{IsRefusal, IsFirstRefusal, NoRefusalAt, NoRefusalTo, NoRefusals, IsSlewEnd};
 ghost use Rattle.slew_order.specs.Timings.{arcs_in, flat_in, wire_at};
@@ -15,6 +17,7 @@ use crate::net_states::NetStates;
 use cell_models::Edge;
 use corner_set::CornerSet;
 use edge_io::Steps;
+use netlist_link::{End, Netlist};
 use nldm_lookup::LookupEnd;
 use slew_states::{EdgeStates, FlatArc, PinState, worst_input};
 use std::sync::ledger::Ledger;
@@ -60,6 +63,41 @@ pub(crate) fn worst_at<C: CornerSet>(
     worst_input(&timing, arc, &flat[arc], edge, states)
 }
 
+// Whether an output pin drives a net.
+#[tactic(auto, using(crate::proofs::StuckNets::pin_drives))]
+fn is_driven(netlist: &Netlist, net: usize) -> bool
+    requires { net < length netlist.now.nets }
+    ensures { IsTrue result → driver_at (drivers_of netlist.now) net ≡ Pin }
+{
+    matches!(netlist.driver(net), Some(End::Pin { .. }))
+}
+
+fn is_stuck(state: PinState) -> bool
+    ensures { IsTrue result ↔ (state ≡ PinState.Stuck) }
+{
+    matches!(state, PinState::Stuck)
+}
+
+// Whether the state of the net of an arc tells that no look-up of the arc is refused: it would be stuck.
+#[tactic(auto, using(crate::proofs::StuckNets::not_refused))]
+fn is_taken<C: CornerSet>(
+    design: &Design<'_, C>,
+    arc: usize,
+    edge: Edge,
+    number: usize,
+    states: &[EdgeStates],
+) -> bool
+    requires none { HasNoCycle design.now.netlist design.now.cells }
+    requires arc { arc < length (arcs_in design.now) }
+    requires states { AreStatesAt design.now number states.now }
+    ensures { IsTrue result → NoRefusalAt design.now arc edge number }
+{
+    let Some(net) = design.flat()[arc].target else {
+        return false;
+    };
+    is_driven(design.netlist(), net) && !is_stuck(states[net].at(edge))
+}
+
 // The look-up of an edge of an arc that is refused at a corner.
 fn refusal_at<C: CornerSet, L: Ledger>(
     design: &Design<'_, C>,
@@ -69,6 +107,7 @@ fn refusal_at<C: CornerSet, L: Ledger>(
     states: &[EdgeStates],
     steps: &mut Steps<L>,
 ) -> Option<PartEnd>
+    requires none { HasNoCycle design.now.netlist design.now.cells }
     requires arc { arc < length (arcs_in design.now) }
     requires corner { number < design.now.count }
     requires states { AreStatesAt design.now number states.now }
@@ -77,6 +116,9 @@ fn refusal_at<C: CornerSet, L: Ledger>(
     ensures steps { steps.new ≤ steps.old + 64 * (if has_edge (arc_at (flat_in design.now) arc) edge then 1 else 0) }
 {
     if !has_edge(&design.flat()[arc], edge) {
+        return None;
+    }
+    if is_taken(design, arc, edge, number, states) {
         return None;
     }
     let PinState::Known(slew) = worst_at(design, arc, edge, number, states) else {
@@ -101,6 +143,7 @@ fn refusal_of_edge<C: CornerSet, L: Ledger>(
     corners: &[NetStates],
     steps: &mut Steps<L>,
 ) -> Option<CornerEnd>
+    requires none { HasNoCycle design.now.netlist design.now.cells }
     requires arc { arc < length (arcs_in design.now) }
     requires states { AreNetStates design.now corners.now }
     ensures refused { IfSome result (λ at. IsRefusal design.now arc edge at.corner at.end) }
@@ -127,6 +170,7 @@ pub(crate) fn first_refusal<C: CornerSet, L: Ledger>(
     corners: &[NetStates],
     steps: &mut Steps<L>,
 ) -> Option<Refusal>
+    requires none { HasNoCycle design.now.netlist design.now.cells }
     requires states { AreNetStates design.now corners.now }
     ensures first { IfSome result (λ refusal. IsFirstRefusal design.now refusal.arc refusal.edge refusal.corner refusal.end) }
     ensures none { IfNone result (NoRefusals design.now (length (arcs_in design.now))) }
