@@ -13,7 +13,7 @@ use Rattle.annotation_rows.specs.PathTables.{AreBests, best_of, delay_on, kept_a
 use Rattle.annotation_rows.proofs.ArcDelays.{printed}
 use Rattle.annotation_rows.proofs.Leading.{best_is_path}
 
-one_of : (b : Bool) (one other : Option ℤ) → IsPrinted one → IsPrinted other → IsPrinted (if b then one else other)
+pub one_of : (b : Bool) (one other : Option ℤ) → IsPrinted one → IsPrinted other → IsPrinted (if b then one else other)
 one_of true one other small also = small
 one_of false one other small also = also
 
@@ -22,7 +22,7 @@ printed_larger None other small also = also
 printed_larger (Some value) None small also = small
 printed_larger (Some value) (Some other) small also = one_of (int_lt value other) (Some other) (Some value) also small
 
-printed_from : (delay : ℕ → Option ℤ) (from n : ℕ) → ((k : ℕ) → IsPrinted (delay k)) → IsPrinted (largest (joined_from (λ k. delay k ∷ []) from n))
+pub printed_from : (delay : ℕ → Option ℤ) (from n : ℕ) → ((k : ℕ) → IsPrinted (delay k)) → IsPrinted (largest (joined_from (λ k. delay k ∷ []) from n))
 printed_from delay from zero each = tt
 printed_from delay from (suc n) each = printed_larger (delay from) (largest (joined_from (λ k. delay k ∷ []) (suc from) n)) (each from) (printed_from delay (suc from) n each)
 

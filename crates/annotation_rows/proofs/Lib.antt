@@ -16,6 +16,7 @@ pub mod ManyPaths
 pub mod NoStuck
 pub mod PathLists
 pub mod PathNumbers
+pub mod PrintedRows
 pub mod Rounded
 pub mod RowLaws
 pub mod SpelledRows

@@ -8,7 +8,7 @@ use Rattle.nldm_lookup.proofs.Scaling.{scale_sum}
 use Rattle.slew_order.specs.Lookups.{half_up}
 use Rattle.annotation_rows.specs.WireRows.{femto_of}
 
-half_up_rounds : (n d : ℤ) → pos 1 ≤ℤ d → IsRounding n d (half_up n d)
+pub half_up_rounds : (n d : ℤ) → pos 1 ≤ℤ d → IsRounding n d (half_up n d)
 half_up_rounds n d some =
     let both : pos 1 ≤ℤ (d +ℤ d) = omega (arith, ints, some) in
     let whole = division ((n +ℤ n) +ℤ d) (d +ℤ d) both in

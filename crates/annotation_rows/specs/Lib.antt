@@ -6,3 +6,4 @@ pub mod PathTables
 pub mod Annotation
 pub mod RowLaws
 pub mod SpelledRows
+pub mod PrintedRows

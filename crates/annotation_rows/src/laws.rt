@@ -1,4 +1,5 @@
 //! The laws of the rows of paths.
+ghost use Rattle.annotation_rows.specs.PrintedRows.{PrintedRows};
 ghost use Rattle.annotation_rows.specs.RowLaws.{LiveRows, NoValueNoDelay, ValuesAreDelays};
 ghost use Rattle.annotation_rows.specs.SpelledRows.{SpelledRows};
 
@@ -19,4 +20,10 @@ pub fn values_are_delays()
 /// that is on a net has a name, the names in its rows are well spelled. It does nothing when it is called.
 pub fn rows_are_well_spelled()
     ensures law { SpelledRows }
+{}
+
+/// The law of printed values, which its contract states: where the Elmore sums of a design are below their limit, each value of its rows
+/// has one time a corner, of a size that is printed. It does nothing when it is called.
+pub fn rows_are_printed()
+    ensures law { PrintedRows }
 {}

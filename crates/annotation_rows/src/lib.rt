@@ -13,4 +13,4 @@ mod timed_netlist;
 mod wire_rows;
 
 pub use annotation::annotation_rows;
-pub use laws::{live_paths_have_rows, rows_are_well_spelled, values_are_delays};
+pub use laws::{live_paths_have_rows, rows_are_printed, rows_are_well_spelled, values_are_delays};
