@@ -5,8 +5,8 @@ use Rattle.std.specs.List.{position_or_len}
 use Rattle.std.specs.Str.{bytes_eq}
 use Rattle.std.proofs.lemmas.Slice.Eq.{bytes_eq-Decides}
 use Rattle.std.proofs.lemmas.Option.{none-some, same_Some, slice_get_within, slice_get-get_or, get_or_from_slice_get}
-use Rattle.std.proofs.lemmas.List.{get_or_append_left, take-append-le, drop-append-le, take_all, length_push, length-map, map-append, take-append-drop}
-use Rattle.std.proofs.lemmas.List.Elements.{filter-append, filter_more}
+use Rattle.std.proofs.lemmas.List.{get_or_append_left, take-append-le, drop-append-le, take_all, length_push, length-map, map-append}
+use Rattle.std.proofs.lemmas.List.Elements.{filter_more}
 use Rattle.std.proofs.Math.Seq.{get_or-append_seam, drop-append_seam}
 use Rattle.cell_models.specs.NamedSets.{NamedCells, set_names}
 use Rattle.cell_models.specs.declared.cell.Pin.{Pin}
@@ -16,17 +16,15 @@ use Rattle.netlist_link.specs.FlatNames.{instance_text, instance_sdf}
 use Rattle.netlist_link.specs.FlatNetlist.{FlatInstance}
 use Rattle.netlist_link.specs.FlatPins.{pins_of, net_on_pin, IsNumbered}
 use Rattle.netlist_link.specs.Links.{IsInstanceOf, AreInstances}
-use Rattle.netlist_link.specs.Clashes.{AreNamed, IsClash, texts_of_instances}
+use Rattle.netlist_link.specs.Clashes.{texts_of_instances}
 use Rattle.netlist_link.specs.PathTables.{top_of}
 use Rattle.netlist_link.specs.Designs.{met_of, walk_of, IsDesign, IsOfCell, IsCellPlace, HaveDistinctPins}
 use Rattle.netlist_link.specs.InstanceTables.{no_row, row_at, kept_instance, instances_in, AreInstanceTables}
 use Rattle.netlist_link.specs.InstanceRows.{IsInstanceMore, mets_before, HoldInstances}
 use Rattle.netlist_link.specs.declared.cell_pins.CellPins.{CellPins}
 use Rattle.netlist_link.specs.declared.checking.Design.{Design}
-use Rattle.netlist_link.specs.declared.ends.LinkEnd.{LinkEnd}
 use Rattle.netlist_link.specs.declared.instances.InstanceRow.{InstanceRow}
 use Rattle.netlist_link.specs.declared.instances.Instances.{Instances}
-use Rattle.netlist_link.proofs.Clashing.{refused_more}
 use Rattle.netlist_link.proofs.MetPlaces.{kept_met, met_is}
 use Rattle.netlist_link.proofs.Pushing.{each_push}
 
@@ -204,28 +202,13 @@ module _ (d : Design) where
     pub mets_same : is_module d.modules.now (top_of d.walk.now) (met_of d i) ≡ true → mets_before d (i + 1) ≡ mets_before d i
     mets_same of = filter_more is_cell (walk_of d) i no_met within ∙ rw of (append-nil (mets_before d i))
 
-    module _ (of : IsOfCell d i) (names : List (List ℕ)) (so_far : AreNamed (map text_of (mets_before d i)) names) where
-      with_text : names ++ text_of (met_of d i) ∷ [] ≡ map text_of (mets_before d (i + 1))
-      with_text = ap (λ (l : List (List ℕ)). l ++ text_of (met_of d i) ∷ []) so_far.are
-          ∙ sym (ap (map text_of) (mets_more of) ∙ map-append text_of (mets_before d i) (met_of d i ∷ []))
+    pub texts_step : (of : IsOfCell d i) (names : List (List ℕ)) → names ≡ map text_of (mets_before d i) → (after : List (List ℕ))
+        → after ≡ names ++ text_of (met_of d i) ∷ [] → after ≡ map text_of (mets_before d (i + 1))
+    texts_step of names so_far after now = now ∙ ap (λ (l : List (List ℕ)). l ++ text_of (met_of d i) ∷ []) so_far
+        ∙ sym (ap (map text_of) (mets_more of) ∙ map-append text_of (mets_before d i) (met_of d i ∷ []))
 
-      pub texts_step : (after : List (List ℕ)) → AreNamed (names ++ text_of (met_of d i) ∷ []) after → AreNamed (map text_of (mets_before d (i + 1))) after
-      texts_step after now = subst (λ (l : List (List ℕ)). AreNamed l after) with_text now
-
-      pub refused_instance : (end : LinkEnd) → IsClash (names ++ text_of (met_of d i) ∷ []) end → IsClash (texts_of_instances d) end
-      refused_instance end now =
-          let later = filter is_cell (drop (i + 1) (walk_of d)) in
-          let parts : texts_of_instances d ≡ map text_of (mets_before d (i + 1)) ++ map text_of later =
-          ap (λ (l : List Met). map text_of (filter is_cell l)) (sym (take-append-drop (i + 1) (walk_of d)))
-          ∙ ap (map text_of) (filter-append is_cell (take (i + 1) (walk_of d)) (drop (i + 1) (walk_of d)))
-          ∙ map-append text_of (mets_before d (i + 1)) later in
-          subst (λ (l : List (List ℕ)). IsClash l end) (ap (λ (l : List (List ℕ)). l ++ map text_of later) with_text ∙ sym parts)
-          (refused_more (names ++ text_of (met_of d i) ∷ []) (map text_of later) end now)
-
-  pub all_texts : (names : List (List ℕ)) (n : ℕ) → AreNamed (map text_of (mets_before d n)) names → n ≡ length (walk_of d)
-      → AreNamed (texts_of_instances d) names
-  all_texts names n is whole =
-      subst (λ (l : List Met). AreNamed (map text_of (filter is_cell l)) names) (take_all n (walk_of d) (omega arith)) is
+  pub all_texts : (names : List (List ℕ)) (n : ℕ) → names ≡ map text_of (mets_before d n) → n ≡ length (walk_of d) → names ≡ texts_of_instances d
+  all_texts names n is whole = is ∙ ap (λ (l : List Met). map text_of (filter is_cell l)) (take_all n (walk_of d) (omega arith))
 
 -- an instance that is kept with no visit of its own is of a cell, and every other of a module
 module _ (d : Design) (walk : AreTablesOfWalk d.modules.now (top_of d.walk.now) d.walk.now) (i : ℕ) (below : i < length d.walk.now.met) where

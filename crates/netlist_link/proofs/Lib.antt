@@ -17,6 +17,7 @@ pub mod PinNames
 pub mod KnownCells
 pub mod WalkStarts
 pub mod Clashing
+pub mod TextPieces
 pub mod NetTexts
 pub mod PinNets
 pub mod PinNumbers

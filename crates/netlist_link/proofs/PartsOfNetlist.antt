@@ -90,7 +90,7 @@ module _ (d : Design) (has : HasDesign d) (parts : NetlistParts) (over : OverCel
       there = over all is distinct
 
   pub tables_fit : (drivers : List (Option KeptEnd)) (sinks : EndsByNet) (driving driven : List EndOn)
-      → AreDrivers (length parts.net_texts) driving drivers → IsByNet (length parts.net_texts) driven sinks → length parts.net_texts ≤ 2 ^ 30
+      → AreDrivers (length parts.net_texts) driving drivers → IsByNet (length parts.net_texts) driven sinks → length parts.net_texts < 2 ^ 32
       → length parts.instances.rows.items < 2 ^ 32 → length driven < 2 ^ 32
       → AreNetlistTables parts.instances parts.ports parts.net_texts drivers sinks
   tables_fit drivers sinks driving driven drivers_are sinks_are few_nets few_instances few_ends = record {
@@ -99,7 +99,7 @@ module _ (d : Design) (has : HasDesign d) (parts : NetlistParts) (over : OverCel
     drivers_count = drivers_are.count;
     driven = driven;
     sinks_are = sinks_are;
-    few_nets = omega (arith, few_nets);
+    few_nets = few_nets;
     few_instances = few_instances;
     few_ends = few_ends;
   }

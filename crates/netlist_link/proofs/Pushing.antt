@@ -28,3 +28,8 @@ places_push P xs x n len each last i below = elim (cases_lt i n) [
       let same : n ≡ i = omega arith in
       subst (λ (k : ℕ). P k (slice_index (xs ++ x ∷ []) k)) same (subst (P n) (sym at_end) last)
 ]
+
+-- one item more of a list stands behind those before it
+pub list_step : {X : Type 0} (all before after : List X) (n : ℕ) (x : X) → slice_get all n ≡ Some x → before ≡ take n all → after ≡ before ++ x ∷ []
+    → after ≡ take (n + 1) all
+list_step all before after n x here so_far is = is ∙ ap (λ l. l ++ x ∷ []) so_far ∙ sym (take_push all n x here)

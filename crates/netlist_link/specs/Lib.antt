@@ -20,6 +20,7 @@ pub mod NetlistTables
 pub mod FlatBitTables
 pub mod DesignTables
 pub mod Clashes
+pub mod FlatTexts
 pub mod InstanceRows
 pub mod KeptEnds
 pub mod NetlistParts

@@ -9,6 +9,7 @@ ghost use Rattle.netlist_link.specs.PathTables.{top_of, ArePaths};
 use crate::checking::{Design, Joints};
 use crate::ends::LinkEnd;
 use crate::flat_bits::flat_bits;
+use crate::flat_texts::FlatTexts;
 use crate::grouping::by_net;
 use crate::instances::{Instances, flat_instances};
 use crate::net_ends::{driven_ends, drivers_of, driving_ends};
@@ -17,13 +18,12 @@ use crate::netlist::Netlist;
 use crate::ports::{Ports, top_ports};
 use edge_io::OutOfMemory;
 use edge_io::lists::to_u32;
-use name_table::Names;
 use std::alloc::Global;
 
 /// The nets, the instances and the ports of a flat netlist, before the nets are joined to their ends.
 #[derive(Drop)]
 pub(crate) struct NetlistParts {
-    pub net_texts: Names,
+    pub net_texts: FlatTexts,
     pub instances: Instances,
     pub ports: Ports,
 }
@@ -57,11 +57,13 @@ fn parts_of(alloc: Global, design: &Design<'_>, joints: &Joints) -> Result<Netli
     })
 }
 
-// More than 2^32 - 1 instances are a want of memory.
-fn check_count(instances: &Instances) -> Result<(), OutOfMemory>
-    ensures { IfOk result (λ _. length instances.now.rows.items < 2 ^ 32) }
+// More than 2^32 - 1 nets or instances are a want of memory.
+fn check_counts(parts: &NetlistParts) -> Result<(), OutOfMemory>
+    ensures nets { IfOk result (λ _. length parts.now.net_texts < 2 ^ 32) }
+    ensures instances { IfOk result (λ _. length parts.now.instances.rows.items < 2 ^ 32) }
 {
-    to_u32(instances.rows.len())?;
+    to_u32(parts.net_texts.len())?;
+    to_u32(parts.instances.rows.len())?;
     Ok(())
 }
 
@@ -81,7 +83,7 @@ fn join_nets(alloc: Global, design: &Design<'_>, parts: NetlistParts) -> Result<
     };
     let driven = driven_ends(alloc, design, &parts.ports, &parts.instances)?;
     let sinks = by_net(alloc, parts.net_texts.len(), driven.as_slice())?;
-    check_count(&parts.instances)?;
+    check_counts(&parts)?;
     Ok(Netlist {
         instances: parts.instances,
         ports: parts.ports,

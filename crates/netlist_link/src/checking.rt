@@ -6,7 +6,7 @@ ghost use Rattle.name_table.specs.Names.{AreDistinct};
 ghost use Rattle.cell_models.specs.declared.cell.Pin.{Pin};
 ghost use Rattle.verilog_netlist.specs.NetModules.{module_at};
 ghost use Rattle.netlist_link.specs.LinkEnds.{joint_of_name, joint_of_pin, port_named, pin_named, is_end, joint_faults, instance_faults, all_faults};
-ghost use Rattle.netlist_link.specs.FlatNames.{instance_text};
+ghost use Rattle.netlist_link.specs.Clashes.{text_of};
 ghost use Rattle.netlist_link.specs.Designs.{AreAllPorts, IsDesign, HasDesign, HoldsJoints, OverCells, walk_of, IsOfCell, IsSound, IsCellPlace, HaveDistinctPins, joint_here, number_here, met_of, OfCells, IsJoinedInstance, joint_in, has_port_name, IsFirstOf, IsMade};
 ghost use Rattle.netlist_link.specs.PathTables.{IsWalk, top_of, visit_at, ArePaths};
 ghost use Rattle.hierarchy.specs.Walks.{is_module};
@@ -101,22 +101,26 @@ fn pin_of(pins: &CellPins<'_>, name: &[u8]) -> Option<KeptJoint>
     })
 }
 
-/// The number of the port or the pin to which a connection joins so many bits, or why it cannot. The instance has this name in the
-/// visited module of this number.
+/// The number of the port or the pin to which a connection of an instance that is met joins so many bits, or why it cannot. The path of
+/// the instance is made only where it cannot.
 #[tactic(auto, using(crate::specs::Designs::first_is, crate::specs::Designs::no_memory_is))]
 fn number_of_joint(
     alloc: Global,
-    instance: &Text,
+    design: &Design<'_>,
+    i: usize,
     port: &[u8],
     joint: Option<KeptJoint>,
     bits: usize,
 ) -> Result<usize, LinkEnd>
-    ensures made { IfOk result (IsMade (joint_faults instance.now port.now (joint_in joint) bits) joint) }
-    ensures refused { IfErr result (IsFirstOf (joint_faults instance.now port.now (joint_in joint) bits)) }
+    requires walk { IsWalk design.now.modules.now design.now.walk.now }
+    requires paths { ArePaths design.now.modules.now (top_of design.now.walk.now) design.now.paths.now }
+    requires within { i < length design.now.walk.now.met }
+    ensures made { IfOk result (IsMade (joint_faults (text_of design.now i) port.now (joint_in joint) bits) joint) }
+    ensures refused { IfErr result (IsFirstOf (joint_faults (text_of design.now i) port.now (joint_in joint) bits)) }
 {
     let Some(joint) = joint else {
         return Err(LinkEnd::UnknownPort {
-            instance: Text::from_bytes(alloc, instance.bytes())?,
+            instance: instance_text(alloc, design, i)?,
             port: Text::from_bytes(alloc, port)?,
         });
     };
@@ -125,7 +129,7 @@ fn number_of_joint(
     }
     if bits != joint.width {
         return Err(LinkEnd::Width {
-            instance: Text::from_bytes(alloc, instance.bytes())?,
+            instance: instance_text(alloc, design, i)?,
             port: Text::from_bytes(alloc, port)?,
             want: joint.width,
             got: bits,
@@ -135,7 +139,7 @@ fn number_of_joint(
         return Ok(joint.number);
     }
     Err(LinkEnd::InoutPin {
-        instance: Text::from_bytes(alloc, instance.bytes())?,
+        instance: instance_text(alloc, design, i)?,
         pin: Text::from_bytes(alloc, port)?,
     })
 }
@@ -212,7 +216,7 @@ pub(crate) fn instance_text(
     requires walk { IsWalk design.now.modules.now design.now.walk.now }
     requires paths { ArePaths design.now.modules.now (top_of design.now.walk.now) design.now.paths.now }
     requires within { i < length design.now.walk.now.met }
-    ensures { IfOk result (λ text. text ≡ instance_text design.now.modules.now (top_of design.now.walk.now) (met_of design.now i)) }
+    ensures { IfOk result (λ text. text ≡ text_of design.now i) }
 {
     let (m, k) = place_of(design, i);
     let met = design.walk.met();
@@ -242,12 +246,11 @@ fn join_instance(
         (λ cells. IsFirstOf (instance_faults design.now.modules.now (top_of design.now.walk.now) cells (met_of design.now i)) end)) }
 {
     let (m, k) = place_of(design, i);
-    let text = instance_text(alloc, design, i)?;
     for c in 0..design.modules.connection_count(m, k) {
         let port = design.modules.port(m, k, c);
         let joint = joint_at(design, i, cell, port);
         let bits = design.modules.bit_count(m, k, c);
-        let number = match number_of_joint(alloc, &text, port, joint, bits) {
+        let number = match number_of_joint(alloc, design, i, port, joint, bits) {
             Ok(number) => number,
             Err(end) => return Err(end),
         };

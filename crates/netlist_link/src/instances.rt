@@ -1,6 +1,5 @@
 //! The instances of cells in a flat design, along the walk, and the nets of their pins.
 ghost use Rattle.std.specs.Prelude.{◌≡◌, ◌∷◌, ◌++◌, [], ◌<◌, length, slice_index, IfOk, IfErr, OnOk};
-ghost use Rattle.name_table.specs.Names.{AreDistinct};
 ghost use Rattle.verilog_netlist.specs.NetModules.{bits_in};
 ghost use Rattle.netlist_link.specs.FlatNames.{instance_text, instance_sdf};
 ghost use Rattle.netlist_link.specs.FlatPins.{pins_of};
@@ -12,14 +11,14 @@ ghost use Rattle.netlist_link.specs.FlatBitTables.{AreFlatBits};
 ghost use Rattle.netlist_link.specs.InstanceTables.{instances_in, AreInstanceTables};
 ghost use Rattle.netlist_link.specs.InstanceRows.{connection_of, IsFirstNet, AreNetsOf, IsRowMore, IsInstanceMore};
 
-use crate::checking::{Design, Joints, instance_text, place_of};
+use crate::checking::{Design, Joints, place_of};
 use crate::ends::LinkEnd;
 use crate::flat_bits::FlatBits;
 use crate::flat_names::flat_spelling;
-use crate::net_naming::add_name;
+use crate::flat_texts::FlatTexts;
+use crate::name_clashes::check_names;
 use edge_io::lists::{push, to_u32};
 use edge_io::{OutOfMemory, Text, TextList};
-use name_table::Names;
 use std::alloc::Global;
 
 /// An instance of a cell: the place of its cell, that of its first pin, and how many pins it has.
@@ -33,7 +32,7 @@ pub(crate) struct InstanceRow {
 /// The instances of cells, and the nets of their pins.
 #[derive(Drop)]
 pub(crate) struct Instances {
-    pub texts: Names,
+    pub texts: FlatTexts,
     pub spellings: TextList,
     pub rows: Vec<InstanceRow>,
     pub pin_nets: Vec<Option<u32>>,
@@ -152,8 +151,21 @@ fn instance_spelling(alloc: Global, design: &Design<'_>, i: usize) -> Result<Tex
     )
 }
 
+// Puts the path of an instance that is met at the end.
+fn add_text(design: &Design<'_>, i: usize, texts: &mut FlatTexts) -> Result<(), OutOfMemory>
+    requires walk { IsWalk design.now.modules.now design.now.walk.now }
+    requires paths { ArePaths design.now.modules.now (top_of design.now.walk.now) design.now.paths.now }
+    requires within { i < length design.now.walk.now.met }
+    ensures { OnOk result (texts.new
+        ≡ texts.old ++ instance_text design.now.modules.now (top_of design.now.walk.now) (met_of design.now i) ∷ []) }
+{
+    let (m, k) = place_of(design, i);
+    let met = design.walk.met();
+    let path = design.paths.text(met[i].visit as usize);
+    texts.push(path, design.modules.instance_name(m, k), b"")
+}
+
 // Puts one instance of a cell more at the end.
-#[tactic(auto, using(crate::specs::Clashes::no_room_is))]
 fn add_instance(
     alloc: Global,
     design: &Design<'_>,
@@ -162,7 +174,7 @@ fn add_instance(
     i: usize,
     nets: &mut Vec<Option<u32>>,
     instances: &mut Instances,
-) -> Result<(), LinkEnd>
+) -> Result<(), OutOfMemory>
     requires sound { IsSound design.now }
     requires design { HasDesign design.now }
     requires paths { ArePaths design.now.modules.now (top_of design.now.walk.now) design.now.paths.now }
@@ -171,22 +183,55 @@ fn add_instance(
         joints.now.starts.items joints.now.numbers.items joints.now.places.items) }
     requires within { i < length design.now.walk.now.met }
     requires cell { IsOfCell design.now i }
-    requires distinct { AreDistinct instances.old.texts }
-    ensures added { OnOk result (IsInstanceMore design.now i (slice_index joints.now.places.items i) instances.old instances.new) }
-    ensures named { OnOk result (AreNamed
-        (instances.old.texts ++ instance_text design.now.modules.now (top_of design.now.walk.now) (met_of design.now i) ∷ [])
-        instances.new.texts) }
-    ensures refused { IfErr result (IsClash
-        (instances.old.texts ++ instance_text design.now.modules.now (top_of design.now.walk.now) (met_of design.now i) ∷ [])) }
+    ensures { OnOk result (IsInstanceMore design.now i (slice_index joints.now.places.items i) instances.old instances.new) }
 {
     add_row(design, joints, bits, i, nets, instances)?;
     let spelling = instance_spelling(alloc, design, i)?;
     instances.spellings.push(spelling)?;
-    let text = instance_text(alloc, design, i)?;
-    match add_name(&mut instances.texts, text) {
-        Ok(()) => Ok(()),
-        Err(end) => Err(end),
+    add_text(design, i, &mut instances.texts)
+}
+
+// No instance yet, with room for so many.
+fn no_instances(alloc: Global, many: usize) -> Result<Instances, OutOfMemory>
+    ensures texts { IfOk result (λ instances. instances.texts ≡ []) }
+    ensures spellings { IfOk result (λ instances. instances.spellings ≡ []) }
+    ensures rows { IfOk result (λ instances. instances.rows.items ≡ []) }
+{
+    Ok(Instances {
+        texts: FlatTexts::with_room(alloc, many)?,
+        spellings: TextList::new(alloc),
+        rows: Vec::with_capacity(alloc, many)?,
+        pin_nets: Vec::new(alloc),
+    })
+}
+
+// The instances of cells along the walk.
+fn all_instances(
+    alloc: Global,
+    design: &Design<'_>,
+    joints: &Joints,
+    bits: &FlatBits,
+) -> Result<Instances, OutOfMemory>
+    requires sound { IsSound design.now }
+    requires design { HasDesign design.now }
+    requires paths { ArePaths design.now.modules.now (top_of design.now.walk.now) design.now.paths.now }
+    requires bits { AreFlatBits design.now bits.now }
+    requires joints { OverCells design.now (HoldsJoints design.now (length (walk_of design.now))
+        joints.now.starts.items joints.now.numbers.items joints.now.places.items) }
+    ensures instances { IfOk result (λ instances. OverCells design.now
+        (λ cells. AreInstances design.now.modules.now (top_of design.now.walk.now) cells (instances_in instances))) }
+    ensures tables { IfOk result AreInstanceTables }
+    ensures texts { IfOk result (λ instances. instances.texts ≡ texts_of_instances design.now) }
+{
+    let many = design.walk.met().len();
+    let mut instances = no_instances(alloc, many)?;
+    let mut nets = Vec::new(alloc);
+    for i in 0..many {
+        if design.walk.met()[i].lower.is_none() {
+            add_instance(alloc, design, joints, bits, i, &mut nets, &mut instances)?;
+        }
     }
+    Ok(instances)
 }
 
 /// The instances of cells along the walk, or the first name that an earlier instance has.
@@ -209,20 +254,9 @@ pub(crate) fn flat_instances(
     ensures named { IfOk result (λ instances. AreNamed (texts_of_instances design.now) instances.texts) }
     ensures refused { IfErr result (IsClash (texts_of_instances design.now)) }
 {
-    let mut instances = Instances {
-        texts: Names::new(alloc),
-        spellings: TextList::new(alloc),
-        rows: Vec::new(alloc),
-        pin_nets: Vec::new(alloc),
-    };
-    let mut nets = Vec::new(alloc);
-    for i in 0..design.walk.met().len() {
-        if design.walk.met()[i].lower.is_none() {
-            match add_instance(alloc, design, joints, bits, i, &mut nets, &mut instances) {
-                Ok(()) => {}
-                Err(end) => return Err(end),
-            }
-        }
+    let instances = all_instances(alloc, design, joints, bits)?;
+    match check_names(alloc, &instances.texts) {
+        Ok(()) => Ok(instances),
+        Err(end) => Err(end),
     }
-    Ok(instances)
 }

@@ -13,13 +13,13 @@ ghost use Rattle.netlist_link.specs.PortRows.{kept_port, ports_in, ArePortTables
 use crate::cell_pins::CellPins;
 use crate::checking::Design;
 use crate::ends::LinkEnd;
+use crate::flat_texts::FlatTexts;
 use crate::grouping::{EndOn, KeptEnd, by_net};
 use crate::instances::Instances;
 use crate::ports::Ports;
 use cell_models::Direction;
 use edge_io::lists::{push, to_u32};
 use edge_io::{OutOfMemory, Text};
-use name_table::{NameId, Names};
 use std::alloc::Global;
 
 // Puts a port at the end, if it is of this way.
@@ -170,17 +170,16 @@ pub(crate) fn driven_ends(
 #[tactic(auto, using(crate::specs::KeptEnds::several_drive_it, crate::specs::KeptEnds::no_memory_for_it))]
 fn driver_of(
     alloc: Global,
-    nets: &Names,
+    nets: &FlatTexts,
     n: usize,
     ends: &[KeptEnd],
 ) -> Result<Option<KeptEnd>, LinkEnd>
-    requires within { n < length nets.now }
-    requires few { n < 2 ^ 32 }
+    requires { n < length nets.now }
     ensures alone { IfOk result (λ driver. option_to_list driver ≡ ends.now) }
     ensures several { IfErr result (λ end. IsDriverEnd nets.now n (length ends.now) end) }
 {
     if ends.len() > 1 {
-        let text = Text::from_bytes(alloc, nets.text(NameId(n as u32)))?;
+        let text = Text::from_bytes(alloc, nets.text(n))?;
         return Err(LinkEnd::SeveralDrivers(text));
     }
     Ok(ends.first().copied())
@@ -190,7 +189,7 @@ fn driver_of(
 #[tactic(auto, using(crate::specs::KeptEnds::no_memory_for))]
 pub(crate) fn drivers_of(
     alloc: Global,
-    nets: &Names,
+    nets: &FlatTexts,
     driving: &[EndOn],
 ) -> Result<Vec<Option<KeptEnd>>, LinkEnd>
     requires few { length driving.now < 2 ^ 32 }

@@ -6,11 +6,11 @@ ghost use Rattle.netlist_link.specs.Grouping.{kept_at};
 ghost use Rattle.netlist_link.specs.declared.ends.End.TheVariants.{Port};
 
 use crate::ends::End;
+use crate::flat_texts::FlatTexts;
 use crate::grouping::{EndsByNet, KeptEnd};
 use crate::instances::Instances;
 use crate::ports::Ports;
 use edge_io::{Text, TextList};
-use name_table::{NameId, Names};
 use std::marker::Model;
 
 /// A flat netlist. Contracts see its instances, nets and ports. All count from 0.
@@ -18,7 +18,7 @@ use std::marker::Model;
 pub struct Netlist {
     pub(crate) instances: Instances,
     pub(crate) ports: Ports,
-    pub(crate) net_texts: Names,
+    pub(crate) net_texts: FlatTexts,
     /// what drives each net
     pub(crate) drivers: Vec<Option<KeptEnd>>,
     /// what each net drives
@@ -66,7 +66,7 @@ impl Netlist {
         requires { i < length self.now.instances }
         ensures { result.now ≡ (instance_at self.now i).text }
     {
-        self.instances.texts.text(NameId(i as u32))
+        self.instances.texts.text(i)
     }
 
     /// The path of an instance as SDF spells it.
@@ -116,7 +116,7 @@ impl Netlist {
         requires { n < length self.now.nets }
         ensures { result.now ≡ (net_at self.now n).text }
     {
-        self.net_texts.text(NameId(n as u32))
+        self.net_texts.text(n)
     }
 
     /// What drives a net: an output pin of an instance or an input port of the design.

@@ -1,4 +1,4 @@
-use Rattle.std.proofs.Common.{ℕ, ◌≤◌, ◌^◌, List, length, sym, subst}
+use Rattle.std.proofs.Common.{ℕ, List, length, sym, subst}
 use Rattle.netlist_link.specs.Grouping.{AreOnNets, IsByNet}
 use Rattle.netlist_link.specs.KeptEnds.{AreDrivers, IsDriversEnd}
 use Rattle.netlist_link.specs.declared.grouping.EndOn.{EndOn}
@@ -17,7 +17,7 @@ drivers_of-requires-clause-on c = subst (λ (ends : List EndOn). AreOnNets (leng
     (c.in_ok-driving.ensures.are c.requires.design.cells c.requires.design.is.pins))
 
 pub by_net-requires-clause-on : goal.by_net-requires-clause-on
-by_net-requires-clause-on c = subst (λ (nets : ℕ). AreOnNets nets c.as_slice-2.result.now) (sym c.len.ensures.len)
+by_net-requires-clause-on c = subst (λ (nets : ℕ). AreOnNets nets c.as_slice-2.result.now) (sym c.len.ensures)
     (subst (λ (ends : List EndOn). AreOnNets (length c.args.parts.net_texts) ends) (sym c.as_slice-2.ensures.value)
     (driven_on c.args.design.now c.requires.design c.args.parts c.requires.parts c.in_ok-driven.driven.items
     (c.in_ok-driven.ensures.are c.requires.design.cells c.requires.design.is.pins)))
@@ -32,13 +32,13 @@ invariant_of-result c = tables_fit c.args.design.now c.requires.design c.args.pa
     c.in_ok-driving.driving.items c.in_ok-driven.driven.items
     (subst (λ (ends : List EndOn). AreDrivers (length c.args.parts.net_texts) ends c.in-Ok.drivers.items) c.as_slice.ensures.value c.in-Ok.ensures.drivers)
     (subst (λ (ends : List EndOn). IsByNet (length c.args.parts.net_texts) ends c.in_ok-sinks.sinks) c.as_slice-2.ensures.value
-    (subst (λ (nets : ℕ). IsByNet nets c.as_slice-2.result.now c.in_ok-sinks.sinks) c.len.ensures.len c.in_ok-sinks.ensures))
-    (subst (λ (n : ℕ). n ≤ 2 ^ 30) c.len.ensures.len c.len.ensures.most) c.in_ok-check_count.ensures c.in_ok-driven.ensures.few
+    (subst (λ (nets : ℕ). IsByNet nets c.as_slice-2.result.now c.in_ok-sinks.sinks) c.len.ensures c.in_ok-sinks.ensures))
+    c.in_ok-check_counts.ensures.nets c.in_ok-check_counts.ensures.instances c.in_ok-driven.ensures.few
 
 pub returns-clause-linked : goal.returns-clause-linked
 returns-clause-linked c = makes_netlist c.args.design.now c.args.parts c.requires.parts c.requires.faultless c.in-Ok.drivers.items c.in_ok-sinks.sinks
     c.in_ok-driving.driving.items c.in_ok-driven.driven.items
     (subst (λ (ends : List EndOn). AreDrivers (length c.args.parts.net_texts) ends c.in-Ok.drivers.items) c.as_slice.ensures.value c.in-Ok.ensures.drivers)
     (subst (λ (ends : List EndOn). IsByNet (length c.args.parts.net_texts) ends c.in_ok-sinks.sinks) c.as_slice-2.ensures.value
-    (subst (λ (nets : ℕ). IsByNet nets c.as_slice-2.result.now c.in_ok-sinks.sinks) c.len.ensures.len c.in_ok-sinks.ensures))
+    (subst (λ (nets : ℕ). IsByNet nets c.as_slice-2.result.now c.in_ok-sinks.sinks) c.len.ensures c.in_ok-sinks.ensures))
     c.in_ok-driving.ensures.are c.in_ok-driven.ensures.are

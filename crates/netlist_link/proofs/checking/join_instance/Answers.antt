@@ -1,7 +1,8 @@
-use Rattle.std.proofs.Common.{◌≡◌, ℕ, ◌+◌, List, length, get_or, sym, ap, ap₂, ◌∙◌, subst, arith}
+use Rattle.std.proofs.Common.{◌≡◌, ℕ, ◌+◌, List, length, get_or, refl, sym, ap, ap₂, ◌∙◌, subst, arith}
 use Rattle.std.specs.Prelude.{slice_get, Option, Some, IfSome}
 use Rattle.std.proofs.lemmas.Option.{slice_get-get_or}
 use Rattle.verilog_netlist.specs.NetModules.{NetConnection, instance_at, no_connection, bits_in}
+use Rattle.netlist_link.specs.Clashes.{text_of}
 use Rattle.netlist_link.specs.Designs.{number_here, connections_of, IsFirstOf, AreJoined}
 use Rattle.netlist_link.specs.declared.checking.KeptJoint.{KeptJoint}
 use Rattle.netlist_link.specs.declared.ends.LinkEnd.{LinkEnd}
@@ -22,8 +23,8 @@ loop-c-preserved c = λ cells are distinct place.
     let is : get_or (instance_at d.modules.now c.place_of-m.result.0 c.place_of-m.result.1).connections n no_connection ≡ connection =
     ap (λ (l : List NetConnection). get_or l n no_connection) same in
     let made = c.in-Ok.ensures.made in
-    let faults = faults_are d i cells connection c.in_ok-text.text c.port-port.result.now c.bit_count-bits.result c.joint_at-joint.result
-    c.in_ok-text.ensures (c.port-port.ensures ∙ ap (λ (x : NetConnection). x.port) is)
+    let faults = faults_are d i cells connection (text_of d i) c.port-port.result.now c.bit_count-bits.result c.joint_at-joint.result
+    refl (c.port-port.ensures ∙ ap (λ (x : NetConnection). x.port) is)
     (c.bit_count-bits.ensures ∙ ap (λ (x : NetConnection). length (bits_in x.runs)) is) (c.joint_at-joint.ensures.joint cells are distinct place) in
     let number : c.in_ok-to_u32.field-0 ≡ number_here cells d i connection.port =
     c.in_ok-to_u32.ensures ∙ made.number_is
@@ -47,8 +48,8 @@ returns-in-Err-clause-refused c = λ cells are distinct place.
     slice_get-get_or (connections_of d i) n no_connection (let test = c.loop-c-test.true in omega arith) in
     let is : get_or (instance_at d.modules.now c.place_of-m.result.0 c.place_of-m.result.1).connections n no_connection ≡ connection =
     ap (λ (l : List NetConnection). get_or l n no_connection) same in
-    let faults = faults_are d i cells connection c.in_ok-text.text c.port-port.result.now c.bit_count-bits.result c.joint_at-joint.result
-    c.in_ok-text.ensures (c.port-port.ensures ∙ ap (λ (x : NetConnection). x.port) is)
+    let faults = faults_are d i cells connection (text_of d i) c.port-port.result.now c.bit_count-bits.result c.joint_at-joint.result
+    refl (c.port-port.ensures ∙ ap (λ (x : NetConnection). x.port) is)
     (c.bit_count-bits.ensures ∙ ap (λ (x : NetConnection). length (bits_in x.runs)) is) (c.joint_at-joint.ensures.joint cells are distinct place) in
     refused_here d i cells n connection c.args.numbers.now.items c.loop-c.numbers.items c.in-Err.end here (c.loop-c.invariant cells are distinct place)
     (subst (λ (all : List LinkEnd). IsFirstOf all c.in-Err.end) faults c.in-Err.ensures.refused)

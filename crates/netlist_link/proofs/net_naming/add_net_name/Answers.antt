@@ -1,13 +1,14 @@
-use Rattle.std.proofs.Common.{◌≡◌, ℕ, ◌<◌, ◌++◌, List, get_or, Option, sym, ap, ap₂, ◌∙◌, subst}
+use Rattle.std.proofs.Common.{◌≡◌, ℕ, ◌<◌, ◌++◌, ◌∷◌, [], List, get_or, Option, sym, ap, ap₂, ◌∙◌, subst}
+use Rattle.std.specs.Prelude.{OnOk}
 use Rattle.verilog_netlist.specs.NetModules.{name_at}
 use Rattle.verilog_netlist.specs.Ranges.{whole_width}
 use Rattle.verilog_netlist.specs.declared.entries.Range.{Range}
 use Rattle.hierarchy.specs.declared.walking.Visit.{Visit}
-use Rattle.netlist_link.specs.FlatNames.{path_text, bit_suffix, net_name}
+use Rattle.netlist_link.specs.FlatNames.{bit_suffix, net_name, net_text}
 use Rattle.netlist_link.specs.PathTables.{top_of, no_visit}
 use Rattle.netlist_link.specs.BitTables.{path_of, module_of, net_bit_of}
 use Rattle.netlist_link.proofs.NetTexts.{module_there, name_there, within_there, path_there}
-use Rattle.netlist_link.proofs.net_naming.net_text.Goals as goal
+use Rattle.netlist_link.proofs.net_naming.add_net_name.Goals as goal
 
 pub name-requires-clause-within : goal.name-requires-clause-within
 name-requires-clause-within c =
@@ -50,7 +51,10 @@ returns c =
     ∙ module_there d c.requires.walk net.visit net.name net.bit c.requires.bit in
     let name_is = c.name.ensures ∙ ap (λ (m : ℕ). (name_at modules m net.name).text) module_is in
     let range_is = c.range.ensures ∙ ap (λ (m : ℕ). (name_at modules m net.name).range) module_is in
-    let path_is = path_there d c.requires.walk net.visit net.name net.bit c.requires.bit c.requires.paths in
-    c.in_ok-push_bit.ensures
-    ∙ ap (λ (l : List ℕ). l ++ bit_suffix c.range.result net.bit) (c.in_ok-text.ensures ∙ ap₂ (λ (a b : List ℕ). a ++ b) path_is name_is)
-    ∙ ap (λ (r : Option Range). (path_text modules top (path_of d net.visit) ++ (net_name modules top (net_bit_of d net)).text) ++ bit_suffix r net.bit) range_is
+    let path_is = c.text-path.ensures ∙ path_there d c.requires.walk net.visit net.name net.bit c.requires.bit c.requires.paths in
+    let index_is : c.bytes.result.now ≡ bit_suffix (net_name modules top (net_bit_of d net)).range net.bit =
+    c.bytes.ensures ∙ c.in_ok-push_bit.ensures ∙ ap (λ (l : List ℕ). l ++ bit_suffix c.range.result net.bit) c.new-index.ensures
+    ∙ ap (λ (r : Option Range). bit_suffix r net.bit) range_is in
+    let text_is : c.text-path.result.now ++ c.name.result.now ++ c.bytes.result.now ≡ net_text modules top (net_bit_of d net) =
+    ap₂ (λ (a b : List ℕ). a ++ b) (ap₂ (λ (a b : List ℕ). a ++ b) path_is name_is) index_is in
+    subst (λ (text : List ℕ). OnOk c.push.result (c.push.new.self ≡ c.args.names.now ++ text ∷ [])) text_is c.push.ensures
