@@ -74,7 +74,7 @@ impl<'a, 'r, 'f, C: CornerSet> NetInputs<'a, 'r, 'f, C> {
         let tail = Text::from_bytes(alloc, pin.name.bytes())?;
         let sdf = pin_sdf(
             alloc,
-            self.netlist.instance_sdf(instance).bytes(),
+            self.netlist.instance_sdf(instance),
             pin.name.bytes(),
         )?;
         Ok(NodeName {

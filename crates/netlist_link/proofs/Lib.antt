@@ -18,6 +18,7 @@ pub mod KnownCells
 pub mod WalkStarts
 pub mod Clashing
 pub mod TextPieces
+pub mod PlainNames
 pub mod NetTexts
 pub mod PinNets
 pub mod PinNumbers

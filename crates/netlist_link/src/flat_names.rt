@@ -1,7 +1,7 @@
 //! The names of a flat design.
-ghost use Rattle.std.specs.Prelude.{◌≡◌, ℕ, ◌+◌, ◌<◌, ◌≤◌, ◌++◌, ◌∷◌, [], length, map, slice_get, Some, ◌^◌, IfOk, IfSome, OnOk};
+ghost use Rattle.std.specs.Prelude.{◌≡◌, true, ℕ, ◌+◌, ◌<◌, ◌≤◌, ◌++◌, ◌∷◌, [], length, map, slice_get, Some, ◌^◌, IfOk, IfSome, OnOk};
 ghost use Rattle.edge_io.specs.Bytes.{slash, left_bracket, right_bracket};
-ghost use Rattle.name_table.specs.SdfNames.{part};
+ghost use Rattle.name_table.specs.SdfNames.{is_plain, part};
 ghost use Rattle.hierarchy.specs.Uses.{IsWalkable};
 ghost use Rattle.hierarchy.specs.Walks.{visits};
 ghost use Rattle.hierarchy.specs.WalkTables.{AreTablesOfWalk};
@@ -9,6 +9,7 @@ ghost use Rattle.verilog_netlist.specs.ModuleNames.{range_of};
 ghost use Rattle.netlist_link.specs.FlatNames.{path_text, path_sdf, index_at, bit_suffix};
 ghost use Rattle.netlist_link.specs.PathTables.{IsWalk, top_of, ArePaths, HoldsPaths, text_at, spelling_at};
 
+use crate::flat_texts::FlatTexts;
 use edge_io::{OutOfMemory, Text, TextList};
 use hierarchy::Walk;
 use itoa::Buffer;
@@ -75,6 +76,44 @@ pub(crate) fn flat_spelling(
 {
     let part = escape_sdf(alloc, name)?;
     joined(alloc, paths.spelling(visit), part.bytes())
+}
+
+// A letter, a digit or `_`.
+fn is_plain_byte(byte: u8) -> bool
+    ensures { result ≡ is_plain byte }
+{
+    byte.is_ascii_alphanumeric() || byte == b'_'
+}
+
+// Whether each byte of a name is a letter, a digit or `_`. SDF spells such a name as it is.
+#[tactic(auto, using(crate::proofs::PlainNames::plain_more))]
+fn is_plain_name(name: &[u8]) -> bool
+    ensures { result ≡ true → part name.now ≡ name.now }
+{
+    for &byte in name {
+        if !is_plain_byte(byte) {
+            return false;
+        }
+    }
+    true
+}
+
+/// Puts a name behind a path at the end, as SDF spells the name. Few names are spelled otherwise than they are.
+pub(crate) fn push_spelled(
+    alloc: Global,
+    path: &[u8],
+    name: &[u8],
+    spellings: &mut FlatTexts,
+) -> Result<(), OutOfMemory>
+    ensures { OnOk result (spellings.new ≡ spellings.old ++ (path.now ++ part name.now) ∷ []) }
+{
+    if is_plain_name(name) {
+        spellings.push(path, name, b"")?;
+        return Ok(());
+    }
+    let spelled = escape_sdf(alloc, name)?;
+    spellings.push(path, spelled.bytes(), b"")?;
+    Ok(())
 }
 
 // Puts the path of one visited module more at the ends.

@@ -14,11 +14,11 @@ ghost use Rattle.netlist_link.specs.InstanceRows.{connection_of, IsFirstNet, Are
 use crate::checking::{Design, Joints, place_of};
 use crate::ends::LinkEnd;
 use crate::flat_bits::FlatBits;
-use crate::flat_names::flat_spelling;
+use crate::flat_names::push_spelled;
 use crate::flat_texts::FlatTexts;
 use crate::name_clashes::check_names;
+use edge_io::OutOfMemory;
 use edge_io::lists::{push, to_u32};
-use edge_io::{OutOfMemory, Text, TextList};
 use std::alloc::Global;
 
 /// An instance of a cell: the place of its cell, that of its first pin, and how many pins it has.
@@ -33,7 +33,7 @@ pub(crate) struct InstanceRow {
 #[derive(Drop)]
 pub(crate) struct Instances {
     pub texts: FlatTexts,
-    pub spellings: TextList,
+    pub spellings: FlatTexts,
     pub rows: Vec<InstanceRow>,
     pub pin_nets: Vec<Option<u32>>,
 }
@@ -134,35 +134,29 @@ fn add_row(
     Ok(())
 }
 
-// The path of an instance that is met, as SDF spells it.
-fn instance_spelling(alloc: Global, design: &Design<'_>, i: usize) -> Result<Text, OutOfMemory>
+// Puts the path of an instance that is met at the ends, as text and as SDF spells it.
+fn add_names(
+    alloc: Global,
+    design: &Design<'_>,
+    i: usize,
+    texts: &mut FlatTexts,
+    spellings: &mut FlatTexts,
+) -> Result<(), OutOfMemory>
     requires walk { IsWalk design.now.modules.now design.now.walk.now }
     requires paths { ArePaths design.now.modules.now (top_of design.now.walk.now) design.now.paths.now }
     requires within { i < length design.now.walk.now.met }
-    ensures { IfOk result (λ text. text ≡ instance_sdf design.now.modules.now (top_of design.now.walk.now) (met_of design.now i)) }
-{
-    let (m, k) = place_of(design, i);
-    let met = design.walk.met();
-    flat_spelling(
-        alloc,
-        design.paths,
-        met[i].visit as usize,
-        design.modules.instance_name(m, k),
-    )
-}
-
-// Puts the path of an instance that is met at the end.
-fn add_text(design: &Design<'_>, i: usize, texts: &mut FlatTexts) -> Result<(), OutOfMemory>
-    requires walk { IsWalk design.now.modules.now design.now.walk.now }
-    requires paths { ArePaths design.now.modules.now (top_of design.now.walk.now) design.now.paths.now }
-    requires within { i < length design.now.walk.now.met }
-    ensures { OnOk result (texts.new
+    ensures texts { OnOk result (texts.new
         ≡ texts.old ++ instance_text design.now.modules.now (top_of design.now.walk.now) (met_of design.now i) ∷ []) }
+    ensures spellings { OnOk result (spellings.new
+        ≡ spellings.old ++ instance_sdf design.now.modules.now (top_of design.now.walk.now) (met_of design.now i) ∷ []) }
 {
     let (m, k) = place_of(design, i);
     let met = design.walk.met();
-    let path = design.paths.text(met[i].visit as usize);
-    texts.push(path, design.modules.instance_name(m, k), b"")
+    let visit = met[i].visit as usize;
+    let name = design.modules.instance_name(m, k);
+    texts.push(design.paths.text(visit), name, b"")?;
+    push_spelled(alloc, design.paths.spelling(visit), name, spellings)?;
+    Ok(())
 }
 
 // Puts one instance of a cell more at the end.
@@ -186,9 +180,13 @@ fn add_instance(
     ensures { OnOk result (IsInstanceMore design.now i (slice_index joints.now.places.items i) instances.old instances.new) }
 {
     add_row(design, joints, bits, i, nets, instances)?;
-    let spelling = instance_spelling(alloc, design, i)?;
-    instances.spellings.push(spelling)?;
-    add_text(design, i, &mut instances.texts)
+    add_names(
+        alloc,
+        design,
+        i,
+        &mut instances.texts,
+        &mut instances.spellings,
+    )
 }
 
 // No instance yet, with room for so many.
@@ -199,7 +197,7 @@ fn no_instances(alloc: Global, many: usize) -> Result<Instances, OutOfMemory>
 {
     Ok(Instances {
         texts: FlatTexts::with_room(alloc, many)?,
-        spellings: TextList::new(alloc),
+        spellings: FlatTexts::with_room(alloc, many)?,
         rows: Vec::with_capacity(alloc, many)?,
         pin_nets: Vec::new(alloc),
     })

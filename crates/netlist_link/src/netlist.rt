@@ -70,11 +70,11 @@ impl Netlist {
     }
 
     /// The path of an instance as SDF spells it.
-    pub fn instance_sdf(&self, i: usize) -> &Text
+    pub fn instance_sdf(&self, i: usize) -> &[u8]
         requires { i < length self.now.instances }
         ensures { result.now ≡ (instance_at self.now i).sdf }
     {
-        text_at(&self.instances.spellings, i)
+        self.instances.spellings.text(i)
     }
 
     /// The place of an instance's cell.

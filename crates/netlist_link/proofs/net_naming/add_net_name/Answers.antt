@@ -6,7 +6,7 @@ use Rattle.verilog_netlist.specs.declared.entries.Range.{Range}
 use Rattle.hierarchy.specs.declared.walking.Visit.{Visit}
 use Rattle.netlist_link.specs.FlatNames.{bit_suffix, net_name, net_text}
 use Rattle.netlist_link.specs.PathTables.{top_of, no_visit}
-use Rattle.netlist_link.specs.BitTables.{path_of, module_of, net_bit_of}
+use Rattle.netlist_link.specs.BitTables.{module_of, net_bit_of}
 use Rattle.netlist_link.proofs.NetTexts.{module_there, name_there, within_there, path_there}
 use Rattle.netlist_link.proofs.net_naming.add_net_name.Goals as goal
 

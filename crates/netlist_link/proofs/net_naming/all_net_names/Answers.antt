@@ -1,8 +1,7 @@
-use Rattle.std.proofs.Common.{◌≡◌, ◌∷◌, ◌++◌, [], ℕ, List, length, take, sym, ap, ◌∙◌, subst, arith}
-use Rattle.std.proofs.lemmas.List.{take_all}
+use Rattle.std.proofs.Common.{sym, subst}
 use Rattle.netlist_link.specs.BitTables.{AreNetPlaces}
 use Rattle.netlist_link.specs.Clashes.{texts_of_nets}
-use Rattle.netlist_link.proofs.NetTexts.{bit_there, text_there, nets_count}
+use Rattle.netlist_link.proofs.NetTexts.{bit_there, text_there}
 use Rattle.netlist_link.proofs.Pushing.{list_step}
 use Rattle.netlist_link.proofs.net_naming.all_net_names.Goals as goal
 
