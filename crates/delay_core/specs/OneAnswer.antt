@@ -14,13 +14,14 @@ use Rattle.delay_core.specs.LinkPhase.{LinksDesign}
 use Rattle.delay_core.specs.SpefPhases.{sole_corner, DesignNets, ReadsNets}
 use Rattle.delay_core.specs.UsePhase.{UsesCells}
 use Rattle.delay_core.specs.declared.refusal.Refusal.{Refusal}
-use Rattle.delay_core.specs.declared.refusal.Refusal.TheVariants.{Recursive, Mesh}
+use Rattle.delay_core.specs.declared.refusal.Refusal.TheVariants.{Recursive, Mesh, Loop}
 
--- What a verdict leaves free: which of the resistors that cut no node off is told of a net's mesh, and which of the modules that contain
--- themselves.
+-- What a verdict leaves free: which of the resistors that cut no node off is told of a net's mesh, which of the modules that contain
+-- themselves, and which of the loops of arcs.
 pub data IsFreeChoice : Refusal → Refusal → Type 0 where
   some_resistor : (net : List ℕ) (one other : ℕ) → IsFreeChoice (Mesh net one) (Mesh net other)
   some_module : (one other : List ℕ) → IsFreeChoice (Recursive one) (Recursive other)
+  some_loop : (one other : List (List ℕ)) → IsFreeChoice (Loop one) (Loop other)
 
 -- two refusals are one, but for what is left free
 abbrev pub SameRefusal : Refusal → Refusal → Type 0

@@ -1,12 +1,15 @@
 -- How many steps the rows of a SPEF file take at the most: the work that its nets give.
-use Rattle.std.specs.Prelude.{ℕ, ◌+◌, ◌≤◌, Bool, true, false, List, Ok}
+use Rattle.std.specs.Prelude.{ℕ, ◌+◌, ◌≤◌, Bool, true, false, IsTrue, List, Result, Ok, Err}
 use Rattle.std.specs.List.{sum_by}
 use Rattle.corner_set.specs.declared.pick.Pick.{Pick}
 use Rattle.spef_text.specs.SpefFiles.{SpefText}
 use Rattle.spef_text.specs.Heads.{HeadText}
 use Rattle.spef_nets.specs.NetElements.{NetElements}
+use Rattle.verdict_phases.specs.declared.ends.PhaseEnd.{PhaseEnd}
+use Rattle.verdict_phases.specs.declared.ends.PhaseEnd.TheVariants as phase
 use Rattle.delay_core.specs.NetRows.{most_steps}
 use Rattle.delay_core.specs.SpefPhases.{sole_corner, ParsesSpef, HeadsSpef, NetsSpef}
+use Rattle.delay_core.specs.declared.refusal.FileKey.{FileKey}
 use Rattle.delay_core.specs.declared.refusal.LimitKind.TheVariants as limit
 use Rattle.delay_core.specs.declared.refusal.Refusal.{Refusal}
 use Rattle.delay_core.specs.declared.refusal.Refusal.TheVariants as refusal
@@ -47,3 +50,10 @@ is_early (refusal.Limit (limit.Net net)) = false
 is_early (refusal.NoDriver net) = false
 is_early (refusal.ManyDrivers net) = false
 is_early _ = true
+
+-- a fact of an end that comes before a tree is built or a table is looked up
+abbrev pub OnEarly : {A : Type 0} → Result A (PhaseEnd Refusal FileKey) → Type 0 → Type 0
+OnEarly (Ok value) fact = Unit {0}
+OnEarly (Err (phase.Refused refusal)) fact = IsTrue (is_early refusal) → fact
+OnEarly (Err (phase.ReadFault key)) fact = fact
+OnEarly (Err phase.OutOfMemory) fact = Unit {0}

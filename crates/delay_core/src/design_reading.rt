@@ -65,6 +65,16 @@ impl<C: CornerSet> Design<C> {
     {
         &self.cells
     }
+
+    /// Takes the design apart into its netlist and its cells.
+    pub fn into_parts(self) -> (Netlist, CellSets<C>)
+        ensures netlist { result.0 ≡ self.netlist }
+        ensures cells { result.1 ≡ self.cells }
+        ensures linked { IsLinked result.1 result.0 }
+    {
+        let Design { netlist, cells } = self;
+        (netlist, cells)
+    }
 }
 
 /// Reads the modules of the bytes of a netlist, then the cells that the module of this name uses, and then the libraries of all corners.

@@ -2,10 +2,11 @@
 ghost use Rattle.std.specs.Prelude.{◌^◌, ◌<◌, length};
 ghost use Rattle.verdict_phases.specs.Phases.{FollowsNoFile};
 ghost use Rattle.spef_text.specs.Heads.{IsHeadOf};
-ghost use Rattle.delay_core.specs.SpefPhases.{sole_corner, ParsesSpef, HeadsSpef, NetsSpef};
+ghost use Rattle.spef_nets.specs.Drafts.{corners_of};
+ghost use Rattle.delay_core.specs.SpefPhases.{ParsesSpef, HeadsSpef, NetsSpef};
 
 use crate::refusal::{IndexKind, NumberKind, Refusal};
-use corner_set::{Pick, Single};
+use corner_set::{CornerSet, Pick};
 use spef_nets::{SectionEnd, Sections, read_sections};
 use spef_text::{Head, HeadEnd, SpefEnd, SpefFile, parse, read_head};
 use std::alloc::Global;
@@ -46,16 +47,16 @@ pub fn head_of(alloc: Global, file: &SpefFile) -> Result<Head, NoFileEnd<Refusal
     }
 }
 
-/// Reads the nets of all sections of a SPEF file at one corner, where this member of each triple counts.
+/// Reads the nets of all sections of a SPEF file at each corner, where this member of each triple counts if the run has one corner.
 #[tactic(auto, using(crate::specs::SpefPhases::are_nets, crate::specs::SpefPhases::unknown_index, crate::specs::SpefPhases::bad_number, crate::specs::SpefPhases::value_too_large, crate::specs::SpefPhases::repeated_net, crate::specs::SpefPhases::foreign_coupling))]
-pub fn nets_of<'r, 'f>(
+pub fn nets_of<'r, 'f, C: CornerSet>(
     alloc: Global,
     file: &'r SpefFile<'f>,
     head: &'r Head,
     pick: Pick,
-) -> Result<Sections<'r, 'f, Single>, NoFileEnd<Refusal>>
+) -> Result<Sections<'r, 'f, C>, NoFileEnd<Refusal>>
     requires { IsHeadOf file.now head.now }
-    ensures follows { FollowsNoFile (NetsSpef (sole_corner pick) file.now head.now) result }
+    ensures follows { FollowsNoFile (NetsSpef (corners_of C.COUNT C.number_of C.member_of pick) file.now head.now) result }
 {
     match read_sections(alloc, file, head, pick) {
         Ok(sections) => {

@@ -4,6 +4,7 @@ ghost use Rattle.verdict_phases.specs.Phases.{FollowsNoFile};
 ghost use Rattle.spef_text.specs.Heads.{IsHeadOf};
 ghost use Rattle.delay_core.specs.NetRows.{most_steps, AddsNetRows};
 ghost use Rattle.delay_core.specs.Refused.{OnRefusal};
+ghost use Rattle.delay_core.specs.SpefPhases.{sole_corner, NetsSpef};
 ghost use Rattle.delay_core.specs.WireNets.{NetGives, RowsOf};
 ghost use Rattle.delay_core.specs.WireRows.{SectionsGive, TextGives};
 ghost use Rattle.delay_core.specs.SpefWork.{total_steps, SectionsWork, TextWork, IsWithin, is_early};
@@ -118,6 +119,19 @@ fn rows_of_nets<L: Ledger>(
     Ok(rows.finish())
 }
 
+// The nets of all sections of a SPEF file at one corner, where this member of each triple counts.
+fn sole_nets<'r, 'f>(
+    alloc: Global,
+    file: &'r SpefFile<'f>,
+    head: &'r Head,
+    pick: Pick,
+) -> Result<Sections<'r, 'f, Single>, NoFileEnd<Refusal>>
+    requires { IsHeadOf file.now head.now }
+    ensures follows { FollowsNoFile (NetsSpef (sole_corner pick) file.now head.now) result }
+{
+    nets_of::<Single>(alloc, file, head, pick)
+}
+
 // Reads the nets of all sections of a SPEF file, where this member of each triple counts, and then adds the rows of each.
 #[tactic(auto, using(crate::specs::WireRows::faulty_section, crate::specs::WireRows::of_nets, crate::proofs::SpefWork::no_sections_work, crate::proofs::SpefWork::sections_work))]
 fn wire_rows_of_sections<L: Ledger>(
@@ -132,7 +146,7 @@ fn wire_rows_of_sections<L: Ledger>(
     ensures steps { IsWithin (SectionsWork pick file.now head.now) steps.old steps.new }
     ensures no_steps { OnRefusal result (λ refusal. IsTrue (is_early refusal) → steps.new ≡ steps.old) }
 {
-    let nets = nets_of(alloc, file, head, pick)?;
+    let nets = sole_nets(alloc, file, head, pick)?;
     rows_of_nets(alloc, head, &nets, steps)
 }
 

@@ -3,14 +3,11 @@ use Rattle.std.specs.Prelude.{◌≡◌, ℕ, ◌*◌, IsTrue, List, length, Opt
 use Rattle.edge_io.specs.Holding.{Held}
 use Rattle.corner_set.specs.declared.pick.Pick.{Pick}
 use Rattle.verdict_phases.specs.Phases.{Go}
-use Rattle.verdict_phases.specs.declared.ends.PhaseEnd.{PhaseEnd}
 use Rattle.verdict_phases.specs.declared.ends.PhaseEnd.TheVariants as phase
 use Rattle.gdc_words.specs.declared.commands.Command.{Command}
 use Rattle.gdc_words.specs.declared.commands.Command.TheVariants.{Wires, Show, Lookup, Flat, Help, Version}
 use Rattle.gdc_words.specs.declared.commands.Key.TheVariants as key
 use Rattle.gdc_words.specs.CommandLine.{Request, Asks, value_of, pick_from}
-use Rattle.delay_core.specs.declared.refusal.FileKey.{FileKey}
-use Rattle.delay_core.specs.declared.refusal.Refusal.{Refusal}
 use Rattle.gdc_run.specs.declared.outcome.Outcome.{Outcome}
 use Rattle.gdc_run.specs.declared.outcome.Outcome.TheVariants as outcome
 use Rattle.gdc_run.specs.declared.top.End.{End}
@@ -54,12 +51,6 @@ pub data WordsWork (words : List (List ℕ)) (held : Option Held) : ℕ → Type
       → WordsWork words held work
 
 -- a fact of an end that comes before a tree is built
-abbrev pub OnEarly : {A : Type 0} → Result A (PhaseEnd Refusal FileKey) → Type 0 → Type 0
-OnEarly (Ok value) fact = Unit {0}
-OnEarly (Err (phase.Refused refusal)) fact = IsTrue (is_early refusal) → fact
-OnEarly (Err (phase.ReadFault key)) fact = fact
-OnEarly (Err phase.OutOfMemory) fact = Unit {0}
-
 abbrev pub OnEarlyEnd : {A : Type 0} → Result A End → Type 0 → Type 0
 OnEarlyEnd (Ok value) fact = Unit {0}
 OnEarlyEnd (Err (end.Usage fault)) fact = fact

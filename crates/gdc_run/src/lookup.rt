@@ -6,8 +6,8 @@ ghost use Rattle.verdict_phases.specs.Phases.{Follows, FollowsNoFile};
 ghost use Rattle.delay_core.specs.Refused.{AtReadFault, OnRefusal};
 ghost use Rattle.delay_core.specs.declared.refusal.FileKey.TheVariants.{Lib};
 ghost use Rattle.gdc_run.specs.Verdict.{ReadsArcs, LookupGives};
-ghost use Rattle.delay_core.specs.SpefWork.{IsWithin, is_early};
-ghost use Rattle.gdc_run.specs.Work.{CellWork, LookupWork, OnEarly};
+ghost use Rattle.delay_core.specs.SpefWork.{IsWithin, OnEarly, is_early};
+ghost use Rattle.gdc_run.specs.Work.{CellWork, LookupWork};
 
 use crate::arc_rows::{ArcRows, Point, arc_rows};
 use delay_core::{FILE_LIMIT, FileKey, LimitKind, Refusal, model_cell, parse_library};

@@ -4,8 +4,8 @@ ghost use Rattle.verdict_phases.specs.Phases.{Follows};
 ghost use Rattle.delay_core.specs.Refused.{AtReadFault};
 ghost use Rattle.gdc_run.specs.Outcomes.{HasCause};
 ghost use Rattle.gdc_run.specs.Verdict.{CommandGives};
-ghost use Rattle.delay_core.specs.SpefWork.{IsWithin};
-ghost use Rattle.gdc_run.specs.Work.{CommandWork, OnEarly};
+ghost use Rattle.delay_core.specs.SpefWork.{IsWithin, OnEarly};
+ghost use Rattle.gdc_run.specs.Work.{CommandWork};
 
 use crate::arc_rows::Point;
 use crate::flat::flat;

@@ -6,8 +6,8 @@ ghost use Rattle.verdict_phases.specs.Phases.{Follows};
 ghost use Rattle.delay_core.specs.Refused.{AtReadFault};
 ghost use Rattle.delay_core.specs.declared.refusal.FileKey.TheVariants.{Spef};
 ghost use Rattle.gdc_run.specs.Verdict.{WiresGives};
-ghost use Rattle.delay_core.specs.SpefWork.{IsWithin};
-ghost use Rattle.gdc_run.specs.Work.{WiresWork, OnEarly};
+ghost use Rattle.delay_core.specs.SpefWork.{IsWithin, OnEarly};
+ghost use Rattle.gdc_run.specs.Work.{WiresWork};
 
 use corner_set::{Pick, Single};
 use delay_core::{FILE_LIMIT, FileKey, LimitKind, Refusal, wire_rows_of_file};

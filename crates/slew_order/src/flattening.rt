@@ -91,7 +91,7 @@ fn flat_at<C: CornerSet>(
 
 /// An arc of an instance as it is at a corner.
 #[tactic(auto, using(crate::proofs::Links::same_entry, crate::proofs::Links::input_at, crate::proofs::Links::pins_there, crate::proofs::Links::cell_there))]
-pub(crate) fn cell_arc<'a, C: CornerSet>(
+pub fn cell_arc<'a, C: CornerSet>(
     netlist: &Netlist,
     cells: &'a CellSets<C>,
     at: ArcAt,
