@@ -61,7 +61,7 @@ fn path_names<C: CornerSet>(
     let cells = design.cells();
     Ok(PathNames {
         cell: Text::from_bytes(alloc, design.cell_name(at.instance).bytes())?,
-        instance: Text::from_bytes(alloc, netlist.instance_sdf(at.instance).bytes())?,
+        instance: Text::from_bytes(alloc, netlist.instance_sdf(at.instance))?,
         from: pin_sdf(alloc, netlist, cells, at.instance, pins.from)?,
         to: pin_sdf(alloc, netlist, cells, at.instance, pins.to)?,
     })

@@ -44,7 +44,7 @@ fn pin_path<C: CornerSet>(
     ensures { IfOk result (λ text. text ≡ end_sdf cells.now netlist.now (Pin instance pin)) }
 {
     let name = pin_sdf(alloc, netlist, cells, instance, pin)?;
-    let mut path = Text::from_bytes(alloc, netlist.instance_sdf(instance).bytes())?;
+    let mut path = Text::from_bytes(alloc, netlist.instance_sdf(instance))?;
     path.push_all(b"/")?;
     path.push_all(name.bytes())?;
     Ok(path)
