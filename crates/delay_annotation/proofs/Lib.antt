@@ -1,0 +1,11 @@
+pub mod Agreeing
+pub mod Faults
+pub mod Following
+pub mod LinkedInputs
+pub mod NetEnds
+pub mod OneDelays
+pub mod OneSlews
+pub mod SinkEnds
+pub mod SlewEnds
+pub mod Work
+pub mod Timing

@@ -1,0 +1,14 @@
+-- The end of the slews is one of the design, and so is its refusal.
+use Rattle.std.proofs.Common.{unsigned_abs}
+use Rattle.slew_order.specs.Timings.{SlewSource, source_of}
+use Rattle.delay_annotation.specs.SlewPhase.{no_slews}
+use Rattle.delay_annotation.proofs.SlewEnds.{end_there}
+use Rattle.delay_annotation.proofs.slew_phase.find_slews.Goals as goal
+
+pub slew_refusal-requires-clause-there : goal.slew_refusal-requires-clause-there
+slew_refusal-requires-clause-there g c =
+    let source : SlewSource = source_of c.args.netlist.now c.args.cells.now g.C.CornerSet.COUNT c.args.nets.now c.args.settings.now.beyond c.args.settings.now.wire_slew (unsigned_abs c.args.settings.now.input_slew.0) in
+    end_there source c.in-Err.end c.requires.linked c.in-Err.ensures.end
+
+pub returns-in_ok-refusal-in-Err-clause-follows : goal.returns-in_ok-refusal-in-Err-clause-follows
+returns-in_ok-refusal-in-Err-clause-follows g c = no_slews c.in-Err.end c.in_ok-refusal-in-Err.refusal c.in-Err.ensures.end c.in_ok-refusal-in-Err.ensures

@@ -1,0 +1,123 @@
+//! The delays of a design, from its files.
+ghost use Rattle.std.specs.Prelude.{◌≡◌, ◌≤◌, ◌+◌, length, Ok, OnOk};
+ghost use Rattle.edge_io.specs.Counts.{RoseBy};
+ghost use Rattle.spef_nets.specs.Drafts.{corners_of};
+ghost use Rattle.verdict_phases.specs.Phases.{Follows};
+ghost use Rattle.delay_core.specs.DesignReading.{inputs_of};
+ghost use Rattle.delay_core.specs.Refused.{AtReadFault};
+ghost use Rattle.delay_core.specs.SpefWork.{IsWithin, OnEarly};
+ghost use Rattle.delay_core.specs.UsePhase.{UsesCells};
+ghost use Rattle.delay_annotation.specs.AnnotatedDesigns.{PartsAgree, with_delays_of};
+ghost use Rattle.delay_annotation.specs.Annotation.{AnnotatesFrom, Annotates, IsAnnotationFault, IsSpefFault};
+ghost use Rattle.delay_annotation.specs.AnnotationWork.{InputsWork, FilesWork};
+ghost use Rattle.delay_annotation.specs.DesignTiming.{AreInRange};
+
+use crate::annotated::Annotated;
+use crate::design_timing::{Delays, time_from_text};
+use crate::settings::{Files, Settings};
+use corner_set::CornerSet;
+use delay_core::{
+    Design, FILE_LIMIT, FileKey, Inputs, LimitKind, Refusal, link_inputs, read_inputs,
+};
+use edge_io::{Shelf, Steps};
+use std::alloc::Global;
+use std::sync::ledger::Ledger;
+use verdict_phases::{PhaseEnd, read_phase};
+
+// A design with delays of it.
+fn annotated_of<C: CornerSet>(design: Design<C>, delays: Delays<C>) -> Annotated<C>
+    requires { PartsAgree C.COUNT (with_delays_of design.netlist design.cells delays) }
+    ensures { result ≡ with_delays_of design.netlist design.cells delays }
+{
+    let (netlist, cells) = design.into_parts();
+    let Delays { rows, nets, slews } = delays;
+    Annotated {
+        rows,
+        netlist,
+        cells,
+        nets,
+        slews,
+    }
+}
+
+/// Links the inputs of a design, reads its SPEF file, and gives the design its delays. It opens the SPEF file alone, and only where the
+/// design is linked.
+///
+/// It makes at most 16 steps at each corner for each resistor, each capacitance to ground and each pin of the nets with a driver and a
+/// sink, and 160 for each pair of an arc of an instance and an edge that it has, whatever it answers; and none before all sections of the
+/// file are read.
+#[tactic(auto, using(crate::specs::Annotation::at_link, crate::specs::Annotation::at_spef, crate::specs::Annotation::at_timing, crate::specs::Annotation::with_delays, crate::proofs::LinkedInputs::have_small_pins, crate::proofs::LinkedInputs::are_named_apart, crate::proofs::Following::timing_goes, crate::proofs::Agreeing::agree, crate::proofs::Work::no_inputs_work, crate::proofs::Work::inputs_work))]
+pub fn annotate_from<C: CornerSet, H: Shelf, L: Ledger>(
+    alloc: Global,
+    shelf: &mut H,
+    inputs: &Inputs<'_>,
+    files: &Files,
+    settings: &Settings,
+    steps: &mut Steps<L>,
+) -> Result<Annotated<C>, PhaseEnd<Refusal, FileKey>>
+    requires uses { UsesCells inputs.now.modules settings.now.top (Ok inputs.now.used) }
+    requires libraries { length inputs.now.libraries ≡ C.COUNT }
+    requires settings { AreInRange settings.now }
+    ensures follows { Follows (AnnotatesFrom (H.held shelf.old) (corners_of C.COUNT C.number_of C.member_of settings.now.pick)
+        (inputs_of inputs.now) files.now.spef settings.now) result }
+    ensures fault { AtReadFault result (IsSpefFault (H.held shelf.old) files.now.spef (H.faults shelf.old) (H.faults shelf.new)
+        (H.opens shelf.old) (H.opens shelf.new)) }
+    ensures later { H.faults shelf.old ≤ H.faults shelf.new }
+    ensures opens { OnOk result (RoseBy 1 (H.opens shelf.old) (H.opens shelf.new)) }
+    ensures held { H.held shelf.new ≡ H.held shelf.old }
+    ensures steps { IsWithin (InputsWork (H.held shelf.old) (corners_of C.COUNT C.number_of C.member_of settings.now.pick)
+        (inputs_of inputs.now) files.now.spef settings.now) steps.old steps.new }
+    ensures no_steps { OnEarly result (steps.new ≡ steps.old) }
+{
+    let design = link_inputs::<C>(alloc, inputs, &settings.top)?;
+    let too_long = Refusal::Limit(LimitKind::File(FileKey::Spef));
+    let text = read_phase(
+        alloc,
+        shelf,
+        &files.spef,
+        FILE_LIMIT,
+        FileKey::Spef,
+        too_long,
+    )?;
+    let delays = time_from_text(alloc, &design, text.bytes(), settings, steps)?;
+    Ok(annotated_of(design, delays))
+}
+
+/// Reads a netlist, the libraries of all corners and a SPEF file, in this order, and gives the design its delays.
+///
+/// It makes no more steps than [`annotate_from`] does of the inputs.
+#[tactic(auto, using(crate::specs::Annotation::at_netlist, crate::specs::Annotation::at_inputs, crate::specs::Annotation::at_design, crate::specs::Annotation::is_annotated, crate::proofs::Faults::netlist_fault, crate::proofs::Following::inputs_stop, crate::proofs::Following::design_goes, crate::proofs::Work::no_files_work, crate::proofs::Work::files_work))]
+pub fn annotate<C: CornerSet, H: Shelf, L: Ledger>(
+    alloc: Global,
+    shelf: &mut H,
+    files: &Files,
+    settings: &Settings,
+    steps: &mut Steps<L>,
+) -> Result<Annotated<C>, PhaseEnd<Refusal, FileKey>>
+    requires libraries { length files.now.libraries ≡ C.COUNT }
+    requires settings { AreInRange settings.now }
+    ensures follows { Follows (Annotates (H.held shelf.old) (corners_of C.COUNT C.number_of C.member_of settings.now.pick)
+        files.now settings.now) result }
+    ensures fault { AtReadFault result (IsAnnotationFault (H.held shelf.old) C.COUNT files.now (H.faults shelf.old) (H.faults shelf.new)
+        (H.opens shelf.old) (H.opens shelf.new)) }
+    ensures later { H.faults shelf.old ≤ H.faults shelf.new }
+    ensures opens { OnOk result (RoseBy (C.COUNT + 2) (H.opens shelf.old) (H.opens shelf.new)) }
+    ensures held { H.held shelf.new ≡ H.held shelf.old }
+    ensures steps { IsWithin (FilesWork (H.held shelf.old) (corners_of C.COUNT C.number_of C.member_of settings.now.pick)
+        files.now settings.now) steps.old steps.new }
+    ensures no_steps { OnEarly result (steps.new ≡ steps.old) }
+{
+    let too_long = Refusal::Limit(LimitKind::File(FileKey::Netlist));
+    let text = read_phase(
+        alloc,
+        shelf,
+        &files.netlist,
+        FILE_LIMIT,
+        FileKey::Netlist,
+        too_long,
+    )?;
+    let inputs =
+        read_inputs::<C, H>(alloc, shelf, text.bytes(), &settings.top, &files.libraries)?;
+    let annotated = annotate_from::<C, H, L>(alloc, shelf, &inputs, files, settings, steps)?;
+    Ok(annotated)
+}
