@@ -1,0 +1,4 @@
+//! One module a subject.
+mod asking;
+mod designs;
+mod library;
