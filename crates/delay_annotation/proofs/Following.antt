@@ -1,16 +1,21 @@
 -- An answer that is handed on follows the phases around it.
 use Rattle.std.proofs.Common.{◌≡◌, ℕ, List, Option, Result, Ok, Err, sym, subst}
-use Rattle.std.specs.Prelude.{IsErrAnd}
+use Rattle.std.specs.Prelude.{IsTrue, IsErrAnd}
 use Rattle.edge_io.specs.Holding.{Held}
 use Rattle.spef_nets.specs.NetElements.{NetElements}
 use Rattle.spef_nets.specs.Sections.{Corners}
 use Rattle.spef_text.specs.Heads.{HeadText}
 use Rattle.spef_text.specs.SpefFiles.{SpefText}
-use Rattle.verdict_phases.specs.Phases.{Stop, RefusedBy, Unread, Reads, Step, Go, Halt, Follows}
+use Rattle.verdict_phases.specs.Lifting.{IsLifted}
+use Rattle.verdict_phases.specs.Phases.{Stop, RefusedBy, Reads, Step, Go, Halt, Follows}
+use Rattle.verdict_phases.specs.declared.ends.NoFileEnd.{NoFileEnd}
+use Rattle.verdict_phases.specs.declared.ends.NoFileEnd.TheVariants as no_file
 use Rattle.verdict_phases.specs.declared.ends.PhaseEnd.{PhaseEnd}
 use Rattle.verdict_phases.specs.declared.ends.PhaseEnd.TheVariants as phase
 use Rattle.delay_core.specs.DesignReading.{ReadsNetlistFile, ReadInputs, LinkedDesign, ReadsInputs, LinksInputs}
+use Rattle.delay_core.specs.Refused.{OnRefusal, AtReadFault}
 use Rattle.delay_core.specs.SpefPhases.{ParsesSpef, HeadsSpef, NetsSpef, at_sections, through}
+use Rattle.delay_core.specs.SpefWork.{is_early, OnEarly}
 use Rattle.delay_core.specs.declared.refusal.FileKey.{FileKey}
 use Rattle.delay_core.specs.declared.refusal.Refusal.{Refusal}
 use Rattle.delay_annotation.specs.AnnotatedDesigns.{AnnotatedDesign, DesignDelays, with_delays_of}
@@ -29,6 +34,27 @@ pub halted : (A B : Type 0) (result : Result B (PhaseEnd Refusal FileKey)) (end 
     → Follows P (Err end) → ((why : Stop Refusal FileKey) → P (Halt why) → Q (Halt why)) → Follows Q result
 halted A B (Ok value) end P Q is holds more = absurd is
 halted A B (Err other) end P Q is holds more = on_halt A B other P Q (subst (λ (e : PhaseEnd Refusal FileKey). Follows P (Err e)) (sym is) holds) more
+
+-- a fact of the refusal of a phase that reads no file, handed on
+on_refusal : (A B : Type 0) (end : NoFileEnd Refusal) (P : Refusal → Type 0) → OnRefusal {A = A} (Err end) P → OnRefusal {A = B} (Err end) P
+on_refusal A B (no_file.Refused refusal) P holds = holds
+on_refusal A B no_file.OutOfMemory P holds = tt
+
+pub refusal_on : (A B : Type 0) (result : Result B (NoFileEnd Refusal)) (end : NoFileEnd Refusal) (P : Refusal → Type 0) → IsErrAnd result (λ other. other ≡ end) → OnRefusal {A = A} (Err end) P → OnRefusal result P
+refusal_on A B (Ok value) end P is holds = tt
+refusal_on A B (Err other) end P is holds = on_refusal A B other P (subst (λ (e : NoFileEnd Refusal). OnRefusal {A = A} (Err e) P) (sym is) holds)
+
+-- and as one of a phase that may read files: it is no read fault
+pub lifted_early : (A B : Type 0) (result : Result B (PhaseEnd Refusal FileKey)) (end : NoFileEnd Refusal) (fact : Type 0) → IsErrAnd result (λ other. IsLifted end other)
+    → OnRefusal {A = A} (Err end) (λ refusal. IsTrue (is_early refusal) → fact) → OnEarly result fact
+lifted_early A B (Ok value) end fact is holds = tt
+lifted_early A B (Err other) (no_file.Refused refusal) fact is holds = subst (λ (e : PhaseEnd Refusal FileKey). OnEarly {A = B} (Err e) fact) (sym is) holds
+lifted_early A B (Err other) no_file.OutOfMemory fact is holds = subst (λ (e : PhaseEnd Refusal FileKey). OnEarly {A = B} (Err e) fact) (sym is) tt
+
+pub lifted_no_fault : (B : Type 0) (result : Result B (PhaseEnd Refusal FileKey)) (end : NoFileEnd Refusal) (Q : FileKey → Type 0) → IsErrAnd result (λ other. IsLifted end other) → AtReadFault result Q
+lifted_no_fault B (Ok value) end Q is = tt
+lifted_no_fault B (Err other) (no_file.Refused refusal) Q is = subst (λ (e : PhaseEnd Refusal FileKey). AtReadFault {A = B} (Err e) Q) (sym is) tt
+lifted_no_fault B (Err other) no_file.OutOfMemory Q is = subst (λ (e : PhaseEnd Refusal FileKey). AtReadFault {A = B} (Err e) Q) (sym is) tt
 
 module _ {I : Type 0} (held : Option Held) (corners : Corners I) (settings : Settings) where
   -- the bytes of the SPEF file, as they are lent
