@@ -116,8 +116,7 @@ pub fn annotate<C: CornerSet, H: Shelf, L: Ledger>(
         FileKey::Netlist,
         too_long,
     )?;
-    let inputs =
-        read_inputs::<C, H>(alloc, shelf, text.bytes(), &settings.top, &files.libraries)?;
+    let inputs = read_inputs::<C, H>(alloc, shelf, text.bytes(), &settings.top, &files.libraries)?;
     let annotated = annotate_from::<C, H, L>(alloc, shelf, &inputs, files, settings, steps)?;
     Ok(annotated)
 }
