@@ -72,11 +72,7 @@ impl<'a, 'r, 'f, C: CornerSet> NetInputs<'a, 'r, 'f, C> {
         let pin = self.pin(instance, pin, first_corner::<C>());
         let head = Text::from_bytes(alloc, self.netlist.instance_text(instance))?;
         let tail = Text::from_bytes(alloc, pin.name.bytes())?;
-        let sdf = pin_sdf(
-            alloc,
-            self.netlist.instance_sdf(instance),
-            pin.name.bytes(),
-        )?;
+        let sdf = pin_sdf(alloc, self.netlist.instance_sdf(instance), pin.name.bytes())?;
         Ok(NodeName {
             head,
             tail: Some(tail),
