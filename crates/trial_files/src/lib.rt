@@ -1,0 +1,13 @@
+//! The files of a trial: a netlist, a library and a SPEF file of a shape and a size, so that a large run can be made with no files at
+//! hand. Each text is exactly that of its definition.
+#![tactic(auto)]
+
+mod block_netlist;
+mod block_spef;
+mod chain;
+mod files;
+mod library;
+mod numbers;
+mod spef_head;
+
+pub use files::{TrialFiles, block_files, chain_files};
