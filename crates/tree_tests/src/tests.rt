@@ -4,3 +4,4 @@ mod endings;
 mod nets;
 mod plain_sums;
 mod random_trees;
+mod rebuilding;

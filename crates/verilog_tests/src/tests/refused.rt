@@ -3,7 +3,7 @@
 /// A file, the dead token, and the word, or nothing.
 pub type Refused<'a> = (&'a [u8], u64, &'a [u8]);
 
-pub const REFUSED: [Refused<'static>; 78] = [
+pub const REFUSED: [Refused<'static>; 80] = [
     (b"x", 1, b""),
     (b"module", 2, b""),
     (b"module 1;", 2, b""),
@@ -38,6 +38,8 @@ pub const REFUSED: [Refused<'static>; 78] = [
     (b"module m; I; endmodule", 5, b""),
     (b"module m; I u; endmodule", 6, b""),
     (b"module m; I (); endmodule", 5, b""),
+    (b"module m; I u (.); endmodule", 8, b""),
+    (b"module m; I u (.A(a[1 0])); endmodule", 13, b""),
     (b"module m; I u (a); endmodule", 7, b""),
     (b"module m; I u (.A); endmodule", 9, b""),
     (b"module m; I u (.A(a); endmodule", 12, b""),
