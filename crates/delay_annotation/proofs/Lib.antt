@@ -3,6 +3,7 @@ pub mod Faults
 pub mod Following
 pub mod LinkedInputs
 pub mod NetEnds
+pub mod OneAnnotation
 pub mod OneDelays
 pub mod OneSlews
 pub mod SinkEnds

@@ -1,20 +1,16 @@
 -- The phases of the slews have one answer.
-use Rattle.std.proofs.Common.{◌≡◌, ℕ, inl, inr, List, Result, Ok, Err, refl, sym, ap, subst, ◌∙◌}
-use Rattle.std.specs.Prelude.{get_or}
+use Rattle.std.proofs.Common.{◌≡◌, inl, inr, List}
 use Rattle.cell_models.specs.NamedSets.{NamedCells}
-use Rattle.netlist_link.specs.FlatNetlist.{FlatNetlist, net_at}
-use Rattle.netlist_link.specs.declared.ends.End.{End}
-use Rattle.netlist_link.specs.declared.ends.End.TheVariants.{Port, Pin}
+use Rattle.netlist_link.specs.FlatNetlist.{FlatNetlist}
 use Rattle.slew_order.specs.SlewLaws.{IsLoop, IsSameSlewEnd}
-use Rattle.slew_order.specs.Slews.{SlewTables}
-use Rattle.slew_order.specs.Timings.{SlewSource}
 use Rattle.slew_order.specs.declared.ends.SlewEnd.{SlewEnd}
-use Rattle.slew_order.specs.declared.ends.SlewEnd.TheVariants.{Loop, OutOfMemory}
-use Rattle.slew_order.proofs.OneSlewEnd.{one_slews, slews_or_end, one_slew_end}
+use Rattle.slew_order.specs.declared.ends.SlewEnd.TheVariants.{OutOfMemory}
+use Rattle.slew_order.proofs.OneSlewEnd.{slews_or_end, one_slew_end}
+use Rattle.slew_order.proofs.OneTables.{one_slews}
 use Rattle.delay_core.specs.OneAnswer.{SameRefusal, some_loop}
 use Rattle.delay_core.specs.declared.refusal.Refusal.{Refusal}
-use Rattle.delay_annotation.specs.OneTiming.{AreSameSlews, OneSlews}
-use Rattle.delay_annotation.specs.SlewPhase.{IsSlewRefusal, is_loop, is_outside, is_past_time, is_slew_limit, FindsSlews, are_slews, no_slews}
+use Rattle.delay_annotation.specs.OneTiming.{OneSlews}
+use Rattle.delay_annotation.specs.SlewPhase.{IsSlewRefusal, is_loop, is_outside, is_past_time, is_slew_limit, are_slews, no_slews}
 
 module _ (netlist : FlatNetlist) (cells : List NamedCells) where
   -- an end that is refused is none of memory

@@ -1,5 +1,5 @@
 -- A linked design gets its delays from the sections of a SPEF file.
-use Rattle.std.specs.Prelude.{ℕ, ℤ, pos, ◌≤◌, ◌≤ℤ◌, unsigned_abs, List, Result, Ok, Err}
+use Rattle.std.specs.Prelude.{ℕ, pos, ◌≤◌, ◌≤ℤ◌, unsigned_abs, List, Result, Ok, Err}
 use Rattle.delay_units.specs.Bounds.{most_farads}
 use Rattle.spef_nets.specs.NetElements.{NetElements}
 use Rattle.slew_states.specs.PinState.{most}

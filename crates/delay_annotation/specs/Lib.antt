@@ -4,5 +4,6 @@ pub mod AnnotationWork
 pub mod DelayPhase
 pub mod DesignTiming
 pub mod EndsThere
+pub mod OneAnnotation
 pub mod OneTiming
 pub mod SlewPhase

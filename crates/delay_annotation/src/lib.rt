@@ -12,5 +12,5 @@ mod slew_phase;
 
 pub use annotated::Annotated;
 pub use annotation::{annotate, annotate_from};
-pub use laws::{one_delays_answer, one_slews_answer};
+pub use laws::{one_annotation, one_delays_answer, one_slews_answer};
 pub use settings::{Files, Settings};

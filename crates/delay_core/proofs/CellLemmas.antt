@@ -1,6 +1,6 @@
 -- The models of cells are made one after another, at each corner in turn.
-use Rattle.std.proofs.Common.{◌≡◌, ◌≢◌, ℕ, zero, suc, ◌+◌, ◌<◌, ◌≤◌, inl, inr, Bool, true, false, List, [], ◌∷◌, ◌++◌, length, map, take, get_or, slice_get, Option, Some, Ok, Err, All, Contains, refl, sym, ap, ◌∙◌, subst, arith, length-append, true≢false}
-use Rattle.std.specs.List.{list_any, slice_index_or, AllPairs}
+use Rattle.std.proofs.Common.{◌≡◌, ◌≢◌, ℕ, zero, suc, ◌+◌, ◌<◌, ◌≤◌, inl, inr, Bool, true, false, List, [], ◌∷◌, ◌++◌, length, map, take, get_or, slice_get, Some, Ok, Err, Contains, refl, sym, ap, ◌∙◌, subst, arith, length-append, true≢false}
+use Rattle.std.specs.List.{list_any, slice_index_or}
 use Rattle.std.specs.Str.{bytes_eq}
 use Rattle.std.proofs.lemmas.List.{length-map, map-append, take_all}
 use Rattle.std.proofs.lemmas.List.Folds.{list_any_at}
@@ -21,12 +21,12 @@ use Rattle.verilog_netlist.specs.NetModules.{NetModule}
 use Rattle.hierarchy.specs.Uses.{AreCellsUsed}
 use Rattle.hierarchy.specs.Walks.{met_instance, cells_met}
 use Rattle.netlist_link.specs.FlatDesigns.{HasCells}
-use Rattle.delay_core.specs.CellPhase.{IsModelAt, AreFirstModels, ModelsCorners, at_all, at_corner, other_shape as of_other_shape, AreFirstCells, ModelsCells, all_cells, at_cell}
+use Rattle.delay_core.specs.CellPhase.{IsModelAt, AreFirstModels, ModelsCorners, at_all, at_corner, other_shape as of_other_shape, AreFirstCells, ModelsCells, all_cells}
 use Rattle.delay_core.specs.LibraryPhases.{ModelsCell}
 use Rattle.delay_core.specs.UsePhase.{UsesCells, are_used}
 use Rattle.delay_core.specs.declared.refusal.Refusal.{Refusal}
 use Rattle.delay_core.specs.declared.refusal.Refusal.TheVariants.{CornerShape}
-use Rattle.delay_core.proofs.Places.{within, at_end, at_contains, get_map, got_below, front_more, index_is, some_is}
+use Rattle.delay_core.proofs.Places.{within, at_end, at_contains, get_map, got_below, front_more, index_is}
 
 -- ---- one cell at the corners
 

@@ -60,12 +60,12 @@ unread_library : (held : Option Held) (corners corner : ℕ) (name : List ℕ) (
 unread_library held corners corner name key keyed missing = at_file (Unread key) (missing, keyed)
 
 -- the library at which the libraries stop
-record StopsAt (held : Option Held) (corners : ℕ) (libraries : List (List ℕ)) (key : FileKey) : Type 0 where
-  corner : ℕ
-  name : List ℕ
-  named : slice_get libraries corner ≡ Some name
-  keyed : key ≡ library_key corners corner
-  unread : TellsMissing held name → ReadsLibraries held corners libraries (Halt (Unread key))
+pub record StopsAt (held : Option Held) (corners : ℕ) (libraries : List (List ℕ)) (key : FileKey) : Type 0 where
+  pub corner : ℕ
+  pub name : List ℕ
+  pub named : slice_get libraries corner ≡ Some name
+  pub keyed : key ≡ library_key corners corner
+  pub unread : TellsMissing held name → ReadsLibraries held corners libraries (Halt (Unread key))
 
 stop_of : (held : Option Held) (corners : ℕ) (libraries : List (List ℕ)) (key : FileKey) → ReadsLibraries held corners libraries (Halt (Reads key)) → StopsAt held corners libraries key
 stop_of held corners libraries key (stops_at corner name before why below first named reads) =
@@ -79,11 +79,11 @@ stop_of held corners libraries key (stops_at corner name before why below first 
     }
 
 -- and the inputs
-record StopsInputs (held : Option Held) (corners : ℕ) (bytes top : List ℕ) (libraries : List (List ℕ)) (key : FileKey) : Type 0 where
-  stop : StopsAt held corners libraries key
-  unread : TellsMissing held stop.name → ReadsInputs held corners bytes top libraries (Halt (Unread key))
+pub record StopsInputs (held : Option Held) (corners : ℕ) (bytes top : List ℕ) (libraries : List (List ℕ)) (key : FileKey) : Type 0 where
+  pub stop : StopsAt held corners libraries key
+  pub unread : TellsMissing held stop.name → ReadsInputs held corners bytes top libraries (Halt (Unread key))
 
-inputs_stop : (held : Option Held) (corners : ℕ) (bytes top : List ℕ) (libraries : List (List ℕ)) (key : FileKey) → ReadsInputs held corners bytes top libraries (Halt (Reads key))
+pub inputs_stop : (held : Option Held) (corners : ℕ) (bytes top : List ℕ) (libraries : List (List ℕ)) (key : FileKey) → ReadsInputs held corners bytes top libraries (Halt (Reads key))
     → StopsInputs held corners bytes top libraries key
 inputs_stop held corners bytes top libraries key (at_libraries modules used why parses uses reads) =
     let stop = stop_of held corners libraries key reads in

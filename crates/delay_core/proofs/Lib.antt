@@ -5,12 +5,16 @@ pub mod LibraryLemmas
 pub mod LineLemmas
 pub mod ModuleNames
 pub mod NetRows
+pub mod NetsApart
+pub mod OneChain
+pub mod OneDesign
 pub mod OneInputs
 pub mod OneLibrary
 pub mod OneNet
 pub mod OneNetlist
 pub mod OneRows
 pub mod OneSpefFile
+pub mod OneText
 pub mod PinLists
 pub mod Places
 pub mod SpefWork

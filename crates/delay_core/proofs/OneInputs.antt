@@ -1,5 +1,5 @@
 -- The phases between the netlist's grammar and the flat netlist have one answer.
-use Rattle.std.proofs.Common.{◌≡◌, ◌≢◌, ℕ, zero, suc, ◌+◌, ◌<◌, ◌≤◌, inl, inr, List, [], ◌∷◌, length, map, take, slice_get, Some, Result, Ok, Err, refl, sym, ap, ◌∙◌, subst, arith}
+use Rattle.std.proofs.Common.{◌≡◌, ◌≢◌, ℕ, ◌≤◌, inl, inr, List, [], length, slice_get, Some, Result, Ok, Err, refl, sym, ap, ◌∙◌, subst, arith}
 use Rattle.std.proofs.lemmas.List.{length-map, length-take-le}
 use Rattle.liberty_groups.specs.Groups.{Group}
 use Rattle.cell_models.specs.Cells.{TimedCell}
@@ -22,12 +22,11 @@ use Rattle.netlist_link.specs.FlatNetlist.{FlatNetlist}
 use Rattle.netlist_link.specs.declared.ends.LinkEnd.{LinkEnd}
 use Rattle.netlist_link.specs.declared.ends.LinkEnd.TheVariants as link_end
 use Rattle.netlist_link.proofs.OneLink.{one_design, design_or_end, one_flat_end}
-use Rattle.delay_core.specs.CellPhase.{IsModelAt, AreFirstModels, ModelsCorners, at_all, at_corner, other_shape, AreFirstCells, ModelsCells, all_cells, at_cell}
+use Rattle.delay_core.specs.CellPhase.{AreFirstModels, ModelsCorners, at_all, at_corner, other_shape, AreFirstCells, ModelsCells, all_cells, at_cell}
 use Rattle.delay_core.specs.LibraryPhases.{ModelsCell}
 use Rattle.delay_core.specs.LinkPhase.{LinksDesign, is_linked, unknown_port, width, inout_pin, name_clash, several_drivers}
-use Rattle.delay_core.specs.OneAnswer.{some_module, SameRefusal, SameAnswer, OneUse, OneModels, OneLink}
+use Rattle.delay_core.specs.OneAnswer.{some_module, SameRefusal, OneUse, OneModels, OneLink}
 use Rattle.delay_core.specs.UsePhase.{limit_of, UsesCells, are_used, no_top, recursive, too_many}
-use Rattle.delay_core.specs.declared.refusal.LimitKind.{LimitKind}
 use Rattle.delay_core.specs.declared.refusal.Refusal.{Refusal}
 use Rattle.delay_core.specs.declared.refusal.Refusal.TheVariants as refusal
 use Rattle.delay_core.proofs.InTurn.{AreFirst, one_front, not_within, one_stopped}

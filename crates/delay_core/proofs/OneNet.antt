@@ -1,5 +1,5 @@
 -- What a section says is one net.
-use Rattle.std.proofs.Common.{◌≡◌, ℕ, suc, ◌+◌, ◌*◌, ◌<◌, List, [], ◌∷◌, length, map, Option, Some, None, refl, sym, ap, ap₂, ◌∙◌, subst, arith}
+use Rattle.std.proofs.Common.{◌≡◌, ℕ, zero, suc, ◌+◌, ◌*◌, ◌/◌, ◌%◌, ◌<◌, List, [], ◌∷◌, length, map, Option, Some, None, refl, sym, ap, ap₂, ◌∙◌, subst, arith, mod-lt, div-lt_iff_lt-mul, div-add-mod'}
 use Rattle.std.specs.Prelude.{slice_get, pos}
 use Rattle.std.specs.List.{AllByRecursion}
 use Rattle.std.specs.Option.{option_map}
@@ -20,7 +20,7 @@ use Rattle.spef_nets.specs.Nodes.{AreDistinctNodes}
 use Rattle.spef_nets.specs.Elements.{connections, capacitances, resistors}
 use Rattle.delay_units.specs.Bounds.{most_farads, most_ohms}
 use Rattle.spef_nets.specs.NetElements.{NetElements, AreWhole}
-use Rattle.spef_nets.specs.Sections.{HasValue, HasLoad, HasGrains, listing, listing_of, key_at, ends_of, ends_at, IsNet}
+use Rattle.spef_nets.specs.Sections.{Corners, HasValue, HasLoad, HasGrains, listing, listing_of, key_at, ends_of, ends_at, IsNet}
 use Rattle.spef_nets.specs.declared.parts.Listed.{Listed}
 use Rattle.spef_nets.specs.declared.parts.Ends.{Ends}
 use Rattle.delay_core.specs.SpefPhases.{sole_corner}
@@ -60,23 +60,37 @@ one_load : (file : SpefText) (unit : Unit) (pick : Pick) (load : Option ℕ) (v 
 one_load file unit pick None v w r s = r ∙ sym s
 one_load file unit pick (Some token) v w r s = one_amount unit most_farads (picked pick (triple_of (text_of file token))) v w r s
 
--- values at one corner, of which each element has one
-one_row : {T E : Type 0} (elements : List E) (P : E → T → Type 0) → ((element : E) (v w : T) → P element v → P element w → v ≡ w) → (one other : List T) → length one ≡ length elements * 1 → length other ≡ length elements * 1
-    → ((row : ℕ) (element : E) → slice_get elements row ≡ Some element → HasValue 1 one row 0 (P element))
-    → ((row : ℕ) (element : E) → slice_get elements row ≡ Some element → HasValue 1 other row 0 (P element)) → one ≡ other
-one_row elements P unique one other long longer here there = by_places one other (long ∙ sym longer) at
-  where
-    place_is : (k : ℕ) → k * 1 + 0 ≡ k
-    place_is k = omega arith
+-- each number below the count of corners is that of a corner
+abbrev pub AreNumbered : {I : Type 0} → Corners I → Type 0
+AreNumbered {I} corners = (number : ℕ) → number < corners.count → (corner : I) × (corners.number corner ≡ number)
 
-    at : (k : ℕ) → k < length one → slice_get one k ≡ slice_get other k
-    at k below =
-        let got = got_below elements k (omega (arith, below, long)) in
-        let a = here k got.0 got.1 in
-        let b = there k got.0 got.1 in
-        let first : slice_get one k ≡ Some a.value = ap (slice_get one) (sym (place_is k)) ∙ a.stands in
-        let second : slice_get other k ≡ Some b.value = ap (slice_get other) (sym (place_is k)) ∙ b.stands in
-        first ∙ ap (λ v. Some v) (unique got.0 a.value b.value a.meets b.meets) ∙ sym second
+pub sole_numbered : (pick : Pick) → AreNumbered (sole_corner pick)
+sole_numbered pick number below = (tt, omega (arith, below))
+
+some_count : (count rows k : ℕ) → k < rows * count → 0 < count
+some_count zero rows k below = absurd (omega (arith, below))
+some_count (suc count) rows k below = omega arith
+
+-- values at corners, of which each element has one
+module _ {I : Type 0} (corners : Corners I) (numbered : AreNumbered corners) where
+  one_row : {T E : Type 0} (elements : List E) (P : Pick → E → T → Type 0) → ((pick : Pick) (element : E) (v w : T) → P pick element v → P pick element w → v ≡ w) → (one other : List T)
+      → length one ≡ length elements * corners.count → length other ≡ length elements * corners.count
+      → ((row : ℕ) (element : E) (corner : I) → slice_get elements row ≡ Some element → HasValue corners.count one row (corners.number corner) (P (corners.member corner) element))
+      → ((row : ℕ) (element : E) (corner : I) → slice_get elements row ≡ Some element → HasValue corners.count other row (corners.number corner) (P (corners.member corner) element)) → one ≡ other
+  one_row elements P unique one other long longer here there = by_places one other (long ∙ sym longer) at
+    where
+      at : (k : ℕ) → k < length one → slice_get one k ≡ slice_get other k
+      at k below =
+          let inside : k < length elements * corners.count = subst (λ (n : ℕ). k < n) long below in
+          let some : 0 < corners.count = some_count corners.count (length elements) k inside in
+          let its = numbered (k % corners.count) (mod-lt k some) in
+          let got = got_below elements (k / corners.count) ((div-lt_iff_lt-mul some).1 inside) in
+          let a = here (k / corners.count) got.0 its.0 got.1 in
+          let b = there (k / corners.count) got.0 its.0 got.1 in
+          let place : k / corners.count * corners.count + corners.number its.0 ≡ k = ap (λ n. k / corners.count * corners.count + n) its.1 ∙ div-add-mod' k corners.count in
+          let first : slice_get one k ≡ Some a.value = ap (slice_get one) (sym place) ∙ a.stands in
+          let second : slice_get other k ≡ Some b.value = ap (slice_get other) (sym place) ∙ b.stands in
+          first ∙ ap (λ v. Some v) (unique (corners.member its.0) got.0 a.value b.value a.meets b.meets) ∙ sym second
 
 farads_is : (v w : Farads) → v.0 ≡ w.0 → v ≡ w
 farads_is v w e = ap (λ n. record { 0 = n }) e
@@ -114,8 +128,8 @@ module _ (nodes : List NodeName) (distinct : AreDistinctNodes nodes) where
 
 -- ---- the net
 
-module _ (pick : Pick) (file : SpefText) (head : HeadText) (section : Section) (one other : NetElements) (r : IsNet (sole_corner pick) file head section one) (s : IsNet (sole_corner pick) file head section other)
-    (p : AreWhole 1 one) (q : AreWhole 1 other) where
+module _ {I : Type 0} (corners : Corners I) (numbered : AreNumbered corners) (file : SpefText) (head : HeadText) (section : Section) (one other : NetElements) (r : IsNet corners file head section one)
+    (s : IsNet corners file head section other) (p : AreWhole corners.count one) (q : AreWhole corners.count other) where
   net_same : one.net ≡ other.net
   net_same = some_is one.net other.net (sym r.named ∙ s.named)
 
@@ -149,32 +163,32 @@ module _ (pick : Pick) (file : SpefText) (head : HeadText) (section : Section) (
       (recursion_from_All BothIn other.joints (λ k d below. (moved _ (q.joined k d below).0, moved _ (q.joined k d below).1)))
       (r.joints ∙ sym s.joints ∙ ap (λ (l : List NodeName). map (ends_of l) other.joints) (sym nodes_same))
 
-  conn_count : (net : NetElements) → IsNet (sole_corner pick) file head section net → length net.conns ≡ length (connections file section)
+  conn_count : (net : NetElements) → IsNet corners file head section net → length net.conns ≡ length (connections file section)
   conn_count net is = sym (length-map net.conns (listing_of net.nodes)) ∙ ap length is.conns ∙ length-map (connections file section) listing
 
-  cap_count : (net : NetElements) → IsNet (sole_corner pick) file head section net → length net.caps ≡ length (capacitances file section)
+  cap_count : (net : NetElements) → IsNet corners file head section net → length net.caps ≡ length (capacitances file section)
   cap_count net is = sym (length-map net.caps (key_at net.nodes)) ∙ ap length is.caps ∙ length-map (capacitances file section) (λ cap. Some (key_of cap.node))
 
-  res_count : (net : NetElements) → IsNet (sole_corner pick) file head section net → length net.joints ≡ length (resistors file section)
+  res_count : (net : NetElements) → IsNet corners file head section net → length net.joints ≡ length (resistors file section)
   res_count net is = sym (length-map net.joints (ends_of net.nodes)) ∙ ap length is.joints ∙ length-map (resistors file section) ends_at
 
+  abbrev rows_of : ℕ → ℕ
+  rows_of rows = rows * corners.count
+
   loads_same : one.loads ≡ other.loads
-  loads_same = one_row (connections file section) (λ conn value. HasLoad file head.cap_unit pick conn.load value.0)
-      (λ conn v w a b. farads_is v w (one_load file head.cap_unit pick conn.load v.0 w.0 a b)) one.loads other.loads
-      (p.load_rows ∙ ap (λ n. n * 1) (conn_count one r)) (q.load_rows ∙ ap (λ n. n * 1) (conn_count other s))
-      (λ row conn at. r.loads row conn tt at) (λ row conn at. s.loads row conn tt at)
+  loads_same = one_row corners numbered (connections file section) (λ pick conn value. HasLoad file head.cap_unit pick conn.load value.0)
+      (λ pick conn v w a b. farads_is v w (one_load file head.cap_unit pick conn.load v.0 w.0 a b)) one.loads other.loads
+      (p.load_rows ∙ ap rows_of (conn_count one r)) (q.load_rows ∙ ap rows_of (conn_count other s)) r.loads s.loads
 
   farads_same : one.farads ≡ other.farads
-  farads_same = one_row (capacitances file section) (λ cap value. HasGrains file head.cap_unit most_farads pick cap.value value.0)
-      (λ cap v w a b. farads_is v w (one_amount head.cap_unit most_farads (picked pick (triple_of (text_of file cap.value))) v.0 w.0 a b)) one.farads other.farads
-      (p.cap_rows ∙ ap (λ n. n * 1) (cap_count one r)) (q.cap_rows ∙ ap (λ n. n * 1) (cap_count other s))
-      (λ row cap at. r.farads row cap tt at) (λ row cap at. s.farads row cap tt at)
+  farads_same = one_row corners numbered (capacitances file section) (λ pick cap value. HasGrains file head.cap_unit most_farads pick cap.value value.0)
+      (λ pick cap v w a b. farads_is v w (one_amount head.cap_unit most_farads (picked pick (triple_of (text_of file cap.value))) v.0 w.0 a b)) one.farads other.farads
+      (p.cap_rows ∙ ap rows_of (cap_count one r)) (q.cap_rows ∙ ap rows_of (cap_count other s)) r.farads s.farads
 
   ohms_same : one.ohms ≡ other.ohms
-  ohms_same = one_row (resistors file section) (λ joint value. HasGrains file head.res_unit most_ohms pick joint.value value.0)
-      (λ joint v w a b. ohms_is v w (one_amount head.res_unit most_ohms (picked pick (triple_of (text_of file joint.value))) v.0 w.0 a b)) one.ohms other.ohms
-      (p.res_rows ∙ ap (λ n. n * 1) (res_count one r)) (q.res_rows ∙ ap (λ n. n * 1) (res_count other s))
-      (λ row joint at. r.ohms row joint tt at) (λ row joint at. s.ohms row joint tt at)
+  ohms_same = one_row corners numbered (resistors file section) (λ pick joint value. HasGrains file head.res_unit most_ohms pick joint.value value.0)
+      (λ pick joint v w a b. ohms_is v w (one_amount head.res_unit most_ohms (picked pick (triple_of (text_of file joint.value))) v.0 w.0 a b)) one.ohms other.ohms
+      (p.res_rows ∙ ap rows_of (res_count one r)) (q.res_rows ∙ ap rows_of (res_count other s)) r.ohms s.ohms
 
   written_same : one.written ≡ other.written
   written_same = r.written ∙ sym s.written

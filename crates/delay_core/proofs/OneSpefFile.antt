@@ -2,7 +2,6 @@
 use Rattle.std.proofs.Common.{◌≡◌, ℕ, ◌-◌, ⊎_elim, true, false, ◌<◌, pos, ◌+ℤ◌, arith, List, length, Some, None, Option, Result, Ok, Err, refl, sym, ap, ap₂, ◌∙◌, subst}
 use Rattle.std.specs.Prelude.{slice_get, All}
 use Rattle.std.proofs.lemmas.Option.{slice_get_within, get_or_from_slice_get}
-use Rattle.corner_set.specs.declared.pick.Pick.{Pick}
 use Rattle.delay_units.specs.declared.numbers.Unit.{Unit}
 use Rattle.delay_units.proofs.OneDecimal.{one_decimal}
 use Rattle.delay_units.proofs.UnitLemmas.{unit_same}
@@ -18,6 +17,7 @@ use Rattle.spef_text.proofs.Scanning.{one_tokens}
 use Rattle.spef_text.proofs.Answering.{one_spef, one_dead}
 use Rattle.spef_text.proofs.HeadLemmas as heads
 use Rattle.spef_nets.specs.NetElements.{NetElements, AreWhole}
+use Rattle.spef_nets.specs.Sections.{Corners}
 use Rattle.spef_nets.specs.Faults.{IsSectionEnd}
 use Rattle.spef_nets.specs.declared.ends.SectionEnd.{SectionEnd}
 use Rattle.spef_nets.specs.declared.ends.SectionEnd.TheVariants as section
@@ -26,11 +26,11 @@ use Rattle.delay_core.specs.declared.refusal.NumberKind.TheVariants.{BadUnit, Ba
 use Rattle.delay_core.specs.declared.refusal.IndexKind.TheVariants.{Unknown, Repeated}
 use Rattle.delay_core.specs.declared.refusal.Refusal.{Refusal}
 use Rattle.delay_core.specs.declared.refusal.Refusal.TheVariants.{SpefSyntax, SpefForm, SpefNumber, NameIndex, RepeatedNet, ForeignCoupling}
-use Rattle.delay_core.specs.SpefPhases.{sole_corner, DesignNets, ParsesSpef, is_spef, no_spef, no_form, HeadsSpef, is_head, bad_unit, repeated_index, NetsSpef, are_nets, unknown_index, bad_number, value_too_large, repeated_net, foreign_coupling}
+use Rattle.delay_core.specs.SpefPhases.{DesignNets, ParsesSpef, is_spef, no_spef, no_form, HeadsSpef, is_head, bad_unit, repeated_index, NetsSpef, are_nets, unknown_index, bad_number, value_too_large, repeated_net, foreign_coupling}
 use Rattle.delay_core.specs.SpefPhases.{ReadsNets, at_grammar, at_head, at_sections, through}
 use Rattle.delay_core.specs.OneAnswer.{OneReading}
 use Rattle.delay_core.proofs.Places.{some_is, got_below}
-use Rattle.delay_core.proofs.OneNet.{by_places, one_net}
+use Rattle.delay_core.proofs.OneNet.{AreNumbered, by_places, one_net}
 
 -- ---- the grammar
 
@@ -145,28 +145,28 @@ record HasSectionEnd (file : SpefText) (its : HeadText) (refusal : Refusal) : Ty
   holds : IsSectionEnd file its end
   is : of_section end ≡ Some refusal
 
-section_end : (pick : Pick) (file : SpefText) (its : HeadText) (refusal : Refusal) → NetsSpef (sole_corner pick) file its (Err refusal) → HasSectionEnd file its refusal
-section_end pick file its refusal (unknown_index token is) = record { end = section.UnknownIndex token; holds = is; is = refl }
-section_end pick file its refusal (bad_number token is) = record { end = section.BadNumber token; holds = is; is = refl }
-section_end pick file its refusal (value_too_large token is) = record { end = section.ValueTooLarge token; holds = is; is = refl }
-section_end pick file its refusal (repeated_net net token is) = record { end = section.RepeatedNet net token; holds = is; is = refl }
-section_end pick file its refusal (foreign_coupling net token is) = record { end = section.ForeignCoupling net token; holds = is; is = refl }
+section_end : {I : Type 0} (corners : Corners I) (file : SpefText) (its : HeadText) (refusal : Refusal) → NetsSpef corners file its (Err refusal) → HasSectionEnd file its refusal
+section_end corners file its refusal (unknown_index token is) = record { end = section.UnknownIndex token; holds = is; is = refl }
+section_end corners file its refusal (bad_number token is) = record { end = section.BadNumber token; holds = is; is = refl }
+section_end corners file its refusal (value_too_large token is) = record { end = section.ValueTooLarge token; holds = is; is = refl }
+section_end corners file its refusal (repeated_net net token is) = record { end = section.RepeatedNet net token; holds = is; is = refl }
+section_end corners file its refusal (foreign_coupling net token is) = record { end = section.ForeignCoupling net token; holds = is; is = refl }
 
 no_section_want : (end : SectionEnd) (refusal : Refusal) → of_section end ≡ Some refusal → end ≡ section.OutOfMemory → ⊥
 no_section_want end refusal is want = let none : None ≡ Some refusal = ap of_section (sym want) ∙ is in cc
 
-pub one_section_refusal : (pick : Pick) (file : SpefText) (its : HeadText) (one other : Refusal) → NetsSpef (sole_corner pick) file its (Err one) → NetsSpef (sole_corner pick) file its (Err other) → one ≡ other
-one_section_refusal pick file its one other r s =
-    let a = section_end pick file its one r in
-    let b = section_end pick file its other s in
+pub one_section_refusal : {I : Type 0} (corners : Corners I) (file : SpefText) (its : HeadText) (one other : Refusal) → NetsSpef corners file its (Err one) → NetsSpef corners file its (Err other) → one ≡ other
+one_section_refusal corners file its one other r s =
+    let a = section_end corners file its one r in
+    let b = section_end corners file its other s in
     ⊎_elim (λ want. absurd (no_section_want a.end one a.is want))
     (λ rest. ⊎_elim (λ want. absurd (no_section_want b.end other b.is want))
     (λ same. some_is one other (sym a.is ∙ ap of_section same ∙ b.is)) rest)
     (sections.one_end file its a.end b.end a.holds b.holds)
 
-pub no_nets_beside : (pick : Pick) (file : SpefText) (its : HeadText) (refusal : Refusal) (nets : List NetElements) → NetsSpef (sole_corner pick) file its (Err refusal) → NetsSpef (sole_corner pick) file its (Ok nets) → ⊥
-no_nets_beside pick file its refusal nets r (are_nets same faultless are sound) =
-    let a = section_end pick file its refusal r in
+pub no_nets_beside : {I : Type 0} (corners : Corners I) (file : SpefText) (its : HeadText) (refusal : Refusal) (nets : List NetElements) → NetsSpef corners file its (Err refusal) → NetsSpef corners file its (Ok nets) → ⊥
+no_nets_beside corners file its refusal nets r (are_nets same faultless are sound) =
+    let a = section_end corners file its refusal r in
     no_section_want a.end refusal a.is (sections.no_end file its a.end faultless a.holds)
 
 -- ---- the file
@@ -195,28 +195,28 @@ module _ (bytes : List ℕ) (one other : SpefText) (r : ParsesSpef bytes (Ok one
     abbrev same_head : second ≡ first
     same_head = one_head_text one second first (moved (Ok second) k) h
 
-    moved_nets : (pick : Pick) (answer : Result (List NetElements) Refusal) → NetsSpef (sole_corner pick) other second answer → NetsSpef (sole_corner pick) one first answer
-    moved_nets pick answer nets = subst (λ (t : HeadText). NetsSpef (sole_corner pick) one t answer) same_head (subst (λ (f : SpefText). NetsSpef (sole_corner pick) f second answer) same_file nets)
+    moved_nets : {I : Type 0} (corners : Corners I) (answer : Result (List NetElements) Refusal) → NetsSpef corners other second answer → NetsSpef corners one first answer
+    moved_nets corners answer nets = subst (λ (t : HeadText). NetsSpef corners one t answer) same_head (subst (λ (f : SpefText). NetsSpef corners f second answer) same_file nets)
 
 -- a file has one refusal
-pub one_file_refusal : (pick : Pick) (bytes : List ℕ) (one other : Refusal) → ReadsNets (sole_corner pick) bytes (Err one) → ReadsNets (sole_corner pick) bytes (Err other) → one ≡ other
-one_file_refusal pick bytes one other (at_grammar f p) (at_grammar g q) = unread_same one other (one_parse bytes (Err one) (Err other) p q)
-one_file_refusal pick bytes one other (at_grammar f p) (at_head file g q h) = absurd (not_both file one (one_parse bytes (Ok file) (Err one) q p))
-one_file_refusal pick bytes one other (at_grammar f p) (at_sections file its g q h n) = absurd (not_both file one (one_parse bytes (Ok file) (Err one) q p))
-one_file_refusal pick bytes one other (at_head file g q h) (at_grammar f p) = absurd (not_both file other (one_parse bytes (Ok file) (Err other) q p))
-one_file_refusal pick bytes one other (at_sections file its g q h n) (at_grammar f p) = absurd (not_both file other (one_parse bytes (Ok file) (Err other) q p))
-one_file_refusal pick bytes one other (at_head file f p h) (at_head more g q k) = one_head_refusal file one other h (moved bytes file more p q (Err other) k)
-one_file_refusal pick bytes one other (at_head file f p h) (at_sections more its g q k n) = absurd (no_head_beside file one its h (moved bytes file more p q (Ok its) k))
-one_file_refusal pick bytes one other (at_sections more its g q k n) (at_head file f p h) = absurd (no_head_beside file other its h (moved bytes file more p q (Ok its) k))
-one_file_refusal pick bytes one other (at_sections file its f p h n) (at_sections more second g q k m) =
-    one_section_refusal pick file its one other n (moved_nets bytes file more p q its second h k pick (Err other) m)
+pub one_file_refusal : {I : Type 0} (corners : Corners I) (bytes : List ℕ) (one other : Refusal) → ReadsNets corners bytes (Err one) → ReadsNets corners bytes (Err other) → one ≡ other
+one_file_refusal corners bytes one other (at_grammar f p) (at_grammar g q) = unread_same one other (one_parse bytes (Err one) (Err other) p q)
+one_file_refusal corners bytes one other (at_grammar f p) (at_head file g q h) = absurd (not_both file one (one_parse bytes (Ok file) (Err one) q p))
+one_file_refusal corners bytes one other (at_grammar f p) (at_sections file its g q h n) = absurd (not_both file one (one_parse bytes (Ok file) (Err one) q p))
+one_file_refusal corners bytes one other (at_head file g q h) (at_grammar f p) = absurd (not_both file other (one_parse bytes (Ok file) (Err other) q p))
+one_file_refusal corners bytes one other (at_sections file its g q h n) (at_grammar f p) = absurd (not_both file other (one_parse bytes (Ok file) (Err other) q p))
+one_file_refusal corners bytes one other (at_head file f p h) (at_head more g q k) = one_head_refusal file one other h (moved bytes file more p q (Err other) k)
+one_file_refusal corners bytes one other (at_head file f p h) (at_sections more its g q k n) = absurd (no_head_beside file one its h (moved bytes file more p q (Ok its) k))
+one_file_refusal corners bytes one other (at_sections more its g q k n) (at_head file f p h) = absurd (no_head_beside file other its h (moved bytes file more p q (Ok its) k))
+one_file_refusal corners bytes one other (at_sections file its f p h n) (at_sections more second g q k m) =
+    one_section_refusal corners file its one other n (moved_nets bytes file more p q its second h k corners (Err other) m)
 
 -- and none where it gives nets
-pub no_design_beside : (pick : Pick) (bytes : List ℕ) (refusal : Refusal) (design : DesignNets) → ReadsNets (sole_corner pick) bytes (Err refusal) → ReadsNets (sole_corner pick) bytes (Ok design) → ⊥
-no_design_beside pick bytes refusal design (at_grammar f p) (through file its nets q h n) = not_both file refusal (one_parse bytes (Ok file) (Err refusal) q p)
-no_design_beside pick bytes refusal design (at_head file f p h) (through more its nets q k n) = no_head_beside file refusal its h (moved bytes file more p q (Ok its) k)
-no_design_beside pick bytes refusal design (at_sections file its f p h n) (through more second nets q k m) =
-    no_nets_beside pick file its refusal nets n (moved_nets bytes file more p q its second h k pick (Ok nets) m)
+pub no_design_beside : {I : Type 0} (corners : Corners I) (bytes : List ℕ) (refusal : Refusal) (design : DesignNets) → ReadsNets corners bytes (Err refusal) → ReadsNets corners bytes (Ok design) → ⊥
+no_design_beside corners bytes refusal design (at_grammar f p) (through file its nets q h n) = not_both file refusal (one_parse bytes (Ok file) (Err refusal) q p)
+no_design_beside corners bytes refusal design (at_head file f p h) (through more its nets q k n) = no_head_beside file refusal its h (moved bytes file more p q (Ok its) k)
+no_design_beside corners bytes refusal design (at_sections file its f p h n) (through more second nets q k m) =
+    no_nets_beside corners file its refusal nets n (moved_nets bytes file more p q its second h k corners (Ok nets) m)
 
 -- the nets of one file
 abbrev nets_of : List ℕ → List NetElements → DesignNets
@@ -225,24 +225,24 @@ nets_of design nets = record { design = design; nets = nets }
 at_place : {X : Type 0} (P : X → Type 0) (xs : List X) (k : ℕ) (x : X) → All P xs → slice_get xs k ≡ Some x → P x
 at_place P xs k x all at = subst P (get_or_from_slice_get xs k x x at) (all k x (slice_get_within xs k x at))
 
-nets_same : (pick : Pick) (file : SpefText) (its : HeadText) (one other : List NetElements) → NetsSpef (sole_corner pick) file its (Ok one) → NetsSpef (sole_corner pick) file its (Ok other) → one ≡ other
-nets_same pick file its one other (are_nets same faultless r sound) (are_nets more clean s whole) =
+nets_same : {I : Type 0} (corners : Corners I) → AreNumbered corners → (file : SpefText) (its : HeadText) (one other : List NetElements) → NetsSpef corners file its (Ok one) → NetsSpef corners file its (Ok other) → one ≡ other
+nets_same corners numbered file its one other (are_nets same faultless r sound) (are_nets more clean s whole) =
     by_places one other (r.count ∙ sym s.count) at
   where
     at : (k : ℕ) → k < length one → slice_get one k ≡ slice_get other k
     at k below =
         let a = got_below one k below in
         let b = got_below other k (omega (arith, below, r.count, s.count)) in
-        a.1 ∙ ap (λ n. Some n) (one_net pick file its (section_at file.reading.sections k) a.0 b.0 (r.each k a.0 a.1) (s.each k b.0 b.1) (at_place (AreWhole 1) one k a.0 sound a.1) (at_place (AreWhole 1) other k b.0 whole b.1)) ∙ sym b.1
+        a.1 ∙ ap (λ n. Some n) (one_net corners numbered file its (section_at file.reading.sections k) a.0 b.0 (r.each k a.0 a.1) (s.each k b.0 b.1) (at_place (AreWhole corners.count) one k a.0 sound a.1) (at_place (AreWhole corners.count) other k b.0 whole b.1)) ∙ sym b.1
 
-pub one_design : (pick : Pick) (bytes : List ℕ) (one other : DesignNets) → ReadsNets (sole_corner pick) bytes (Ok one) → ReadsNets (sole_corner pick) bytes (Ok other) → one ≡ other
-one_design pick bytes one other (through file its nets p h n) (through more second others q k m) =
+pub one_design : {I : Type 0} (corners : Corners I) → AreNumbered corners → (bytes : List ℕ) (one other : DesignNets) → ReadsNets corners bytes (Ok one) → ReadsNets corners bytes (Ok other) → one ≡ other
+one_design corners numbered bytes one other (through file its nets p h n) (through more second others q k m) =
     let head : its ≡ second = sym (same_head bytes file more p q its second h k) in
-    ap₂ nets_of (ap (λ (t : HeadText). t.design) head) (nets_same pick file its nets others n (moved_nets bytes file more p q its second h k pick (Ok others) m))
+    ap₂ nets_of (ap (λ (t : HeadText). t.design) head) (nets_same corners numbered file its nets others n (moved_nets bytes file more p q its second h k corners (Ok others) m))
 
 -- the bytes of a file have one answer
-pub one_reading : OneReading
-one_reading pick bytes (Ok one) (Ok other) r s = ap (λ d. Ok d) (one_design pick bytes one other r s)
-one_reading pick bytes (Ok one) (Err other) r s = absurd (no_design_beside pick bytes other one s r)
-one_reading pick bytes (Err one) (Ok other) r s = absurd (no_design_beside pick bytes one other r s)
-one_reading pick bytes (Err one) (Err other) r s = ap (λ f. Err f) (one_file_refusal pick bytes one other r s)
+pub one_reading : {I : Type 0} (corners : Corners I) → AreNumbered corners → OneReading corners
+one_reading corners numbered bytes (Ok one) (Ok other) r s = ap (λ d. Ok d) (one_design corners numbered bytes one other r s)
+one_reading corners numbered bytes (Ok one) (Err other) r s = absurd (no_design_beside corners bytes other one s r)
+one_reading corners numbered bytes (Err one) (Ok other) r s = absurd (no_design_beside corners bytes one other r s)
+one_reading corners numbered bytes (Err one) (Err other) r s = ap (λ f. Err f) (one_file_refusal corners bytes one other r s)

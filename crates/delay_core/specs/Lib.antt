@@ -9,6 +9,8 @@ pub mod NetPins
 pub mod NetRows
 pub mod NetlistPhase
 pub mod OneAnswer
+pub mod OneDesign
+pub mod OneStep
 pub mod RefusalLine
 pub mod Refused
 pub mod SpefPhases

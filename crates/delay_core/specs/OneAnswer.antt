@@ -2,26 +2,30 @@
 use Rattle.std.specs.Prelude.{◌≡◌, ℕ, ◌⊎◌, List, Result, Ok, Err}
 use Rattle.cell_models.specs.Cells.{TimedCell}
 use Rattle.cell_models.specs.NamedSets.{NamedCells, set_names}
-use Rattle.corner_set.specs.declared.pick.Pick.{Pick}
 use Rattle.hierarchy.specs.UseLaws.{NamesDiffer}
 use Rattle.liberty_groups.specs.Groups.{Group}
 use Rattle.name_table.specs.Names.{AreDistinct}
+use Rattle.name_table.specs.declared.spef_names.NodeName.{NodeName}
 use Rattle.netlist_link.specs.FlatNetlist.{FlatNetlist}
+use Rattle.rc_tree.specs.Nodes.{node_of}
+use Rattle.spef_nets.specs.Sections.{Corners}
 use Rattle.verilog_netlist.specs.NetModules.{NetModule}
 use Rattle.delay_core.specs.CellPhase.{ModelsCells}
 use Rattle.delay_core.specs.LibraryPhases.{ParsesLibrary, ModelsCell}
 use Rattle.delay_core.specs.LinkPhase.{LinksDesign}
-use Rattle.delay_core.specs.SpefPhases.{sole_corner, DesignNets, ReadsNets}
+use Rattle.delay_core.specs.SpefPhases.{DesignNets, ReadsNets}
 use Rattle.delay_core.specs.UsePhase.{UsesCells}
 use Rattle.delay_core.specs.declared.refusal.Refusal.{Refusal}
-use Rattle.delay_core.specs.declared.refusal.Refusal.TheVariants.{Recursive, Mesh, Loop}
+use Rattle.delay_core.specs.declared.refusal.Refusal.TheVariants.{Recursive, Unreached, Mesh, Loop}
 
 -- What a verdict leaves free: which of the resistors that cut no node off is told of a net's mesh, which of the modules that contain
--- themselves, and which of the loops of arcs.
+-- themselves, which of the loops of arcs, and in which of its spellings an unreached node is told. A name of a node has several
+-- spellings in SPEF. A refusal's line shows head and tail alone, so it is the same for all of them.
 pub data IsFreeChoice : Refusal → Refusal → Type 0 where
   some_resistor : (net : List ℕ) (one other : ℕ) → IsFreeChoice (Mesh net one) (Mesh net other)
   some_module : (one other : List ℕ) → IsFreeChoice (Recursive one) (Recursive other)
   some_loop : (one other : List (List ℕ)) → IsFreeChoice (Loop one) (Loop other)
+  one_node : (net : List ℕ) (one other : NodeName) → node_of one ≡ node_of other → IsFreeChoice (Unreached net one) (Unreached net other)
 
 -- two refusals are one, but for what is left free
 abbrev pub SameRefusal : Refusal → Refusal → Type 0
@@ -33,10 +37,10 @@ SameAnswer (Ok one) (Ok other) = one ≡ other
 SameAnswer (Err one) (Err other) = SameRefusal one other
 SameAnswer _ _ = ⊥
 
--- the bytes of a SPEF file have one answer: nets, or a refusal
-abbrev pub OneReading : Type 0
-OneReading = (pick : Pick) (bytes : List ℕ) (one other : Result DesignNets Refusal) → ReadsNets (sole_corner pick) bytes one
-    → ReadsNets (sole_corner pick) bytes other → one ≡ other
+-- the bytes of a SPEF file have one answer at these corners: nets, or a refusal
+abbrev pub OneReading : {I : Type 0} → Corners I → Type 0
+OneReading corners = (bytes : List ℕ) (one other : Result DesignNets Refusal) → ReadsNets corners bytes one
+    → ReadsNets corners bytes other → one ≡ other
 
 -- the bytes of a library at a corner have one answer: a tree, or a refusal
 abbrev pub OneLibrary : Type 0

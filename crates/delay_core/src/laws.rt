@@ -1,12 +1,16 @@
 //! The laws of the phases: each has one answer.
+ghost use Rattle.corner_set.specs.declared.pick.Pick.{Pick};
+ghost use Rattle.spef_nets.specs.Drafts.{corners_of};
 ghost use Rattle.delay_core.specs.NetlistPhase.{OneNetlist};
 ghost use Rattle.delay_core.specs.OneAnswer.{OneReading, OneLibrary, OneCell, OneUse, OneModels, OneLink};
+ghost use Rattle.delay_core.specs.OneDesign.{OneFile, OneInputs, OneLinking, OneDesign};
 
-/// The law of SPEF files, which its contract states: the bytes of a file have one answer. They say nets, all of whose sections are
-/// without a fault, or they have one refusal. It does nothing when it is called.
-#[tactic(auto, using(crate::proofs::OneSpefFile::one_reading))]
-pub fn one_reading()
-    ensures law { OneReading }
+use corner_set::CornerSet;
+
+/// The law of SPEF files, which its contract states: the bytes of a file have one answer at each set of corners. They say nets, all of
+/// whose sections are without a fault, or they have one refusal. It does nothing when it is called.
+pub fn one_reading<C: CornerSet>()
+    ensures law { (pick : Pick) → OneReading (corners_of C.COUNT C.number_of C.member_of pick) }
 {}
 
 /// The law of libraries, which its contract states: the bytes of a file have one tree, or one refusal. It does nothing when it is
@@ -48,4 +52,33 @@ pub fn one_models()
 #[tactic(auto, using(crate::proofs::OneInputs::one_link_lem))]
 pub fn one_link()
     ensures law { OneLink }
+{}
+
+/// The law of files, which its contract states: a file that is told has one text, or one reason why it is not read. It does nothing when
+/// it is called.
+#[tactic(auto, using(crate::proofs::OneText::one_file))]
+pub fn one_file()
+    ensures law { OneFile }
+{}
+
+/// The law of inputs, which its contract states: the bytes of a netlist and the files of its libraries have one answer, the inputs of a
+/// design, or one reason why there are none, in which one of the modules that contain themselves may be named. It does nothing when it is
+/// called.
+#[tactic(auto, using(crate::proofs::OneDesign::one_inputs))]
+pub fn one_inputs()
+    ensures law { OneInputs }
+{}
+
+/// The law of linked designs, which its contract states: inputs that were read have one linked design, or one refusal. It does nothing
+/// when it is called.
+#[tactic(auto, using(crate::proofs::OneDesign::one_linking))]
+pub fn one_linking()
+    ensures law { OneLinking }
+{}
+
+/// The law of designs, which its contract states: the files of a netlist and of its libraries have one answer, a linked design, or one
+/// reason why there is none, in which one of the modules that contain themselves may be named. It does nothing when it is called.
+#[tactic(auto, using(crate::proofs::OneDesign::one_design))]
+pub fn one_design()
+    ensures law { OneDesign }
 {}

@@ -25,7 +25,8 @@ pub use design_reading::{Design, Inputs, link_inputs, read_design, read_inputs};
 pub use input_files::FILE_LIMIT;
 pub use kinds::edge_word;
 pub use laws::{
-    one_cell, one_library, one_link, one_models, one_netlist, one_reading, one_use_answer,
+    one_cell, one_design, one_file, one_inputs, one_library, one_link, one_linking, one_models,
+    one_netlist, one_reading, one_use_answer,
 };
 pub use library_phases::{model_cell, parse_library};
 pub use library_reading::{Libraries, library_key, read_libraries, read_library};

@@ -7,16 +7,17 @@ use Rattle.verdict_phases.specs.Phases.{RefusedBy, Unread, Reads, Go, Halt}
 use Rattle.corner_set.specs.declared.pick.Pick.{Pick}
 use Rattle.nldm_lookup.specs.declared.beyond.Beyond.{Beyond}
 use Rattle.gdc_words.specs.declared.commands.Command.{Command}
-use Rattle.gdc_words.specs.declared.commands.Command.TheVariants.{Wires, Show, Lookup, Flat, Help, Version}
+use Rattle.gdc_words.specs.declared.commands.Command.TheVariants.{Wires, Calc, Show, Lookup, Flat, Help, Version}
 use Rattle.gdc_words.specs.declared.faults.UsageFault.{UsageFault}
 use Rattle.gdc_words.proofs.Pairs.{one_request}
 use Rattle.delay_core.specs.declared.refusal.FileKey.{FileKey}
 use Rattle.delay_core.specs.declared.refusal.FileKey.TheVariants.{Netlist, Lib, LibMin, LibTyp, LibMax, Spef, Sdf}
 use Rattle.gdc_run.specs.declared.outcome.Outcome.{Outcome}
 use Rattle.gdc_run.specs.declared.outcome.Outcome.TheVariants.{Done, Refused, Usage, ReadFault, WriteFault, OutOfMemory}
-use Rattle.gdc_words.specs.CommandLine.{Request, Asks}
+use Rattle.gdc_words.specs.CommandLine.{Request, Asks, libraries_of}
 use Rattle.gdc_run.specs.Verdict.{Faulty, Answers, Gives, CommandGives, WiresGives, ShowGives, LookupGives, at_reading, at_sdf_reading, at_library_reading}
 use Rattle.gdc_run.specs.Outcomes.{OnDone, IfRefused, IfUsage, IfReadFault, OnWriteFault, GivesText, HasReadFault, AnswersUsage, name_of}
+use Rattle.gdc_run.proofs.CalcFiles.{unread_output}
 use Rattle.gdc_run.proofs.FlatFiles.{unread_flat}
 use Rattle.gdc_run.specs.Completeness.{AnswersVerdict, IsComplete}
 
@@ -39,6 +40,7 @@ unread_file held Wires request LibMin reached missing = cc (wires_reads _ _ _ Li
 unread_file held Wires request LibTyp reached missing = cc (wires_reads _ _ _ LibTyp reached)
 unread_file held Wires request LibMax reached missing = cc (wires_reads _ _ _ LibMax reached)
 unread_file held Wires request Sdf reached missing = cc (wires_reads _ _ _ Sdf reached)
+unread_file held Calc request key reached missing = unread_output request held (libraries_of request.given) key reached missing
 unread_file held Show request Sdf reached missing = at_sdf_reading (Unread Sdf) (missing, refl)
 unread_file held Show request Netlist reached missing = cc (show_reads _ _ Netlist reached)
 unread_file held Show request Lib reached missing = cc (show_reads _ _ Lib reached)

@@ -1,5 +1,5 @@
 -- `lookup` has one answer.
-use Rattle.std.proofs.Common.{◌≡◌, inl, ℕ, List, [], ◌∷◌, ◌++◌, Option, Some, None, ℤ, pos, ◌+ℤ◌, Result, Ok, Err, refl, sym, ap, ◌∙◌, subst, arith}
+use Rattle.std.proofs.Common.{◌≡◌, ℕ, List, [], ◌∷◌, ◌++◌, Option, Some, None, ℤ, pos, ◌+ℤ◌, Result, Ok, Err, refl, sym, ap, ◌∙◌, subst, arith}
 use Rattle.std.specs.Prelude.{All, IfSome}
 use Rattle.std.specs.List.{AllByRecursion, AllZip}
 use Rattle.std.proofs.lemmas.Int.{ints}
@@ -25,11 +25,9 @@ use Rattle.cell_models.specs.declared.cell.Arc.{Arc}
 use Rattle.cell_models.specs.declared.cell.EdgeTables.{EdgeTables}
 use Rattle.cell_models.specs.declared.cell.Pin.{Pin}
 use Rattle.timing_arcs.proofs.ModelTables.{AreTables, HasTables, model_tables}
-use Rattle.verdict_phases.specs.Phases.{Stop, RefusedBy, Step, Go, Halt}
 use Rattle.gdc_run.specs.declared.arc_rows.ArcRow.{ArcRow}
 use Rattle.cell_models.specs.declared.edge.Edge.{Edge}
 use Rattle.cell_models.specs.declared.edge.Edge.TheVariants.{Rise, Fall}
-use Rattle.delay_core.specs.declared.refusal.FileKey.{FileKey}
 use Rattle.delay_core.specs.declared.refusal.FileKey.TheVariants.{Lib}
 use Rattle.cell_models.specs.declared.edge.Part.{Part}
 use Rattle.delay_core.specs.declared.refusal.Refusal.{Refusal}
@@ -37,10 +35,11 @@ use Rattle.delay_core.specs.declared.refusal.Refusal.TheVariants as refusal
 use Rattle.gdc_run.specs.ArcRows.{ArcEdge, edge_of, edges_of, arc_edges, IsNamed, IsArcRow, HasValues, IsEdgeEnd, at_delay, at_transition, IsEdgeRefusal, outside_at, past_time_at, IsFirstRefused, AddsEdges, CellGives, all_valued, some_refused}
 use Rattle.delay_core.specs.LibraryPhases.{ParsesLibrary, ModelsCell, has_model}
 use Rattle.gdc_run.specs.Verdict.{ReadsLib, ReadsArcs, at_library, at_cell, of_cell, LookupGives, at_library_reading, at_arcs, with_arc_rows}
-use Rattle.gdc_run.specs.OneVerdict.{IsDecided, SameStep, HasOneAnswer}
+use Rattle.delay_core.specs.OneStep.{HasOneAnswer}
 use Rattle.delay_core.proofs.OneLibrary.{one_library_lem, one_cell_lem}
 use Rattle.rc_tree.proofs.NetShapes.{first_without}
-use Rattle.gdc_run.proofs.OneText.{stops_alike, reads_or_stops, reads_alike}
+use Rattle.delay_core.proofs.OneChain.{Steps, Then, stops, goes, Plain, one_plain, same_answers, one_then, one_by}
+use Rattle.delay_core.proofs.OneText.{one_file}
 use Rattle.delay_core.proofs.Places.{some_is}
 
 -- ---- the slew and the load that are asked for
@@ -240,34 +239,17 @@ module _ (name : List ℕ) (slew load : ℕ) (beyond : Beyond) (bytes : List ℕ
 
 -- ---- the command
 
-abbrev step_of : Result (List ArcRow) Refusal → Step Refusal FileKey (List ArcRow)
-step_of (Ok rows) = Go rows
-step_of (Err refusal) = Halt (RefusedBy refusal)
+module _ (held : Held) (file name : List ℕ) (slew load : ℕ) (beyond : Beyond) where
+  -- the library is read, and then its bytes have an answer
+  abbrev Looks : Steps (List ArcRow) → Type 0
+  Looks step = Then (ReadsLib (Some held) file) (λ bytes. Plain (ReadsArcs name slew load beyond bytes)) step
 
-same_step : (answer : Result (List ArcRow) Refusal) → SameStep (step_of answer) (step_of answer)
-same_step (Ok rows) = refl
-same_step (Err refusal) = inl refl
+  lookup_view : (step : Steps (List ArcRow)) → LookupGives (Some held) file name slew load beyond step → Looks step
+  lookup_view _ (at_library_reading why r) = stops why r refl
+  lookup_view _ (at_arcs bytes refusal r are) = goes bytes r are
+  lookup_view _ (with_arc_rows bytes rows r are) = goes bytes r are
 
--- the library is not read, or its bytes have an answer
-data Comes (held : Held) (file name : List ℕ) (slew load : ℕ) (beyond : Beyond) (step : Step Refusal FileKey (List ArcRow)) : Type 0 where
-  stops : (why : Stop Refusal FileKey) → ReadsLib (Some held) file (Halt why) → step ≡ Halt why → Comes held file name slew load beyond step
-  reads : (bytes : List ℕ) (answer : Result (List ArcRow) Refusal) → ReadsLib (Some held) file (Go bytes) → ReadsArcs name slew load beyond bytes answer → step ≡ step_of answer → Comes held file name slew load beyond step
-
-comes : (held : Held) (file name : List ℕ) (slew load : ℕ) (beyond : Beyond) (step : Step Refusal FileKey (List ArcRow)) → LookupGives (Some held) file name slew load beyond step → Comes held file name slew load beyond step
-comes held file name slew load beyond _ (at_library_reading why r) = stops why r refl
-comes held file name slew load beyond _ (at_arcs bytes refusal r are) = reads bytes (Err refusal) r are refl
-comes held file name slew load beyond _ (with_arc_rows bytes rows r are) = reads bytes (Ok rows) r are refl
-
-one_coming : (held : Held) (file name : List ℕ) (slew load : ℕ) (beyond : Beyond) (one other : Step Refusal FileKey (List ArcRow)) → Comes held file name slew load beyond one → Comes held file name slew load beyond other → IsDecided one → IsDecided other → SameStep one other
-one_coming held file name slew load beyond one other (stops w r is) (stops v s its) d e =
-    subst (λ (x : Step Refusal FileKey (List ArcRow)). SameStep x other) (sym is) (subst (λ (x : Step Refusal FileKey (List ArcRow)). SameStep (Halt w) x) (sym its)
-    (stops_alike held Lib file w v r s (subst (λ (x : Step Refusal FileKey (List ArcRow)). IsDecided x) is d) (subst (λ (x : Step Refusal FileKey (List ArcRow)). IsDecided x) its e)))
-one_coming held file name slew load beyond one other (stops w r is) (reads y b s u its) d e = absurd (reads_or_stops held Lib file y w s r (subst (λ (x : Step Refusal FileKey (List ArcRow)). IsDecided x) is d))
-one_coming held file name slew load beyond one other (reads y b s u its) (stops w r is) d e = absurd (reads_or_stops held Lib file y w s r (subst (λ (x : Step Refusal FileKey (List ArcRow)). IsDecided x) is e))
-one_coming held file name slew load beyond one other (reads x a r t is) (reads y b s u its) d e =
-    let same : a ≡ b = one_answer name slew load beyond x a b t (subst (λ (z : List ℕ). ReadsArcs name slew load beyond z b) (reads_alike held Lib file y x s r) u) in
-    subst (λ (z : Step Refusal FileKey (List ArcRow)). SameStep z other) (sym is) (subst (λ (z : Step Refusal FileKey (List ArcRow)). SameStep (step_of a) z) (sym its)
-    (subst (λ (z : Result (List ArcRow) Refusal). SameStep (step_of a) (step_of z)) same (same_step a)))
-
-pub one_lookup : (held : Held) (file name : List ℕ) (slew load : ℕ) (beyond : Beyond) → HasOneAnswer (LookupGives (Some held) file name slew load beyond)
-one_lookup held file name slew load beyond one other r s d e = one_coming held file name slew load beyond one other (comes held file name slew load beyond one r) (comes held file name slew load beyond other s) d e
+  pub one_lookup : HasOneAnswer (LookupGives (Some held) file name slew load beyond)
+  one_lookup = one_by (LookupGives (Some held) file name slew load beyond) Looks lookup_view
+      (one_then (ReadsLib (Some held) file) (λ bytes. Plain (ReadsArcs name slew load beyond bytes)) (one_file held Lib file)
+      (λ bytes reads. one_plain (ReadsArcs name slew load beyond bytes) (λ one other r s. same_answers one other (one_answer name slew load beyond bytes one other r s))))

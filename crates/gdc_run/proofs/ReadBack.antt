@@ -1,5 +1,5 @@
 -- The rows that `wires` gives are rows for one corner, of wires alone, whose names are settled where they begin no comment, and so are read back.
-use Rattle.std.proofs.Common.{◌≡◌, ◌≤◌, ◌^◌, ℕ, inl, false, List, [], ◌∷◌, ◌++◌, length, map, Option, Some, Ok, refl, sym, subst, unsigned_abs}
+use Rattle.std.proofs.Common.{◌≡◌, ◌≤◌, ◌^◌, ℕ, inl, inr, false, List, [], ◌∷◌, ◌++◌, length, map, Option, Some, Ok, refl, sym, subst, unsigned_abs}
 use Rattle.std.specs.Prelude.{All, slice_get}
 use Rattle.std.specs.List.{AllZip, AllByRecursion}
 use Rattle.std.proofs.lemmas.List.Elements.{All-nil, All-append, All-contains, All-from_recursion, All-pop, All-weaker, recursion_from_All}
@@ -10,7 +10,8 @@ use Rattle.edge_io.specs.Holding.{Held}
 use Rattle.edge_io.specs.Told.{appended}
 use Rattle.gdc_words.specs.CommandLine.{Request}
 use Rattle.gdc_words.specs.declared.commands.Command.{Command}
-use Rattle.gdc_words.specs.declared.commands.Command.TheVariants.{Wires, Show, Lookup, Flat, Help, Version}
+use Rattle.gdc_words.specs.declared.commands.Command.TheVariants.{Wires, Calc, Show, Lookup, Flat, Help, Version}
+use Rattle.name_table.specs.WellSpelled.{IsWellSpelled}
 use Rattle.name_table.specs.declared.spef_names.NodeName.{NodeName}
 use Rattle.rc_tree.specs.ListedPins.{listed_pins}
 use Rattle.rc_tree.specs.NetElements.{NetElements as TreeElements}
@@ -26,8 +27,8 @@ use Rattle.spef_text.specs.SpefFiles.{SpefText, IsFormed}
 use Rattle.spef_text.specs.Heads.{HeadText}
 use Rattle.verdict_phases.specs.Phases.{Go}
 use Rattle.delay_core.specs.AnnotationRows.{Wire, IsWireDelay, IsAnnotationRow}
-use Rattle.gdc_run.specs.Outcomes.{OnDone, GivesText, GivesReadable}
-use Rattle.gdc_run.specs.ReadBack.{HasNoComment, IsReadable, IsAlwaysReadable}
+use Rattle.gdc_run.specs.Outcomes.{OnDone, GivesText, GivesFit, GivesReadable}
+use Rattle.gdc_run.specs.ReadBack.{HasNoComment, IsFitFor, IsReadable, IsAlwaysReadable}
 use Rattle.delay_core.specs.SpefPhases.{sole_corner, DesignNets, ParsesSpef, is_spef, NetsSpef, are_nets, ReadsNets, through}
 use Rattle.gdc_run.specs.Verdict.{WiresGives, with_rows, CommandGives}
 use Rattle.delay_core.specs.WireNets.{HasDriver, NetGives, is_tree, NetsGive, no_net, and_net}
@@ -116,35 +117,57 @@ fit rows sound plain none = record {
 formed_of : (bytes : List ℕ) (file : SpefText) → ParsesSpef bytes (Ok file) → IsFormed file
 formed_of bytes file (is_spef same reads) = reads.formed
 
-module _ (halves : HalvesSettle) (named : NamedSettles) (law : ReadBack IsSettled) (only : OnlyReadBack IsSettled) where
+module _ (halves : HalvesSettle) (named : NamedSettles) (law : ReadBack IsSettled) (only : OnlyReadBack IsSettled)
+    (spelled : ReadBack IsWellSpelled) (only_spelled : OnlyReadBack IsWellSpelled) where
   section_nets : (pick : Pick) (file : SpefText) (head : HeadText) (nets : List NetElements) → IsFormed file → NetsSpef (sole_corner pick) file head (Ok nets) → All IsGoodNet nets
   section_nets pick file head nets formed (are_nets same faultless are whole) = nets_settle halves named file formed pick head nets are whole
 
   file_nets : (pick : Pick) (bytes : List ℕ) (design : DesignNets) → ReadsNets (sole_corner pick) bytes (Ok design) → All IsGoodNet design.nets
   file_nets pick bytes design (through file head nets parses heads says) = section_nets pick file head nets (formed_of bytes file parses) says
 
-  wires_readable : (held : Option Held) (pick : Pick) (name : List ℕ) (rows : SdfRows) → WiresGives held pick name (Go rows) → IsReadable (output.Sdf rows)
+  wires_readable : (held : Option Held) (pick : Pick) (name : List ℕ) (rows : SdfRows) → WiresGives held pick name (Go rows) → IsReadable Wires (output.Sdf rows)
   wires_readable held pick name rows (with_rows bytes design same reads nets gives) plain =
       let fits = fit rows (nets_sound design.nets rows.wires (file_nets pick bytes design nets) gives.1) plain gives.2 in
       record { says = law 1 (inl refl) rows fits; only = only 1 (inl refl) rows fits }
 
-  command_readable : (held : Option Held) (command : Command) (request : Request) (made : Output) → CommandGives held command request (Go made) → IsReadable made
-  command_readable held Wires request made (rows, gives, is) = subst IsReadable (sym is) (wires_readable held _ _ rows gives)
-  command_readable held Show request made (rows, gives, is) = subst IsReadable (sym is) tt
-  command_readable held Lookup request made point = subst IsReadable (sym point.holds.2) tt
-  command_readable held Flat request made (design, gives, is) = subst IsReadable (sym is) tt
-  command_readable held Help request made is = let same : output.Help ≡ made = cc in subst IsReadable same tt
-  command_readable held Version request made is = let same : output.Version ≡ made = cc in subst IsReadable same tt
+  calc_readable : (made : Output) → IsFitFor Calc made → IsReadable Calc made
+  calc_readable (output.Sdf rows) fits = record { says = spelled 1 (inl refl) rows fits; only = only_spelled 1 (inl refl) rows fits }
+  calc_readable (output.SdfOfCorners rows) fits = record { says = spelled 3 (inr refl) rows fits; only = only_spelled 3 (inr refl) rows fits }
+  calc_readable (output.Listing rows) fits = tt
+  calc_readable (output.Arcs rows) fits = tt
+  calc_readable (output.Flat design) fits = tt
+  calc_readable output.Help fits = tt
+  calc_readable output.Version fits = tt
+
+  command_readable : (held : Option Held) (command : Command) (request : Request) (made : Output) → CommandGives held command request (Go made) → IsFitFor command made
+      → IsReadable command made
+  command_readable held Wires request made (rows, gives, is) fits = subst (IsReadable Wires) (sym is) (wires_readable held _ _ rows gives)
+  command_readable held Calc request made gives fits = calc_readable made fits
+  command_readable held Show request made gives fits = tt
+  command_readable held Lookup request made gives fits = tt
+  command_readable held Flat request made gives fits = tt
+  command_readable held Help request made gives fits = tt
+  command_readable held Version request made gives fits = tt
 
   pub always_readable_lem : IsAlwaysReadable
-  always_readable_lem words held made (request, asked, gives) = command_readable held request.command request made gives
+  always_readable_lem words held made (request, asked, gives) fits = command_readable held request.command request made gives fits
 
 -- what a run has done is readable
-pub done_readable : (words : List (List ℕ)) (held : Option Held) (written written' : Option (List ℕ)) (outcome : Outcome) → IsAlwaysReadable → OnDone outcome (GivesText words held (λ text. written' ≡ appended written text))
+pub done_readable : (words : List (List ℕ)) (held : Option Held) (written written' : Option (List ℕ)) (outcome : Outcome) → IsAlwaysReadable → OnDone outcome (GivesFit words held (λ text. written' ≡ appended written text))
     → OnDone outcome (GivesReadable words held (λ text. written' ≡ appended written text))
-done_readable words held written written' Done law (made, gives, holds) = (made, gives, law words held made gives, holds)
+done_readable words held written written' Done law (made, gives, fits, holds) = (made, gives, law words held made gives fits, holds)
 done_readable words held written written' (Refused refusal) law done = tt
 done_readable words held written written' (Usage fault) law done = tt
 done_readable words held written written' (ReadFault key) law done = tt
 done_readable words held written written' WriteFault law done = tt
 done_readable words held written written' OutOfMemory law done = tt
+
+-- and it gives its text
+pub done_text : (words : List (List ℕ)) (held : Option Held) (written written' : Option (List ℕ)) (outcome : Outcome) → OnDone outcome (GivesFit words held (λ text. written' ≡ appended written text))
+    → OnDone outcome (GivesText words held (λ text. written' ≡ appended written text))
+done_text words held written written' Done (made, gives, fits, holds) = (made, gives, holds)
+done_text words held written written' (Refused refusal) done = tt
+done_text words held written written' (Usage fault) done = tt
+done_text words held written written' (ReadFault key) done = tt
+done_text words held written written' WriteFault done = tt
+done_text words held written written' OutOfMemory done = tt

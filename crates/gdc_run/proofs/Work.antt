@@ -1,19 +1,22 @@
 -- The work of a run.
-use Rattle.std.proofs.Common.{ℕ, ◌+◌, ◌*◌, ◌≤◌, List, length, Ok, refl, arith}
+use Rattle.std.proofs.Common.{◌≡◌, ℕ, ◌+◌, ◌*◌, ◌≤◌, List, length, Ok, refl, sym, subst, arith}
 use Rattle.std.specs.Prelude.{Option}
 use Rattle.corner_set.specs.declared.pick.Pick.{Pick}
 use Rattle.edge_io.specs.Holding.{Held}
 use Rattle.verdict_phases.specs.Phases.{Go}
 use Rattle.gdc_words.specs.declared.commands.Command.{Command}
-use Rattle.gdc_words.specs.declared.commands.Command.TheVariants.{Wires, Show, Lookup, Flat, Help, Version}
-use Rattle.gdc_words.specs.CommandLine.{Request, Asks}
+use Rattle.gdc_words.specs.declared.commands.Command.TheVariants.{Wires, Calc, Show, Lookup, Flat, Help, Version}
+use Rattle.gdc_words.specs.declared.commands.Libraries.{Libraries}
+use Rattle.gdc_words.specs.declared.commands.Libraries.TheVariants.{One, EachCorner}
+use Rattle.gdc_words.specs.CommandLine.{Request, Asks, libraries_of}
 use Rattle.liberty_groups.specs.Groups.{Group}
 use Rattle.cell_models.specs.Cells.{TimedCell}
+use Rattle.gdc_run.specs.Calculation.{no_settings}
 use Rattle.gdc_run.specs.ArcRows.{arc_edges}
 use Rattle.delay_core.specs.LibraryPhases.{ParsesLibrary, ModelsCell}
 use Rattle.gdc_run.specs.Verdict.{ReadsSpef, ReadsLib}
 use Rattle.delay_core.specs.SpefWork.{TextWork, IsWithin}
-use Rattle.gdc_run.specs.Work.{WiresWork, no_file, of_file, CellWork, no_model_yet, of_model, LookupWork, no_library, of_library, CommandWork, WordsWork, no_words, of_words}
+use Rattle.gdc_run.specs.Work.{WiresWork, no_file, of_file, CellWork, no_model_yet, of_model, LookupWork, no_library, of_library, OutputWork, CommandWork, WordsWork, no_words, of_words}
 
 pub no_file_work : (held : Option Held) (pick : Pick) (name : List ℕ) (steps : ℕ) → IsWithin (WiresWork held pick name) steps steps
 no_file_work held pick name steps = record { work = 0; given = no_file; bound = omega arith }
@@ -37,9 +40,14 @@ pub lookup_work : (held : Option Held) (file name bytes : List ℕ) (before afte
 lookup_work held file name bytes before after reads within =
     record { work = within.work; given = of_library bytes reads within.given; bound = within.bound }
 
+no_output_work : (held : Option Held) (request : Request) (libraries : Libraries) → OutputWork held request libraries 0
+no_output_work held request One = no_settings
+no_output_work held request EachCorner = no_settings
+
 -- any words may give no work
 no_command_work : (held : Option Held) (command : Command) (request : Request) → CommandWork held command request 0
 no_command_work held Wires request = no_file
+no_command_work held Calc request = no_output_work held request (libraries_of request.given)
 no_command_work held Show request = refl
 no_command_work held Lookup request = no_library
 no_command_work held Flat request = refl
@@ -48,6 +56,11 @@ no_command_work held Version request = refl
 
 pub no_work_of_command : (held : Option Held) (command : Command) (request : Request) (steps : ℕ) → IsWithin (CommandWork held command request) steps steps
 no_work_of_command held command request steps = record { work = 0; given = no_command_work held command request; bound = omega arith }
+
+-- `calc` has the work of its calculation
+pub calc_within : (held : Option Held) (command : Command) (request : Request) (before after : ℕ) → command ≡ Calc → IsWithin (OutputWork held request (libraries_of request.given)) before after
+    → IsWithin (CommandWork held command request) before after
+calc_within held command request before after is within = subst (λ (own : Command). IsWithin (CommandWork held own request) before after) (sym is) within
 
 pub no_words_work : (words : List (List ℕ)) (held : Option Held) (steps : ℕ) → IsWithin (WordsWork words held) steps steps
 no_words_work words held steps = record { work = 0; given = no_words; bound = omega arith }

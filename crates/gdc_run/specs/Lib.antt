@@ -1,4 +1,5 @@
 pub mod ArcRows
+pub mod Calculation
 pub mod Completeness
 pub mod Ends
 pub mod FlatLines
@@ -8,6 +9,7 @@ pub mod Looking
 pub mod OneVerdict
 pub mod Outcomes
 pub mod Outputs
+pub mod Putting
 pub mod ReadBack
 pub mod Saying
 pub mod Statuses

@@ -11,15 +11,17 @@ use Rattle.sdf_reader.specs.declared.rows.SdfRow.{SdfRow}
 use Rattle.verdict_phases.specs.Phases.{Stop, RefusedBy, Step, Go, Halt}
 use Rattle.verdict_phases.specs.FileReading.{ReadsFile}
 use Rattle.gdc_words.specs.declared.commands.Command.{Command}
-use Rattle.gdc_words.specs.declared.commands.Command.TheVariants.{Wires, Show, Lookup, Flat, Help, Version}
+use Rattle.gdc_words.specs.declared.commands.Command.TheVariants.{Wires, Calc, Show, Lookup, Flat, Help, Version}
 use Rattle.gdc_words.specs.declared.commands.Key.TheVariants as key
+use Rattle.gdc_words.specs.declared.commands.Libraries.{Libraries}
+use Rattle.gdc_words.specs.declared.commands.Libraries.TheVariants.{One, EachCorner}
 use Rattle.gdc_words.specs.declared.faults.UsageFault.{UsageFault}
 use Rattle.delay_core.specs.declared.refusal.FileKey.{FileKey}
 use Rattle.delay_core.specs.declared.refusal.FileKey.TheVariants.{Spef, Sdf, Lib}
 use Rattle.delay_core.specs.declared.refusal.LimitKind.TheVariants.{File}
 use Rattle.delay_core.specs.declared.refusal.Refusal.{Refusal}
 use Rattle.delay_core.specs.declared.refusal.Refusal.TheVariants.{Limit, SdfSyntax}
-use Rattle.gdc_words.specs.CommandLine.{Request, Asks, value_of, pick_from, beyond_from}
+use Rattle.gdc_words.specs.CommandLine.{Request, Asks, libraries_of, value_of, pick_from, beyond_from}
 use Rattle.corner_set.specs.declared.pick.Pick.{Pick}
 use Rattle.delay_core.specs.DesignReading.{LinkedDesign, ReadsDesign}
 use Rattle.delay_core.specs.InputFiles.{file_limit}
@@ -29,6 +31,8 @@ use Rattle.liberty_groups.specs.Groups.{Group}
 use Rattle.nldm_lookup.specs.declared.beyond.Beyond.{Beyond}
 use Rattle.cell_models.specs.Cells.{TimedCell}
 use Rattle.gdc_run.specs.ArcRows.{CellGives}
+use Rattle.gdc_run.specs.Calculation.{each_corner, files_with, CalcGives}
+use Rattle.gdc_run.specs.Putting.{As}
 use Rattle.delay_core.specs.LibraryPhases.{ParsesLibrary, ModelsCell}
 use Rattle.gdc_run.specs.declared.arc_rows.ArcRow.{ArcRow}
 use Rattle.delay_core.specs.WireNets.{RowsOf}
@@ -102,15 +106,16 @@ pub record ReadsPoint (request : Request) (fact : ℕ → ℕ → Type 0) : Type
   pub load_reads : IsGrains (value_of request.given key.Load) load
   pub holds : fact slew load
 
--- the phases of which the value is put into what is written
-abbrev pub As : {A : Type 0} → (A → Output) → (Step Refusal FileKey A → Type 0) → Step Refusal FileKey Output → Type 0
-As {A} put phase (Go output) = (value : A) × phase (Go value) × (output ≡ put value)
-As put phase (Halt why) = phase (Halt why)
+-- what `calc` has to write with such libraries: rows of the one corner, or of each of the three
+abbrev pub CalcOutput : Option Held → Request → Libraries → Step Refusal FileKey Output → Type 0
+CalcOutput held request One step = As output.Sdf (CalcGives sole_corner held (files_with request One) request) step
+CalcOutput held request EachCorner step = As output.SdfOfCorners (CalcGives each_corner held (files_with request EachCorner) request) step
 
 -- the phases of a command over its keys
 abbrev pub CommandGives : Option Held → Command → Request → Step Refusal FileKey Output → Type 0
 CommandGives held Wires request step = As output.Sdf
     (WiresGives held (pick_from request.given) (value_of request.given key.Spef)) step
+CommandGives held Calc request step = CalcOutput held request (libraries_of request.given) step
 CommandGives held Show request step = As output.Listing (ShowGives held (value_of request.given key.Sdf)) step
 CommandGives held Lookup request step = ReadsPoint request
     (λ slew load. As output.Arcs (LookupGives held (value_of request.given key.Lib) (value_of request.given key.Cell) slew load

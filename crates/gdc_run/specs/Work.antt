@@ -3,16 +3,23 @@ use Rattle.std.specs.Prelude.{◌≡◌, ℕ, ◌*◌, IsTrue, List, length, Opt
 use Rattle.edge_io.specs.Holding.{Held}
 use Rattle.corner_set.specs.declared.pick.Pick.{Pick}
 use Rattle.verdict_phases.specs.Phases.{Go}
+use Rattle.verdict_phases.specs.declared.ends.PhaseEnd.{PhaseEnd}
 use Rattle.verdict_phases.specs.declared.ends.PhaseEnd.TheVariants as phase
 use Rattle.gdc_words.specs.declared.commands.Command.{Command}
-use Rattle.gdc_words.specs.declared.commands.Command.TheVariants.{Wires, Show, Lookup, Flat, Help, Version}
+use Rattle.gdc_words.specs.declared.commands.Command.TheVariants.{Wires, Calc, Show, Lookup, Flat, Help, Version}
 use Rattle.gdc_words.specs.declared.commands.Key.TheVariants as key
-use Rattle.gdc_words.specs.CommandLine.{Request, Asks, value_of, pick_from}
+use Rattle.gdc_words.specs.declared.commands.Libraries.{Libraries}
+use Rattle.gdc_words.specs.declared.commands.Libraries.TheVariants.{One, EachCorner}
+use Rattle.gdc_words.specs.CommandLine.{Request, Asks, libraries_of, value_of, pick_from}
+use Rattle.delay_core.specs.SpefPhases.{sole_corner}
+use Rattle.delay_core.specs.declared.refusal.FileKey.{FileKey}
+use Rattle.delay_core.specs.declared.refusal.Refusal.{Refusal}
 use Rattle.gdc_run.specs.declared.outcome.Outcome.{Outcome}
 use Rattle.gdc_run.specs.declared.outcome.Outcome.TheVariants as outcome
 use Rattle.gdc_run.specs.declared.top.End.{End}
 use Rattle.gdc_run.specs.declared.top.End.TheVariants as end
 use Rattle.delay_core.specs.SpefWork.{TextWork, is_early}
+use Rattle.gdc_run.specs.Calculation.{each_corner, files_with, CalcWork}
 use Rattle.gdc_run.specs.Verdict.{ReadsSpef, ReadsLib}
 use Rattle.liberty_groups.specs.Groups.{Group}
 use Rattle.cell_models.specs.Cells.{TimedCell}
@@ -35,9 +42,15 @@ pub data LookupWork (held : Option Held) (file name : List ℕ) : ℕ → Type 0
   no_library : LookupWork held file name 0
   of_library : {work : ℕ} (bytes : List ℕ) → ReadsLib held file (Go bytes) → CellWork name bytes work → LookupWork held file name work
 
--- the work of a command: `wires` and `lookup` take steps, and no other
+-- the work of `calc` with such libraries: at the one corner, or at each of the three
+abbrev pub OutputWork : Option Held → Request → Libraries → ℕ → Type 0
+OutputWork held request One work = CalcWork sole_corner held (files_with request One) request work
+OutputWork held request EachCorner work = CalcWork each_corner held (files_with request EachCorner) request work
+
+-- the work of a command: `wires`, `calc` and `lookup` take steps, and no other
 abbrev pub CommandWork : Option Held → Command → Request → ℕ → Type 0
 CommandWork held Wires request work = WiresWork held (pick_from request.given) (value_of request.given key.Spef) work
+CommandWork held Calc request work = OutputWork held request (libraries_of request.given) work
 CommandWork held Show request work = work ≡ 0
 CommandWork held Lookup request work = LookupWork held (value_of request.given key.Lib) (value_of request.given key.Cell) work
 CommandWork held Flat request work = work ≡ 0

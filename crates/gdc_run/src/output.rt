@@ -7,7 +7,7 @@ ghost use Rattle.gdc_run.specs.Outputs.{listing_text, names_text, times_text, ar
 
 use crate::arc_rows::{ArcRow, ArcRows};
 use crate::flat_text::write_flat;
-use corner_set::Single;
+use corner_set::{Single, Triple};
 use delay_core::{Design, edge_word};
 use delay_units::{Femto, Text32, write_atto, write_femto};
 use edge_io::{Failed, Sink, write_5, write_all};
@@ -18,8 +18,10 @@ use sdf_writer::{Rows, write};
 /// What a run writes.
 #[derive(Drop)]
 pub enum Output {
-    /// The SDF text of these rows.
+    /// The SDF text of these rows of one corner.
     Sdf(Rows<Single>),
+    /// The SDF text of these rows of three corners.
+    SdfOfCorners(Rows<Triple>),
     /// A line for each of these rows, and then their summary.
     Listing(SdfRows),
     /// A line for each of these rows of arcs.
@@ -91,6 +93,7 @@ pub fn write_output<O: Sink>(output: &Output, out: &mut O) -> Result<(), Failed>
 {
     match output {
         Output::Sdf(rows) => write(rows, out),
+        Output::SdfOfCorners(rows) => write(rows, out),
         Output::Listing(rows) => write_listing(rows, out),
         Output::Arcs(rows) => write_arcs(rows, out),
         Output::Flat(design) => write_flat(design, out),

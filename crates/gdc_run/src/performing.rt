@@ -1,13 +1,15 @@
 //! What each command does.
-ghost use Rattle.std.specs.Prelude.{◌≡◌};
+ghost use Rattle.std.specs.Prelude.{◌≡◌, IfOk};
 ghost use Rattle.verdict_phases.specs.Phases.{Follows};
 ghost use Rattle.delay_core.specs.Refused.{AtReadFault};
 ghost use Rattle.gdc_run.specs.Outcomes.{HasCause};
+ghost use Rattle.gdc_run.specs.ReadBack.{IsFitFor};
 ghost use Rattle.gdc_run.specs.Verdict.{CommandGives};
 ghost use Rattle.delay_core.specs.SpefWork.{IsWithin, OnEarly};
 ghost use Rattle.gdc_run.specs.Work.{CommandWork};
 
 use crate::arc_rows::Point;
+use crate::calc::calc;
 use crate::flat::flat;
 use crate::lookup::lookup;
 use crate::output::Output;
@@ -29,6 +31,7 @@ pub fn perform<H: Shelf, L: Ledger>(
     steps: &mut Steps<L>,
 ) -> Result<Output, PhaseEnd<Refusal, FileKey>>
     ensures follows { Follows (CommandGives (H.held shelf.old) asked.now.command asked.now) result }
+    ensures fit { IfOk result (IsFitFor asked.now.command) }
     ensures fault { AtReadFault result
         (HasCause (H.held shelf.old) asked.now (H.faults shelf.old) (H.faults shelf.new) (H.opens shelf.old) (H.opens shelf.new)) }
     ensures steps { IsWithin (CommandWork (H.held shelf.old) asked.now.command asked.now) steps.old steps.new }
@@ -39,6 +42,7 @@ pub fn perform<H: Shelf, L: Ledger>(
             let rows = wires(alloc, shelf, asked.needed(Key::Spef), asked.pick(), steps)?;
             Ok(Output::Sdf(rows))
         }
+        Command::Calc => calc(alloc, shelf, asked, steps),
         Command::Show => {
             let rows = show(alloc, shelf, asked.needed(Key::Sdf))?;
             Ok(Output::Listing(rows))

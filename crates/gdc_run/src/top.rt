@@ -4,15 +4,16 @@ ghost use Rattle.edge_io.specs.Counts.{Rose};
 ghost use Rattle.edge_io.specs.Told.{appended, AppendsFrontOf};
 ghost use Rattle.gdc_words.specs.CommandLine.{Asks};
 ghost use Rattle.gdc_run.specs.Verdict.{Gives, Answers};
-ghost use Rattle.gdc_run.specs.Outcomes.{OnDone, IfRefused, IfUsage, IfReadFault, OnWriteFault, UnlessWritten, GivesText, GivesReadable, HasReadFault, AnswersUsage};
+ghost use Rattle.gdc_run.specs.Outcomes.{OnDone, IfRefused, IfUsage, IfReadFault, OnWriteFault, UnlessWritten, GivesText, GivesFit, GivesReadable, HasReadFault, AnswersUsage};
 ghost use Rattle.gdc_run.specs.OneVerdict.{OneVerdict};
-ghost use Rattle.gdc_run.specs.Saying.{Says};
+ghost use Rattle.gdc_run.specs.Saying.{AskForCorners, Says};
 ghost use Rattle.gdc_run.specs.Completeness.{IsComplete};
-ghost use Rattle.gdc_run.specs.Ends.{MeansEnd, FollowsTop};
+ghost use Rattle.gdc_run.specs.Ends.{MeansEnd, IfRefusedEnd, FollowsTop};
 ghost use Rattle.delay_core.specs.SpefWork.{IsWithin};
 ghost use Rattle.gdc_run.specs.Work.{WordsWork, OnEarlyEnd, BeforeTrees};
 ghost use Rattle.verdict_phases.specs.Phases.{RefusedBy, Halt};
 
+use crate::calc::corner_count;
 use crate::laws::{always_readable, one_verdict};
 use crate::lines::say;
 use crate::outcome::Outcome;
@@ -59,34 +60,38 @@ impl From<PhaseEnd<Refusal, FileKey>> for End {
     }
 }
 
-/// What the words ask for, as it is to be written.
+/// What the words ask for, as it is to be written. `corners` becomes how many corners they ask for.
 #[tactic(auto, using(crate::proofs::Work::no_words_work, crate::proofs::Work::words_work))]
 fn decide<H: Shelf, L: Ledger>(
     alloc: Global,
     words: &Words,
     shelf: &mut H,
+    corners: &mut usize,
     steps: &mut Steps<L>,
 ) -> Result<Output, End>
     ensures follows { FollowsTop words.now (H.held shelf.old) result }
     ensures fault { MeansEnd words.now (H.held shelf.old) (H.faults shelf.old) (H.faults shelf.new) (H.opens shelf.old)
         (H.opens shelf.new) result }
+    ensures corners { IfRefusedEnd result (AskForCorners words.now corners.new) }
     ensures steps { IsWithin (WordsWork words.now (H.held shelf.old)) steps.old steps.new }
     ensures no_steps { OnEarlyEnd result (steps.new ≡ steps.old) }
 {
     let asked = read_words(alloc, words)?;
+    *corners = corner_count(asked.libraries());
     let output = perform(alloc, &asked, shelf, steps)?;
     Ok(output)
 }
 
-/// Decides, and writes what there is to write.
+/// Decides, and writes what there is to write. `corners` becomes how many corners the words ask for.
 fn answer<H: Shelf, O: Sink, L: Ledger>(
     alloc: Global,
     words: &Words,
     shelf: &mut H,
+    corners: &mut usize,
     out: &mut O,
     steps: &mut Steps<L>,
 ) -> Outcome
-    ensures done { OnDone result (GivesText words.now (H.held shelf.old)
+    ensures done { OnDone result (GivesFit words.now (H.held shelf.old)
         (λ text. O.written out.new ≡ appended (O.written out.old) text)) }
     ensures refused { IfRefused result
         (λ refusal. Gives words.now (H.held shelf.old) (Answers (Halt (RefusedBy refusal)))) }
@@ -97,10 +102,11 @@ fn answer<H: Shelf, O: Sink, L: Ledger>(
         × GivesText words.now (H.held shelf.old)
         (λ text. AppendsFrontOf text (O.written out.old) (O.written out.new))) }
     ensures untouched { UnlessWritten result (O.written out.new ≡ O.written out.old) }
+    ensures corners { IfRefused result (λ _. AskForCorners words.now corners.new) }
     ensures steps { IsWithin (WordsWork words.now (H.held shelf.old)) steps.old steps.new }
     ensures no_steps { BeforeTrees result (steps.new ≡ steps.old) }
 {
-    match decide(alloc, words, shelf, steps) {
+    match decide(alloc, words, shelf, corners, steps) {
         Err(End::Usage(fault)) => Outcome::Usage(fault),
         Err(End::Phase(PhaseEnd::Refused(refusal))) => Outcome::Refused(refusal),
         Err(End::Phase(PhaseEnd::ReadFault(key))) => Outcome::ReadFault(key),
@@ -126,8 +132,8 @@ pub fn run<H: Shelf, O: Sink, E: Sink, L: Ledger>(
     err: &mut E,
     steps: &mut Steps<L>,
 ) -> Outcome
-    // Done: the verdict gives what is to be written, and its text stands behind what `out` held. What is written for `wires` is
-    // read back, unless a name in it begins with `//`: the text says the rows that the verdict gives, and no others.
+    // Done: the verdict gives what is to be written, and its text stands behind what `out` held. What is written for `calc` is read back,
+    // and so is that for `wires`, unless a name in it begins with `//`: the text says the rows that the verdict gives, and no others.
     ensures done { OnDone result (GivesReadable words.now (H.held shelf.old)
         (λ text. O.written out.new ≡ appended (O.written out.old) text)) }
 
@@ -158,18 +164,19 @@ pub fn run<H: Shelf, O: Sink, E: Sink, L: Ledger>(
     // The verdict is one.
     ensures one_verdict { OneVerdict }
 
-    // The answer's line stands behind what `err` held. Each command has one corner.
-    ensures said { Says 1 result (E.written err.old) (E.written err.new) (E.faults err.old) (E.faults err.new) }
+    // The answer's line stands behind what `err` held, with as many corners as the words ask for.
+    ensures said { Says words.now result (E.written err.old) (E.written err.new) (E.faults err.old) (E.faults err.new) }
 
-    // No more steps than 16 for each resistor, capacitance to ground and connection of the nets, and none before all sections are
-    // read without a fault, or before the model of a cell is made.
+    // No more steps than 16 for each resistor, capacitance to ground and connection of the nets, and for `calc` 160 for each edge of an
+    // arc beside them; and none before all sections are read without a fault, or before the model of a cell is made.
     ensures steps { IsWithin (WordsWork words.now (H.held shelf.old)) steps.old steps.new }
     ensures no_steps { BeforeTrees result (steps.new ≡ steps.old) }
 {
     always_readable();
     one_verdict();
-    let outcome = answer(alloc, words, shelf, out, steps);
+    let mut corners = Single::COUNT;
+    let outcome = answer(alloc, words, shelf, &mut corners, out, steps);
     // The answer stays where its line could not be written.
-    let _ = say(&outcome, Single::COUNT, err);
+    let _ = say(&outcome, corners, err);
     outcome
 }

@@ -6,7 +6,7 @@ use Rattle.std.specs.List.{find, AllByRecursion}
 use Rattle.std.proofs.lemmas.List.Elements.{All-from_recursion, All-push, recursion_from_All}
 use Rattle.gdc_words.specs.declared.commands.Command.{Command}
 use Rattle.gdc_words.specs.declared.commands.Key.{Key}
-use Rattle.gdc_words.specs.declared.commands.Key.TheVariants.{Slew, Load, Spef, Triple, Sdf, Netlist, Top, Lib, LibMin, LibTyp, LibMax, Cell, Outside}
+use Rattle.gdc_words.specs.declared.commands.Key.TheVariants.{Slew, Load, Spef, Triple, Sdf, Netlist, Top, Lib, LibMin, LibTyp, LibMax, Cell, InputSlew, PortLoad, Missing, WireSlew, Outside}
 use Rattle.gdc_words.specs.declared.asked.Given.{Given}
 use Rattle.gdc_words.specs.declared.faults.UsageFault.{UsageFault}
 use Rattle.gdc_words.specs.declared.faults.WordsEnd.{WordsEnd}
@@ -60,6 +60,8 @@ value_formed pairs key pair all e =
 pub decimal_reads : (key : Key) (value : List ℕ) → IsTrue (is_decimal key) → IsValue key value → (grains : ℕ) × IsGrains value grains
 decimal_reads Slew value decimal is = is
 decimal_reads Load value decimal is = is
+decimal_reads InputSlew value decimal is = is
+decimal_reads PortLoad value decimal is = is
 decimal_reads Spef value decimal is = cc
 decimal_reads Triple value decimal is = cc
 decimal_reads Sdf value decimal is = cc
@@ -70,6 +72,8 @@ decimal_reads LibMin value decimal is = cc
 decimal_reads LibTyp value decimal is = cc
 decimal_reads LibMax value decimal is = cc
 decimal_reads Cell value decimal is = cc
+decimal_reads Missing value decimal is = cc
+decimal_reads WireSlew value decimal is = cc
 decimal_reads Outside value decimal is = cc
 
 -- pairs are read in one way

@@ -3,15 +3,19 @@ use Rattle.std.specs.Prelude.{◌≡◌, ℕ, ◌+◌, Bool, true, false, not, �
 use Rattle.std.specs.List.{find, list_any}
 use Rattle.std.specs.Str.{bytes_eq}
 use Rattle.gdc_words.specs.declared.commands.Command.{Command}
-use Rattle.gdc_words.specs.declared.commands.Command.TheVariants.{Wires, Show, Lookup, Flat, Help, Version}
+use Rattle.gdc_words.specs.declared.commands.Command.TheVariants.{Wires, Calc, Show, Lookup, Flat, Help, Version}
 use Rattle.gdc_words.specs.declared.commands.Key.{Key}
 use Rattle.corner_set.specs.declared.pick.Pick.{Pick}
 use Rattle.corner_set.specs.declared.pick.Pick.TheVariants.{Min, Typ, Max}
-use Rattle.gdc_words.specs.declared.commands.Key.TheVariants.{Spef, Triple, Sdf, Netlist, Top, Lib, LibMin, LibTyp, LibMax, Cell, Slew, Load, Outside}
+use Rattle.gdc_words.specs.declared.commands.Key.TheVariants.{Spef, Triple, Sdf, Netlist, Top, Lib, LibMin, LibTyp, LibMax, Cell, Slew, Load, InputSlew, PortLoad, Missing, WireSlew, Outside}
 use Rattle.gdc_words.specs.declared.commands.Libraries.{Libraries}
 use Rattle.gdc_words.specs.declared.commands.Libraries.TheVariants.{One, EachCorner}
 use Rattle.nldm_lookup.specs.declared.beyond.Beyond.{Beyond}
 use Rattle.nldm_lookup.specs.declared.beyond.Beyond.TheVariants.{Refuse, Edge, Extend}
+use Rattle.net_parasitics.specs.declared.ends.Missing.{Missing as MissingNets}
+use Rattle.net_parasitics.specs.declared.ends.Missing.TheVariants as nets
+use Rattle.wire_slews.specs.declared.slews.WireSlew.{WireSlew as WireMode}
+use Rattle.wire_slews.specs.declared.slews.WireSlew.TheVariants as wire
 use Rattle.gdc_words.specs.declared.asked.Given.{Given}
 use Rattle.gdc_words.specs.declared.faults.UsageKind.{UsageKind}
 use Rattle.gdc_words.specs.declared.faults.UsageKind.TheVariants.{NoCommand, UnknownCommand, UnknownWord, Repeated, MissingValue, BadValue, Mixed, MissingKey}
@@ -27,6 +31,7 @@ pub record Request : Type 0 where
 abbrev pub command_of : List ℕ → Option Command
 command_of word =
     if bytes_eq word (codes "wires") then Some Wires
+    else if bytes_eq word (codes "calc") then Some Calc
     else if bytes_eq word (codes "show") then Some Show
     else if bytes_eq word (codes "lookup") then Some Lookup
     else if bytes_eq word (codes "flat") then Some Flat
@@ -48,12 +53,17 @@ key_word LibMax = codes "--lib-max"
 key_word Cell = codes "--cell"
 key_word Slew = codes "--slew"
 key_word Load = codes "--load"
+key_word InputSlew = codes "--input-slew"
+key_word PortLoad = codes "--port-load"
+key_word Missing = codes "--missing"
+key_word WireSlew = codes "--wire-slew"
 key_word Outside = codes "--outside"
 
 -- all keys
 abbrev pub keys : List Key
 keys =
-    Spef ∷ Triple ∷ Sdf ∷ Netlist ∷ Top ∷ Lib ∷ LibMin ∷ LibTyp ∷ LibMax ∷ Cell ∷ Slew ∷ Load ∷ Outside ∷ []
+    Spef ∷ Triple ∷ Sdf ∷ Netlist ∷ Top ∷ Lib ∷ LibMin ∷ LibTyp ∷ LibMax ∷ Cell ∷ Slew ∷ Load
+    ∷ InputSlew ∷ PortLoad ∷ Missing ∷ WireSlew ∷ Outside ∷ []
 
 -- the key that a word names
 abbrev pub key_of : List ℕ → Option Key
@@ -63,29 +73,40 @@ key_of word = find (λ key. bytes_eq (key_word key) word) keys
 abbrev pub same_key : Key → Key → Bool
 same_key one other = bytes_eq (key_word one) (key_word other)
 
--- The keys that a command needs beside such libraries, in the order in which a missing one is named. No command takes a library for each
--- corner yet.
+-- the keys of such libraries
+abbrev pub library_keys : Libraries → List Key
+library_keys One = Lib ∷ []
+library_keys EachCorner = LibMin ∷ LibTyp ∷ LibMax ∷ []
+
+-- The keys that a command needs beside such libraries, in the order in which a missing one is named. The calculation alone takes a library
+-- for each corner.
 abbrev pub needed_keys : Command → Libraries → List Key
 needed_keys Wires libraries = Spef ∷ []
+needed_keys Calc libraries = Netlist ∷ Top ∷ Spef ∷ InputSlew ∷ library_keys libraries
 needed_keys Show libraries = Sdf ∷ []
 needed_keys Lookup libraries = Lib ∷ Cell ∷ Slew ∷ Load ∷ []
 needed_keys Flat libraries = Netlist ∷ Top ∷ Lib ∷ []
 needed_keys Help libraries = []
 needed_keys Version libraries = []
 
--- the keys that may stand beside them
-abbrev pub further_keys : Command → List Key
-further_keys Wires = Triple ∷ []
-further_keys Show = []
-further_keys Lookup = Outside ∷ []
-further_keys Flat = []
-further_keys Help = []
-further_keys Version = []
+-- the keys that may stand beside them: a member of the triples is picked for one library alone
+abbrev pub further_keys : Command → Libraries → List Key
+further_keys Wires libraries = Triple ∷ []
+further_keys Calc One = PortLoad ∷ Triple ∷ Missing ∷ WireSlew ∷ Outside ∷ []
+further_keys Calc EachCorner = PortLoad ∷ Missing ∷ WireSlew ∷ Outside ∷ []
+further_keys Show libraries = []
+further_keys Lookup libraries = Outside ∷ []
+further_keys Flat libraries = []
+further_keys Help libraries = []
+further_keys Version libraries = []
+
+-- all keys that a command takes beside such libraries
+abbrev pub keys_beside : Command → Libraries → List Key
+keys_beside command libraries = needed_keys command libraries ++ further_keys command libraries
 
 -- a command takes a key, beside one library or beside one for each corner
 abbrev pub takes_key : Command → Key → Bool
-takes_key command key =
-    list_any (λ taken. same_key taken key) (needed_keys command One ++ (needed_keys command EachCorner ++ further_keys command))
+takes_key command key = list_any (λ taken. same_key taken key) (keys_beside command One ++ keys_beside command EachCorner)
 
 -- the member of a triple that a word names
 abbrev pub pick_of : List ℕ → Option Pick
@@ -93,6 +114,20 @@ pick_of word =
     if bytes_eq word (codes "min") then Some Min
     else if bytes_eq word (codes "typ") then Some Typ
     else if bytes_eq word (codes "max") then Some Max
+    else None
+
+-- what a word says that a net is which has no section
+abbrev pub missing_of : List ℕ → Option MissingNets
+missing_of word =
+    if bytes_eq word (codes "refuse") then Some nets.Refuse
+    else if bytes_eq word (codes "zero") then Some nets.Zero
+    else None
+
+-- what a word says that a wire does to a slew
+abbrev pub wire_slew_of : List ℕ → Option WireMode
+wire_slew_of word =
+    if bytes_eq word (codes "none") then Some wire.Same
+    else if bytes_eq word (codes "rss") then Some wire.Rss
     else None
 
 -- what a word says is done past the end of an axis
@@ -111,10 +146,12 @@ is_filled (b ∷ bytes) = true
 abbrev pub is_decimal : Key → Bool
 is_decimal Slew = true
 is_decimal Load = true
+is_decimal InputSlew = true
+is_decimal PortLoad = true
 is_decimal _ = false
 
--- A value has the form that its key wants: the name of a file, of a module or of a cell is a text that is not empty, a member of a triple
--- and what is done past an axis have their words, and a decimal reads as grains.
+-- A value has the form that its key wants: the name of a file, of a module or of a cell is a text that is not empty, a member of a triple,
+-- what a net without a section is, what a wire does to a slew and what is done past an axis have their words, and a decimal reads as grains.
 abbrev pub IsValue : Key → List ℕ → Type 0
 IsValue Spef value = IsTrue (is_filled value)
 IsValue Triple value = IsTrue (is_some (pick_of value))
@@ -128,19 +165,19 @@ IsValue LibMax value = IsTrue (is_filled value)
 IsValue Cell value = IsTrue (is_filled value)
 IsValue Slew value = (grains : ℕ) × IsGrains value grains
 IsValue Load value = (grains : ℕ) × IsGrains value grains
+IsValue InputSlew value = (grains : ℕ) × IsGrains value grains
+IsValue PortLoad value = (grains : ℕ) × IsGrains value grains
+IsValue Missing value = IsTrue (is_some (missing_of value))
+IsValue WireSlew value = IsTrue (is_some (wire_slew_of value))
 IsValue Outside value = IsTrue (is_some (beyond_of value))
 
 -- a key stands among these
 abbrev pub is_given : List Given → Key → Bool
 is_given given key = list_any (λ g. same_key g.key key) given
 
--- the keys of a library for each corner, in the order in which the first that stands is named
-abbrev pub corner_keys : List Key
-corner_keys = LibMin ∷ LibTyp ∷ LibMax ∷ []
-
--- the first of them that stands
+-- the first key of a library of a corner that stands
 abbrev pub corner_key : List Given → Option Key
-corner_key given = find (λ key. is_given given key) corner_keys
+corner_key given = find (λ key. is_given given key) (library_keys EachCorner)
 
 -- the libraries that are given: one for each corner where such a key stands
 abbrev pub libraries_of : List Given → Libraries
@@ -250,6 +287,27 @@ pick_in (Some g) = unwrap_or (pick_of g.value) Typ
 
 abbrev pub pick_from : List Given → Pick
 pick_from given = pick_in (find (λ g. same_key g.key Triple) given)
+
+-- the capacitance at an output port: that of the key where it stands, and else 0
+pub data IsPortLoad (given : List Given) : ℕ → Type 0 where
+  given_load : (grains : ℕ) → HasGrains given (key_word PortLoad) grains → IsPortLoad given grains
+  no_load : HasNoGrains given (key_word PortLoad) → IsPortLoad given 0
+
+-- what a net is that has no section: it is refused where no other is asked for
+abbrev pub missing_in : Option Given → MissingNets
+missing_in None = nets.Refuse
+missing_in (Some g) = unwrap_or (missing_of g.value) nets.Refuse
+
+abbrev pub missing_from : List Given → MissingNets
+missing_from given = missing_in (find (λ g. same_key g.key Missing) given)
+
+-- what a wire does to a slew: nothing where no other is asked for
+abbrev pub wire_slew_in : Option Given → WireMode
+wire_slew_in None = wire.Same
+wire_slew_in (Some g) = unwrap_or (wire_slew_of g.value) wire.Same
+
+abbrev pub wire_slew_from : List Given → WireMode
+wire_slew_from given = wire_slew_in (find (λ g. same_key g.key WireSlew) given)
 
 -- what is done past the end of an axis: the look-up is refused where no other is asked for
 abbrev pub beyond_in : Option Given → Beyond

@@ -3,19 +3,21 @@
 use Rattle.std.specs.Prelude.{ℕ, List, [], ◌∷◌, ◌++◌, codes}
 use Rattle.std.specs.List.{flat_map}
 use Rattle.gdc_words.specs.declared.commands.Command.{Command}
-use Rattle.gdc_words.specs.declared.commands.Command.TheVariants.{Wires, Show, Lookup, Flat, Help, Version}
+use Rattle.gdc_words.specs.declared.commands.Command.TheVariants.{Wires, Calc, Show, Lookup, Flat, Help, Version}
 use Rattle.gdc_words.specs.declared.commands.Key.{Key}
-use Rattle.gdc_words.specs.declared.commands.Key.TheVariants.{Spef, Triple, Sdf, Netlist, Top, Lib, LibMin, LibTyp, LibMax, Cell, Slew, Load, Outside}
-use Rattle.gdc_words.specs.declared.commands.Libraries.TheVariants.{One}
+use Rattle.gdc_words.specs.declared.commands.Key.TheVariants.{Spef, Triple, Sdf, Netlist, Top, Lib, LibMin, LibTyp, LibMax, Cell, Slew, Load, InputSlew, PortLoad, Missing, WireSlew, Outside}
+use Rattle.gdc_words.specs.declared.commands.Libraries.{Libraries}
+use Rattle.gdc_words.specs.declared.commands.Libraries.TheVariants.{One, EachCorner}
 use Rattle.gdc_words.specs.CommandLine.{key_word, needed_keys, further_keys}
 
 -- the commands, in the order in which they are told
 abbrev pub commands : List Command
-commands = Wires ∷ Show ∷ Lookup ∷ Flat ∷ Help ∷ Version ∷ []
+commands = Wires ∷ Calc ∷ Show ∷ Lookup ∷ Flat ∷ Help ∷ Version ∷ []
 
 -- the word of a command
 abbrev pub command_word : Command → List ℕ
 command_word Wires = codes "wires"
+command_word Calc = codes "calc"
 command_word Show = codes "show"
 command_word Lookup = codes "lookup"
 command_word Flat = codes "flat"
@@ -36,11 +38,16 @@ value_word LibMax = codes "FILE"
 value_word Cell = codes "CELL"
 value_word Slew = codes "PICOSECONDS"
 value_word Load = codes "FEMTOFARADS"
+value_word InputSlew = codes "PICOSECONDS"
+value_word PortLoad = codes "FEMTOFARADS"
+value_word Missing = codes "refuse|zero"
+value_word WireSlew = codes "none|rss"
 value_word Outside = codes "refuse|edge|extend"
 
 -- what a command does
 abbrev pub purpose : Command → List ℕ
 purpose Wires = codes "writes the delays of the wires of a SPEF file as SDF"
+purpose Calc = codes "writes the delays of the wires and of the cells of a design as SDF"
 purpose Show = codes "prints the rows of an SDF file, and their summary"
 purpose Lookup = codes "prints the delay and the transition of each arc of a cell of a Liberty library, at one slew and one load"
 purpose Flat = codes "prints the instances and the nets of a design, with what drives them"
@@ -58,12 +65,25 @@ needed_text key = codes " " ++ (key_word key ++ (codes " " ++ value_word key))
 abbrev pub further_text : Key → List ℕ
 further_text key = codes " [" ++ (key_word key ++ (codes " " ++ (value_word key ++ codes "]")))
 
--- the two lines of a command: its word with its keys beside one library, and what it does
-abbrev pub command_lines : Command → List ℕ
-command_lines command =
+-- the line of a command's word with its keys beside such libraries
+abbrev pub keys_line : Command → Libraries → List ℕ
+keys_line command libraries =
     line (codes "  " ++ (command_word command
-    ++ (flat_map needed_text (needed_keys command One) ++ flat_map further_text (further_keys command))))
-    ++ line (codes "      " ++ purpose command)
+    ++ (flat_map needed_text (needed_keys command libraries) ++ flat_map further_text (further_keys command libraries))))
+
+-- the lines of a command's keys: the calculation has a second one, with a library for each corner
+abbrev pub keys_lines : Command → List ℕ
+keys_lines Calc = keys_line Calc One ++ keys_line Calc EachCorner
+keys_lines Wires = keys_line Wires One
+keys_lines Show = keys_line Show One
+keys_lines Lookup = keys_line Lookup One
+keys_lines Flat = keys_line Flat One
+keys_lines Help = keys_line Help One
+keys_lines Version = keys_line Version One
+
+-- the lines of a command: its keys, and what it does
+abbrev pub command_lines : Command → List ℕ
+command_lines command = keys_lines command ++ line (codes "      " ++ purpose command)
 
 -- the statuses with which the program ends
 abbrev pub status_lines : List ℕ
@@ -79,7 +99,7 @@ status_lines =
 -- what `--help` prints
 abbrev pub help_text : List ℕ
 help_text =
-    line (codes "gdc computes delays for chip sign-off: of wires, from SPEF to SDF, and of cells, from Liberty.")
+    line (codes "gdc computes delays for chip sign-off: of the wires and the cells of a design, from SPEF and Liberty to SDF.")
     ++ (line (codes "Commands, each with its keys:")
     ++ (flat_map command_lines commands ++ status_lines))
 

@@ -1,15 +1,18 @@
 //! What the words ask for.
 ghost use Rattle.std.specs.Prelude.{◌≡◌, IsTrue, IfSome, IfNone, option_copied, option_map};
 ghost use Rattle.std.specs.List.{find};
-ghost use Rattle.gdc_words.specs.CommandLine.{same_key, needs_key, is_given, corner_key, corner_keys, libraries_of, mixed_key, first_missing, value_of, value_at, pair_at, is_decimal, IsValue, HasGrains, HasNoGrains, pick_from, beyond_from};
+ghost use Rattle.gdc_words.specs.CommandLine.{same_key, needs_key, is_given, corner_key, library_keys, libraries_of, mixed_key, first_missing, value_of, value_at, pair_at, is_decimal, IsValue, HasGrains, HasNoGrains, IsPortLoad, pick_from, missing_from, wire_slew_from, beyond_from};
+ghost use Rattle.gdc_words.specs.declared.commands.Libraries.TheVariants.{EachCorner};
 ghost use Rattle.gdc_words.specs.Decimals.{IsGrains};
 
-use crate::commands::{Command, Key, Libraries, beyond_of, pick_of};
+use crate::commands::{Command, Key, Libraries, beyond_of, missing_of, pick_of, wire_slew_of};
 use crate::decimals::grains_of;
 use corner_set::Pick;
 use edge_io::Text;
+use net_parasitics::Missing;
 use nldm_lookup::Beyond;
 use std::marker::Model;
+use wire_slews::WireSlew;
 
 /// A key that stands, and its value.
 #[derive(Debug, Drop)]
@@ -41,7 +44,7 @@ fn pair_at<'a>(given: &'a [Given], word: &[u8]) -> Option<&'a Given>
 
 /// The keys of a library for each corner, in the order in which the first that stands is named.
 fn corner_keys() -> &'static [Key]
-    ensures { result.now ≡ corner_keys }
+    ensures { result.now ≡ library_keys EachCorner }
 {
     &[Key::LibMin, Key::LibTyp, Key::LibMax]
 }
@@ -115,6 +118,13 @@ impl Asked {
         self.command
     }
 
+    /// The libraries that the words name: one for each corner where the key of such a library stands.
+    pub fn libraries(&self) -> Libraries
+        ensures { result ≡ libraries_of self.now.given }
+    {
+        libraries_of(&self.given)
+    }
+
     /// The value of the key that has this word, where it stands.
     pub fn value(&self, key: &[u8]) -> Option<&Text>
         ensures { option_copied result ≡ value_at self.now.given key.now }
@@ -134,8 +144,8 @@ impl Asked {
         }
     }
 
-    /// The grains of a decimal key that stands: attoseconds of `--slew`, 10^-21 F of `--load`, each rounded half up. None for another key,
-    /// and for one that does not stand.
+    /// The grains of a decimal key that stands: attoseconds of `--slew` and `--input-slew`, 10^-21 F of `--load` and `--port-load`, each
+    /// rounded half up. None for another key, and for one that does not stand.
     pub fn grains(&self, key: &[u8]) -> Option<u64>
         ensures some { IfSome result (HasGrains self.now.given key.now) }
         ensures none { IfNone result (HasNoGrains self.now.given key.now) }
@@ -165,6 +175,38 @@ impl Asked {
         let asked = pair_of(&self.given, Key::Triple).and_then(|pair| pick_of(pair.value.bytes()));
         asked.unwrap_or(Pick::Typ)
     }
+
+    /// The capacitance at an output port, in 10^-21 F: 0 where the words ask for no other.
+    #[tactic(auto, using(crate::specs::CommandLine::given_load, crate::specs::CommandLine::no_load))]
+    pub fn port_load(&self) -> u64
+        ensures { IsPortLoad self.now.given result }
+    {
+        match self.grains(Key::PortLoad.word()) {
+            Some(grains) => grains,
+            None => 0,
+        }
+    }
+
+    /// What a net is that has no section: it is refused where the words ask for no other.
+    pub fn missing(&self) -> Missing
+        ensures { result ≡ missing_from self.now.given }
+    {
+        let asked = pair_of(&self.given, Key::Missing).and_then(|pair| missing_of(
+            pair.value.bytes(),
+        ));
+        asked.unwrap_or(Missing::Refuse)
+    }
+
+    /// What a wire does to a slew: nothing where the words ask for no other.
+    pub fn wire_slew(&self) -> WireSlew
+        ensures { result ≡ wire_slew_from self.now.given }
+    {
+        let asked = pair_of(&self.given, Key::WireSlew).and_then(|pair| wire_slew_of(
+            pair.value.bytes(),
+        ));
+        asked.unwrap_or(WireSlew::Same)
+    }
+
     /// What is done past the end of an axis: the look-up is refused where the words ask for no other.
     pub fn beyond(&self) -> Beyond
         ensures { result ≡ beyond_from self.now.given }

@@ -1,16 +1,20 @@
 //! The commands and the keys, with the tables that say which key stands with which command.
 ghost use Rattle.std.specs.Prelude.{◌≡◌, ◌↔◌, IsTrue};
-ghost use Rattle.gdc_words.specs.CommandLine.{command_of, key_of, keys, key_word, takes_key, needed_keys, is_decimal, IsValue, pick_of, beyond_of};
+ghost use Rattle.gdc_words.specs.CommandLine.{command_of, key_of, keys, key_word, takes_key, needed_keys, is_decimal, IsValue, pick_of, missing_of, wire_slew_of, beyond_of};
 
 use crate::decimals::grains_of;
 use corner_set::Pick;
+use net_parasitics::Missing;
 use nldm_lookup::Beyond;
+use wire_slews::WireSlew;
 
 /// A command of the program, which is its first word.
 #[derive(Clone, Copy, Debug, PartialEq, Eq)]
 pub enum Command {
     /// `wires`: the delays of the wires of a SPEF file.
     Wires,
+    /// `calc`: the delays of the wires and of the cells of a design.
+    Calc,
     /// `show`: the rows of an SDF file, and their summary.
     Show,
     /// `lookup`: the delay and the transition of each arc of a library's cell, at one slew and one load.
@@ -50,6 +54,14 @@ pub enum Key {
     Slew,
     /// `--load`: a capacitance in femtofarads, from 0 to a nanofarad.
     Load,
+    /// `--input-slew`: the transition at the input ports in picoseconds, from 0 to a microsecond.
+    InputSlew,
+    /// `--port-load`: the capacitance at an output port in femtofarads, from 0 to a nanofarad.
+    PortLoad,
+    /// `--missing`: what a net is that has no section in the SPEF file, `refuse` or `zero`.
+    Missing,
+    /// `--wire-slew`: what a wire does to a slew, `none` or `rss`.
+    WireSlew,
     /// `--outside`: what is done past the end of a table's axis, `refuse`, `edge` or `extend`.
     Outside,
 }
@@ -78,6 +90,32 @@ pub(crate) fn pick_of(word: &[u8]) -> Option<Pick>
     }
 }
 
+/// What a word says that a net is which has no section.
+pub(crate) fn missing_of(word: &[u8]) -> Option<Missing>
+    ensures { result ≡ missing_of word.now }
+{
+    if word == b"refuse".as_slice() {
+        Some(Missing::Refuse)
+    } else if word == b"zero".as_slice() {
+        Some(Missing::Zero)
+    } else {
+        None
+    }
+}
+
+/// What a word says that a wire does to a slew.
+pub(crate) fn wire_slew_of(word: &[u8]) -> Option<WireSlew>
+    ensures { result ≡ wire_slew_of word.now }
+{
+    if word == b"none".as_slice() {
+        Some(WireSlew::Same)
+    } else if word == b"rss".as_slice() {
+        Some(WireSlew::Rss)
+    } else {
+        None
+    }
+}
+
 /// What a word says is done past the end of an axis.
 pub(crate) fn beyond_of(word: &[u8]) -> Option<Beyond>
     ensures { result ≡ beyond_of word.now }
@@ -100,6 +138,8 @@ impl Command {
     {
         if word == b"wires".as_slice() {
             Some(Command::Wires)
+        } else if word == b"calc".as_slice() {
+            Some(Command::Calc)
         } else if word == b"show".as_slice() {
             Some(Command::Show)
         } else if word == b"lookup".as_slice() {
@@ -121,6 +161,22 @@ impl Command {
     {
         match (self, key) {
             (Command::Wires, Key::Spef | Key::Triple) => true,
+            (
+                Command::Calc,
+                Key::Netlist
+                | Key::Top
+                | Key::Spef
+                | Key::InputSlew
+                | Key::Lib
+                | Key::LibMin
+                | Key::LibTyp
+                | Key::LibMax
+                | Key::PortLoad
+                | Key::Triple
+                | Key::Missing
+                | Key::WireSlew
+                | Key::Outside,
+            ) => true,
             (Command::Show, Key::Sdf) => true,
             (Command::Lookup, Key::Lib | Key::Cell | Key::Slew | Key::Load | Key::Outside) => true,
             (Command::Flat, Key::Netlist | Key::Top | Key::Lib) => true,
@@ -128,13 +184,25 @@ impl Command {
         }
     }
 
-    /// The keys that the command needs beside such libraries, in the order in which a missing one is named. No command takes a library
-    /// for each corner yet.
+    /// The keys that the command needs beside such libraries, in the order in which a missing one is named. The calculation alone takes a
+    /// library for each corner.
     pub(crate) fn needed_keys(self, libraries: Libraries) -> &'static [Key]
         ensures { result.now ≡ needed_keys self libraries }
     {
         match (self, libraries) {
             (Command::Wires, _) => &[Key::Spef],
+            (Command::Calc, Libraries::One) => {
+                &[Key::Netlist, Key::Top, Key::Spef, Key::InputSlew, Key::Lib]
+            }
+            (Command::Calc, Libraries::EachCorner) => &[
+                Key::Netlist,
+                Key::Top,
+                Key::Spef,
+                Key::InputSlew,
+                Key::LibMin,
+                Key::LibTyp,
+                Key::LibMax,
+            ],
             (Command::Show, _) => &[Key::Sdf],
             (Command::Lookup, _) => &[Key::Lib, Key::Cell, Key::Slew, Key::Load],
             (Command::Flat, _) => &[Key::Netlist, Key::Top, Key::Lib],
@@ -162,6 +230,10 @@ impl Key {
             Key::Cell,
             Key::Slew,
             Key::Load,
+            Key::InputSlew,
+            Key::PortLoad,
+            Key::Missing,
+            Key::WireSlew,
             Key::Outside,
         ]
     }
@@ -190,6 +262,10 @@ impl Key {
             Key::Cell => b"--cell",
             Key::Slew => b"--slew",
             Key::Load => b"--load",
+            Key::InputSlew => b"--input-slew",
+            Key::PortLoad => b"--port-load",
+            Key::Missing => b"--missing",
+            Key::WireSlew => b"--wire-slew",
             Key::Outside => b"--outside",
         }
     }
@@ -199,7 +275,7 @@ impl Key {
         ensures { result ≡ is_decimal self }
     {
         match self {
-            Key::Slew | Key::Load => true,
+            Key::Slew | Key::Load | Key::InputSlew | Key::PortLoad => true,
             _ => false,
         }
     }
@@ -221,6 +297,10 @@ impl Key {
             Key::Cell => !value.is_empty(),
             Key::Slew => grains_of(value).is_some(),
             Key::Load => grains_of(value).is_some(),
+            Key::InputSlew => grains_of(value).is_some(),
+            Key::PortLoad => grains_of(value).is_some(),
+            Key::Missing => missing_of(value).is_some(),
+            Key::WireSlew => wire_slew_of(value).is_some(),
             Key::Outside => beyond_of(value).is_some(),
         }
     }

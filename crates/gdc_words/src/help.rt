@@ -6,10 +6,13 @@ ghost use Rattle.gdc_words.specs.HelpText as texts;
 pub fn help_text() -> &'static [u8]
     ensures { result.now ≡ texts.help_text }
 {
-    b"gdc computes delays for chip sign-off: of wires, from SPEF to SDF, and of cells, from Liberty.
+    b"gdc computes delays for chip sign-off: of the wires and the cells of a design, from SPEF and Liberty to SDF.
 Commands, each with its keys:
   wires --spef FILE [--triple min|typ|max]
       writes the delays of the wires of a SPEF file as SDF
+  calc --netlist FILE --top MODULE --spef FILE --input-slew PICOSECONDS --lib FILE [--port-load FEMTOFARADS] [--triple min|typ|max] [--missing refuse|zero] [--wire-slew none|rss] [--outside refuse|edge|extend]
+  calc --netlist FILE --top MODULE --spef FILE --input-slew PICOSECONDS --lib-min FILE --lib-typ FILE --lib-max FILE [--port-load FEMTOFARADS] [--missing refuse|zero] [--wire-slew none|rss] [--outside refuse|edge|extend]
+      writes the delays of the wires and of the cells of a design as SDF
   show --sdf FILE
       prints the rows of an SDF file, and their summary
   lookup --lib FILE --cell CELL --slew PICOSECONDS --load FEMTOFARADS [--outside refuse|edge|extend]

@@ -8,7 +8,7 @@ use Rattle.netlist_link.specs.FlatNetlist.{FlatNetlist, net_at}
 use Rattle.netlist_link.specs.declared.ends.End.{End}
 use Rattle.spef_nets.specs.NetElements.{NetElements, net_names}
 use Rattle.rc_tree.specs.Elmore.{IsElmore}
-use Rattle.slew_order.specs.NetTimes.{NetTimes, HasNet, HasSink, Fits, AreStarts, load_at, elmore_at}
+use Rattle.slew_order.specs.NetTimes.{NetTimes, AreNetTimes, HasNet, HasSink, Fits, AreStarts, load_at, elmore_at}
 use Rattle.net_parasitics.specs.Inputs.{Inputs}
 use Rattle.net_parasitics.specs.NetSections.{IsSectionOf, is_written, is_missing, no_section}
 use Rattle.net_parasitics.specs.NetSteps.{KeepsOtherNets, AreFirstTimes, IsFirstNetEnd, IsNetEnd, net_refused, no_memory_for_it, IsFirstMissing, first_missing, TakesWork}
@@ -89,8 +89,8 @@ module _ (inputs : Inputs) where
       by e (net_refused why refused) early = true≢false (sym early)
       by e no_memory_for_it early = true≢false (sym early)
 
-  pub all_delays : (missing : Missing) (times : NetTimes) → NoneMissing inputs missing → AreFirstTimes inputs (length inputs.netlist.nets) times → AreNetDelays inputs missing times
-  all_delays missing times none first = record { fits = first.fits; none_missing = none; each = first.before }
+  pub all_delays : (missing : Missing) (times : NetTimes) → NoneMissing inputs missing → AreFirstTimes inputs (length inputs.netlist.nets) times → AreNetTimes inputs.count times → AreNetDelays inputs missing times
+  all_delays missing times none first whole = record { fits = first.fits; whole = whole; none_missing = none; each = first.before }
 
   -- a new table has nothing yet
   pub none_yet : (times : NetTimes) → Fits inputs.netlist times → ((net corner : ℕ) → load_at inputs.count times net corner ≡ 0)

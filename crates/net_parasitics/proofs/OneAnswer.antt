@@ -21,11 +21,12 @@ use Rattle.rc_tree.specs.declared.ends.TreeEnd.TheVariants as tree
 use Rattle.rc_tree.proofs.ElmoreSums.{one_elmore}
 use Rattle.rc_tree.proofs.NetShapes.{one_shape, one_unreached}
 use Rattle.slew_order.specs.NetTimes.{NetTimes, load_at, elmore_at}
+use Rattle.slew_order.proofs.OneTables.{one_times}
 use Rattle.net_parasitics.specs.Inputs.{Inputs}
 use Rattle.net_parasitics.specs.NetPins.{net_pins}
 use Rattle.net_parasitics.specs.NetSections.{IsSectionOf, is_written, is_missing}
 use Rattle.net_parasitics.specs.NetTrees.{IsNet, elements_at, sink_at, IsTreeNet, HasTree, needs_none, has_one, AreTimesOf, HasTimes, are_zero, are_times, IsMissing, NoneMissing, AreNetDelays, IsRefused, IsParasiticsEnd, missing_net, no_tree, no_memory}
-use Rattle.net_parasitics.specs.OneAnswer.{IsSameTreeEnd, IsSameEnd, AreSameTimes}
+use Rattle.net_parasitics.specs.OneAnswer.{IsSameTreeEnd, IsSameEnd}
 use Rattle.net_parasitics.specs.declared.ends.Missing.{Missing}
 use Rattle.net_parasitics.specs.declared.ends.Missing.TheVariants.{Refuse}
 use Rattle.net_parasitics.specs.declared.ends.ParasiticsEnd.{ParasiticsEnd}
@@ -75,11 +76,11 @@ module _ (inputs : Inputs) (apart : AreDistinct (net_names inputs.sections)) whe
       (times.elmore corner sink below within) ((moved inputs net (λ d s. AreTimesOf inputs other net d s) driver d section s apart is its more).elmore corner sink below within)
 
 pub one_delays : (inputs : Inputs) (missing : Missing) (one other : NetTimes) → AreDistinct (net_names inputs.sections) → AreNetDelays inputs missing one → AreNetDelays inputs missing other
-    → AreSameTimes inputs one other
-one_delays inputs missing one other apart some more = record {
+    → one ≡ other
+one_delays inputs missing one other apart some more = one_times inputs.count inputs.netlist one other some.whole more.whole some.fits more.fits (record {
   loads = λ net corner within below. same_load inputs apart one other net corner below (some.each net within) (more.each net within);
   elmores = λ net sink corner within has below. same_elmore inputs apart one other net sink corner below has (some.each net within) (more.each net within);
-}
+})
 
 -- ---- the end of a tree
 

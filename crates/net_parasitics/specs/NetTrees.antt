@@ -12,7 +12,7 @@ use Rattle.rc_tree.specs.SectionNets.{net_elements, on_net, sink_node}
 use Rattle.rc_tree.specs.Builds.{IsFit, IsTreeEnd}
 use Rattle.rc_tree.specs.declared.ends.TreeEnd.{TreeEnd}
 use Rattle.rc_tree.specs.declared.ends.TreeEnd.TheVariants as tree
-use Rattle.slew_order.specs.NetTimes.{NetTimes, Fits, load_at, elmore_at}
+use Rattle.slew_order.specs.NetTimes.{NetTimes, AreNetTimes, Fits, load_at, elmore_at}
 use Rattle.net_parasitics.specs.Inputs.{Inputs}
 use Rattle.net_parasitics.specs.NetPins.{net_pins}
 use Rattle.net_parasitics.specs.NetSections.{IsSectionOf}
@@ -84,9 +84,10 @@ module _ (inputs : Inputs) where
   NoneMissing Refuse = (net : ℕ) → ¬ IsMissing net
   NoneMissing Zero = ⊤
 
-  -- the loads and the Elmore sums of all nets
+  -- the loads and the Elmore sums of all nets, and no more
   pub record AreNetDelays (missing : Missing) (times : NetTimes) : Type 0 where
     pub fits : Fits inputs.netlist times
+    pub whole : AreNetTimes inputs.count times
     pub none_missing : NoneMissing missing
     pub each : (net : ℕ) → net < length inputs.netlist.nets → HasTimes times net
 

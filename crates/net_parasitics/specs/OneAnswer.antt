@@ -1,11 +1,8 @@
 -- Answers that are the same, but for what may be told freely.
-use Rattle.std.specs.Prelude.{◌≡◌, ℕ, ◌<◌, length, ⊤}
-use Rattle.netlist_link.specs.FlatNetlist.{net_at}
+use Rattle.std.specs.Prelude.{◌≡◌, ⊤}
 use Rattle.rc_tree.specs.Nodes.{node_of}
 use Rattle.rc_tree.specs.declared.ends.TreeEnd.{TreeEnd}
 use Rattle.rc_tree.specs.declared.ends.TreeEnd.TheVariants as tree
-use Rattle.slew_order.specs.NetTimes.{NetTimes, load_at, elmore_at}
-use Rattle.net_parasitics.specs.Inputs.{Inputs}
 use Rattle.net_parasitics.specs.declared.ends.ParasiticsEnd.{ParasiticsEnd}
 use Rattle.net_parasitics.specs.declared.ends.ParasiticsEnd.TheVariants.{MissingNet, Tree, OutOfMemory}
 
@@ -25,10 +22,3 @@ IsSameEnd (Tree net end) OutOfMemory = ⊤
 IsSameEnd (MissingNet one) (MissingNet other) = one ≡ other
 IsSameEnd (Tree one some) (Tree other more) = (one ≡ other) × IsSameTreeEnd some more
 IsSameEnd _ _ = ⊥
-
--- the same load at each net, and the same Elmore sum at each sink
-pub record AreSameTimes (inputs : Inputs) (one other : NetTimes) : Type 0 where
-  pub loads : (net corner : ℕ) → net < length inputs.netlist.nets → corner < inputs.count
-      → load_at inputs.count one net corner ≡ load_at inputs.count other net corner
-  pub elmores : (net sink corner : ℕ) → net < length inputs.netlist.nets → sink < length (net_at inputs.netlist net).sinks
-      → corner < inputs.count → elmore_at inputs.count one net sink corner ≡ elmore_at inputs.count other net sink corner

@@ -9,17 +9,17 @@ ghost use Rattle.spef_nets.specs.NetElements.{net_names};
 ghost use Rattle.slew_order.specs.NetTimes.{NetTimes};
 ghost use Rattle.net_parasitics.specs.Inputs.{Inputs, AreNamedApart};
 ghost use Rattle.net_parasitics.specs.NetTrees.{AreNetDelays, IsParasiticsEnd};
-ghost use Rattle.net_parasitics.specs.OneAnswer.{AreSameTimes, IsSameEnd};
+ghost use Rattle.net_parasitics.specs.OneAnswer.{IsSameEnd};
 ghost use Rattle.net_parasitics.specs.declared.ends.Missing.{Missing};
 ghost use Rattle.net_parasitics.specs.declared.ends.ParasiticsEnd.{ParasiticsEnd};
 ghost use Rattle.net_parasitics.specs.declared.ends.ParasiticsEnd.TheVariants.{OutOfMemory};
 
 /// The law of the loads and the Elmore sums, which its contract states: where the sections of a file are of different nets, the nets of
-/// a netlist have one load and one Elmore sum at each sink; where they have, they are refused for want of memory alone; and they are
-/// refused for one reason. It does nothing when it is called.
+/// a netlist have one table of loads and Elmore sums; where they have, they are refused for want of memory alone; and they are refused for
+/// one reason. It does nothing when it is called.
 pub fn one_answer()
     ensures delays { (inputs : Inputs) (missing : Missing) (one other : NetTimes) → AreDistinct (net_names inputs.sections)
-        → AreNetDelays inputs missing one → AreNetDelays inputs missing other → AreSameTimes inputs one other }
+        → AreNetDelays inputs missing one → AreNetDelays inputs missing other → one ≡ other }
     ensures either { (inputs : Inputs) (missing : Missing) (times : NetTimes) (end : ParasiticsEnd)
         → AreDistinct (net_names inputs.sections) → 0 < inputs.count → AreNetDelays inputs missing times → IsParasiticsEnd inputs missing end → end ≡ OutOfMemory }
     ensures ends { (inputs : Inputs) (missing : Missing) (one other : ParasiticsEnd) → AreDistinct (net_names inputs.sections)

@@ -243,5 +243,6 @@ pub fn net_delays<C: CornerSet, L: Ledger>(
     inputs.check_missing(missing)?;
     let mut delays = NetDelays::new(alloc, netlist)?;
     inputs.put_nets(alloc, &mut delays, steps)?;
+    delays.whole();
     Ok(delays)
 }

@@ -12,21 +12,28 @@ use std::process::Abort;
 use std::sync::ledger::{Blank, Ledger};
 use std::test::Fail;
 
+mod calc;
+mod corners;
 mod flat;
 mod lookup;
 mod refusals;
 mod rows;
 mod show;
+mod tool_files;
 mod words;
 
 /// A run to try: its words, one a line, the bytes of its file, and the faults of the outside.
 #[derive(Clone, Copy)]
 struct Plan<'a> {
     words: &'a [u8],
-    /// Words that stand behind `lookup --lib a.lib`, in place of those.
+    /// Words that stand behind these.
     point: &'a [u8],
-    /// What stands in `a.spef`, and in `a.sdf` and `a.lib` too.
+    /// What stands in `a.spef` and in `a.sdf`.
     file: &'a [u8],
+    /// What stands in `a.lib`.
+    library: &'a [u8],
+    /// What stands in `min.lib`, in `typ.lib` and in `max.lib`.
+    corners: [&'a [u8]; 3],
     /// What stands in `a.v`.
     netlist: &'a [u8],
     /// How many bytes a call of the sink for the text takes.
@@ -59,12 +66,42 @@ impl<'a> Plan<'a> {
         }
     }
 
+    /// `calc` of the module `top` over these files, with these words behind them, with no fault.
+    fn calc(point: &'a [u8], netlist: &'a [u8], spef: &'a [u8], library: &'a [u8]) -> Plan<'a> {
+        let words = b"calc\n--netlist\na.v\n--top\ntop\n--spef\na.spef\n--lib\na.lib\n";
+        Plan {
+            point,
+            netlist,
+            library,
+            ..Plan::of(words, spef)
+        }
+    }
+
+    /// `calc` of the module `top` with a library for each corner, with these words behind them, with no fault.
+    fn corners(
+        point: &'a [u8],
+        netlist: &'a [u8],
+        spef: &'a [u8],
+        corners: [&'a [u8]; 3],
+    ) -> Plan<'a> {
+        let words =
+            b"calc\n--netlist\na.v\n--top\ntop\n--spef\na.spef\n--lib-min\nmin.lib\n--lib-typ\ntyp.lib\n--lib-max\nmax.lib\n";
+        Plan {
+            point,
+            netlist,
+            corners,
+            ..Plan::of(words, spef)
+        }
+    }
+
     /// These words over these bytes, with no fault.
     fn of(words: &'a [u8], file: &'a [u8]) -> Plan<'a> {
         Plan {
             words,
             point: b"",
             file,
+            library: file,
+            corners: [file; 3],
             netlist: b"",
             most: 1000,
             failing_write: 0,
@@ -112,19 +149,19 @@ fn words_of(alloc: Global, plan: &Plan) -> Result<Words, OutOfMemory> {
 
 fn shelf_of(alloc: Global, plan: &Plan) -> Result<MemShelf, OutOfMemory> {
     let mut shelf = MemShelf::new(alloc, 7);
-    for name in [
-        b"a.spef".as_slice(),
-        b"a.sdf".as_slice(),
-        b"a.lib".as_slice(),
+    for (name, held) in [
+        (b"a.spef".as_slice(), plan.file),
+        (b"a.sdf".as_slice(), plan.file),
+        (b"a.lib".as_slice(), plan.library),
+        (b"min.lib".as_slice(), plan.corners[0]),
+        (b"typ.lib".as_slice(), plan.corners[1]),
+        (b"max.lib".as_slice(), plan.corners[2]),
+        (b"a.v".as_slice(), plan.netlist),
     ] {
         let name = Text::from_bytes(alloc, name)?;
-        let held = Text::from_bytes(alloc, plan.file)?;
+        let held = Text::from_bytes(alloc, held)?;
         shelf.put(name, held)?;
     }
-    shelf.put(
-        Text::from_bytes(alloc, b"a.v")?,
-        Text::from_bytes(alloc, plan.netlist)?,
-    )?;
     shelf.fail_at(plan.failing_read)?;
     Ok(shelf)
 }

@@ -18,5 +18,6 @@ pub mod Slewing
 pub mod SlewLaws
 pub mod Driving
 pub mod LiveArcs
+pub mod OneTables
 pub mod OneSlewEnd
 pub mod StuckNets

@@ -1,4 +1,4 @@
--- The slews of a design are one, and so is the reason why it has none, but for which cycle is named.
+-- A design has slews or a reason why it has none, and that is one, but for which cycle is named.
 use Rattle.std.proofs.Common.{◌≡◌, ℕ, ◌<◌, inl, inr, ⊎_elim, List, length, refl, sym, ap, ◌∙◌, subst, arith}
 use Rattle.std.specs.Prelude.{pos}
 use Rattle.std.proofs.lemmas.Bool.{cases_lt, cases_eq}
@@ -12,26 +12,16 @@ use Rattle.slew_order.specs.declared.arcs.ArcAt.{ArcAt}
 use Rattle.slew_order.specs.declared.lookups.PartEnd.{PartEnd}
 use Rattle.slew_order.specs.declared.ends.SlewEnd.TheVariants.{Loop, Outside, PastTime, SlewLimit, OutOfMemory}
 use Rattle.slew_order.specs.Cycles.{HasNoCycle, IsCycleFromLeast}
-use Rattle.slew_order.specs.NetStates.{drivers_in}
 use Rattle.slew_order.specs.NetTimes.{NetTimes, elmore_at}
 use Rattle.slew_order.specs.SlewEnds.{IsRefusal, IsFirstRefusal, IsLimit, IsFirstOfSink, IsFirstLimit, NoRefusals, NoLimits}
-use Rattle.slew_order.specs.SlewLaws.{OneSlews, SlewsOrEnd, OneSlewEnd}
+use Rattle.slew_order.specs.SlewLaws.{SlewsOrEnd, OneSlewEnd}
 use Rattle.slew_order.specs.Timings.{SlewSource, arcs_in, arc_number}
-use Rattle.slew_order.proofs.Settling.{many_drivers}
 
 -- two numbers of which none is before the other are the same
 one_number : (some other : ℕ) → (some < other → ⊥) → (other < some → ⊥) → some ≡ other
 one_number some other before after = ⊎_elim (λ same. same)
     (λ unlike. ⊎_elim (λ lt. absurd (before lt)) (λ le. absurd (after (omega (arith, le, unlike)))) (cases_lt some other))
     (cases_eq some other)
-
-pub one_slews : OneSlews
-one_slews source some other a b corner net edge below within =
-    let many = many_drivers source.netlist in
-    let driven : net < length (drivers_in source) = omega (arith, many, within) in
-    let first = (a.states.each corner below).settled.values net edge driven in
-    let second = (b.states.each corner below).settled.values net edge driven in
-    first ∙ sym second
 
 module _ (source : SlewSource) where
   -- a cycle stands where none does

@@ -1,16 +1,17 @@
 -- The table of which sink of its net each pin is, by one sink more.
-use Rattle.std.proofs.Common.{◌≡◌, ◌≢◌, ℕ, suc, ◌+◌, ◌<◌, ◌∙◌, ap, sym, refl, subst, false, if◌then◌else◌, List, [], ◌∷◌, length, length-set, drop, get_or, set, get_or-set_same, get_or-set_other, Some, None, inl, inr, ◌⊎◌, arith}
+use Rattle.std.proofs.Common.{◌≡◌, ◌≢◌, ℕ, suc, ◌+◌, ◌<◌, ◌∙◌, ap, sym, refl, subst, true, false, if◌then◌else◌, List, [], ◌∷◌, length, length-set, drop, get_or, set, get_or-set_same, get_or-set_other, replicate, Some, None, inl, inr, ◌⊎◌, arith}
 use Rattle.std.proofs.lemmas.Bool.{cases_lt, cases_eq}
 use Rattle.std.proofs.Math.Seq.{drop-cons}
-use Rattle.std.proofs.lemmas.List.{get_or_past}
-use Rattle.netlist_link.specs.FlatNetlist.{FlatNetlist, no_instance, instance_at, net_at}
+use Rattle.std.proofs.lemmas.List.{get_or_past, length-replicate}
+use Rattle.netlist_link.specs.FlatNetlist.{FlatNetlist, FlatNet, no_instance, no_net, instance_at, net_at}
 use Rattle.netlist_link.specs.declared.ends.End.{End}
 use Rattle.netlist_link.specs.declared.ends.End.TheVariants as end
 use Rattle.slew_order.specs.NetTimes.{start_in}
 use Rattle.slew_order.specs.FlatArcs.{net_on}
 use Rattle.slew_order.specs.Sinks.{is_pin, pin_place, ArePinStarts}
-use Rattle.slew_order.specs.SinkPlaces.{IsPlaced, ArePlacedTo, ArePlaces}
-use Rattle.slew_order.proofs.Starts.{one_row, row_below}
+use Rattle.slew_order.specs.SinkPlaces.{IsPlaced, HasNoOther, ArePlacedTo, ArePlaces}
+use Rattle.slew_order.proofs.SinkPlacing.{place_from}
+use Rattle.slew_order.proofs.Starts.{one_row, row_below, replicated}
 
 -- a pin on a net is one of an instance
 pub on_within : (netlist : FlatNetlist) (i pin net : ℕ) → net_on netlist i pin ≡ Some net
@@ -45,12 +46,37 @@ not_port instance pin port = refl
 pub not_pin : (instance pin this at : ℕ) → ((this ≡ instance) × (at ≡ pin) → ⊥) → is_pin instance pin (end.Pin this at) ≡ false
 not_pin instance pin this at apart = grind arith
 
+-- a net with a sink is one of the netlist
+net_within : (netlist : FlatNetlist) (net sink : ℕ) → sink < length (net_at netlist net).sinks → net < length netlist.nets
+net_within netlist net sink within = elim (cases_lt net (length netlist.nets)) [
+  | inl below ↦ below
+  | inr past ↦
+      let none : length (net_at netlist net).sinks ≡ 0 = ap (λ (n : FlatNet). length n.sinks) (get_or_past netlist.nets net no_net past) in
+      absurd (omega (arith, within, none))
+]
+
+-- a pin that is at a place of sinks is one of them
+own_pin : (instance pin : ℕ) → is_pin instance pin (end.Pin instance pin) ≡ true
+own_pin instance pin = grind arith
+
+is_sink : (instance pin : ℕ) (sinks : List End) (sink : ℕ) → sink < length sinks → get_or sinks sink (end.Port 0) ≡ end.Pin instance pin
+    → pin_place instance pin sinks < length sinks
+is_sink instance pin sinks sink within at =
+    let from = place_from instance pin sinks sink within (ap (is_pin instance pin) at ∙ own_pin instance pin) in
+    omega (arith, from, within)
+
 module _ (netlist : FlatNetlist) (starts : List ℕ) (are : ArePinStarts netlist starts) where
   -- a pin on a net has a place of its own in the table
   pub pin_below : (i pin net : ℕ) → net_on netlist i pin ≡ Some net → start_in starts i + pin < start_in starts (length netlist.instances)
   pin_below i pin net on =
       let within = on_within netlist i pin net on in
       row_below _ _ starts are i pin within.0 within.1
+
+  pub place_below : (places : List ℕ) → ArePlaces netlist starts places → (i pin net : ℕ) → net_on netlist i pin ≡ Some net → start_in starts i + pin < length places
+  place_below places kept i pin net on =
+      let below = pin_below i pin net on in
+      let len = kept.len in
+      omega (arith, below, len)
 
   own_place : (i pin net i' pin' net' : ℕ) → net_on netlist i pin ≡ Some net → net_on netlist i' pin' ≡ Some net'
       → start_in starts i' + pin' ≡ start_in starts i + pin → (i' ≡ i) × (pin' ≡ pin)
@@ -106,6 +132,19 @@ module _ (netlist : FlatNetlist) (starts : List ℕ) (are : ArePinStarts netlist
               (not_pin i' pin' i pin (λ both. apart (sym both.0, sym both.1)))
               (λ has. value ∙ held.here i' pin' on' has))
         ];
+        others = λ row' none. elim (cases_eq row' row) [
+          | inl same ↦
+              absurd (none (record {
+                instance = i;
+                pin = pin;
+                net = net;
+                within = net_within netlist net sink within;
+                on = on;
+                sink = is_sink i pin sinks sink within at;
+                row_is = same;
+              }))
+          | inr apart ↦ get_or-set_other places row row' sink 0 apart ∙ held.others row' none
+        ];
       }
 
   -- another sink is passed
@@ -123,6 +162,7 @@ module _ (netlist : FlatNetlist) (starts : List ℕ) (are : ArePinStarts netlist
         here = λ i' pin' on'.
             subst (λ list. pin_place i' pin' list < length list → start_in places (start_in starts i' + pin') ≡ sink + pin_place i' pin' list) (sym dropped)
             (other_sink i' pin' e (drop (sink + 1) sinks) sink (start_in places (start_in starts i' + pin')) (other i' pin' on') (held.here i' pin' on'));
+        others = held.others;
       }
 
   pub skip_port : (net sink port : ℕ) (places : List ℕ) → sink < length (net_at netlist net).sinks
@@ -141,9 +181,14 @@ module _ (netlist : FlatNetlist) (starts : List ℕ) (are : ArePinStarts netlist
 pub record AreBefore (netlist : FlatNetlist) (starts : List ℕ) (net : ℕ) (places : List ℕ) : Type 0 where
   pub len : length places ≡ start_in starts (length netlist.instances)
   pub before : (instance pin other : ℕ) → other < net → net_on netlist instance pin ≡ Some other → IsPlaced netlist starts places instance pin other 0
+  pub others : HasNoOther netlist starts places
 
-pub none_before : (netlist : FlatNetlist) (starts places : List ℕ) → length places ≡ start_in starts (length netlist.instances) → AreBefore netlist starts 0 places
-none_before netlist starts places len = record { len = len; before = λ instance pin other below on has. absurd (omega (arith, below)) }
+pub none_before : (netlist : FlatNetlist) (starts places : List ℕ) (pins : ℕ) → pins ≡ start_in starts (length netlist.instances) → places ≡ replicate pins 0 → AreBefore netlist starts 0 places
+none_before netlist starts places pins all filled = record {
+  len = ap length filled ∙ length-replicate {A = ℕ} pins 0 ∙ all;
+  before = λ instance pin other below on has. absurd (omega (arith, below));
+  others = λ row none. ap (λ list. start_in list row) filled ∙ replicated pins row 0;
+}
 
 no_places : (instance pin : ℕ) (sinks : List End) → pin_place instance pin (drop (length sinks) sinks) < length (drop (length sinks) sinks) → ⊥
 no_places instance pin [] has = absurd (omega (arith, has))
@@ -155,6 +200,7 @@ begin_net netlist starts places net held = record {
   len = held.len;
   before = held.before;
   here = λ instance pin on has. absurd (no_places instance pin (net_at netlist net).sinks has);
+  others = held.others;
 }
 
 pub end_net : (netlist : FlatNetlist) (starts places : List ℕ) (net : ℕ) → ArePlacedTo netlist starts net 0 places → AreBefore netlist starts (net + 1) places
@@ -164,10 +210,12 @@ end_net netlist starts places net held = record {
     | inl same ↦ subst (λ n. IsPlaced netlist starts places instance pin n 0) (sym same) (held.here instance pin (on ∙ ap Some same))
     | inr apart ↦ held.before instance pin other (omega (arith, below, apart)) on
   ];
+  others = held.others;
 }
 
 pub all_placed : (netlist : FlatNetlist) (starts places : List ℕ) (net : ℕ) → net ≡ length netlist.nets → AreBefore netlist starts net places → ArePlaces netlist starts places
 all_placed netlist starts places net all held = record {
   len = held.len;
   all = λ instance pin other within on. held.before instance pin other (omega (arith, within, all)) on;
+  others = held.others;
 }

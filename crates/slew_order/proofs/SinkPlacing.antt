@@ -12,7 +12,7 @@ use Rattle.slew_order.specs.SinkPlaces.{ArePlaces}
 use Rattle.slew_order.proofs.Starts.{row_below}
 
 -- a pin that is met at a place has its first place there or before
-place_from : (instance pin : ℕ) (sinks : List End) (sink : ℕ) → sink < length sinks → is_pin instance pin (get_or sinks sink (end.Port 0)) ≡ true → pin_place instance pin sinks ≤ sink
+pub place_from : (instance pin : ℕ) (sinks : List End) (sink : ℕ) → sink < length sinks → is_pin instance pin (get_or sinks sink (end.Port 0)) ≡ true → pin_place instance pin sinks ≤ sink
 place_from instance pin [] sink within is = absurd (omega (arith, within))
 place_from instance pin (first ∷ sinks) zero within is =
     let here : pin_place instance pin (first ∷ sinks) ≡ 0 = ap (λ b. if b then 0 else suc (pin_place instance pin sinks)) is in
@@ -40,9 +40,12 @@ place_at instance pin (first ∷ sinks) within = elim (cases_Bool (is_pin instan
 ]
 
 -- a pin has a place of its own in the table
-pub pin_within : (netlist : FlatNetlist) (starts : List ℕ) → ArePinStarts netlist starts → (instance pin : ℕ) → instance < length netlist.instances
-    → pin < length (instance_at netlist instance).nets → start_in starts instance + pin < start_in starts (length netlist.instances)
-pin_within netlist starts are instance pin within has = row_below _ _ starts are instance pin within has
+pub place_within : (netlist : FlatNetlist) (starts places : List ℕ) → ArePinStarts netlist starts → ArePlaces netlist starts places → (instance pin : ℕ) → instance < length netlist.instances
+    → pin < length (instance_at netlist instance).nets → start_in starts instance + pin < length places
+place_within netlist starts places are kept instance pin within has =
+    let below = row_below _ _ starts are instance pin within has in
+    let len = kept.len in
+    omega (arith, below, len)
 
 -- the table has the place of a pin that is a sink
 pub kept_place : (netlist : FlatNetlist) (starts places : List ℕ) → ArePlaces netlist starts places → (instance pin net sink : ℕ) → net < length netlist.nets

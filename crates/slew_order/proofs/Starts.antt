@@ -1,5 +1,5 @@
 -- Where the sinks of nets begin, and the rows of grids that they have.
-use Rattle.std.proofs.Common.{◌≡◌, ℕ, zero, suc, ◌+◌, ◌-◌, ◌*◌, ◌<◌, ◌≤◌, ◌∙◌, ap, sym, refl, subst, List, [], ◌∷◌, ◌++◌, length, length-append, get_or, replicate, slice_get, unwrap_or, inl, inr, arith}
+use Rattle.std.proofs.Common.{◌≡◌, ℕ, zero, suc, ◌+◌, ◌-◌, ◌*◌, ◌<◌, ◌≤◌, ◌∙◌, ap, sym, refl, subst, List, [], ◌∷◌, ◌++◌, length, length-append, get_or, ext_get_or, replicate, slice_get, unwrap_or, inl, inr, arith}
 use Rattle.std.specs.Prelude.{All}
 use Rattle.std.proofs.Math.Nat.{mul-le-mul_right}
 use Rattle.std.proofs.Math.Seq.{get_or-append_seam}
@@ -9,15 +9,16 @@ use Rattle.std.proofs.lemmas.Option.{unwrap_or-slice_get}
 use Rattle.std.proofs.lemmas.List.Elements.{All-replicate}
 use Rattle.delay_units.specs.declared.quantities.Farads.{Farads}
 use Rattle.netlist_link.specs.FlatNetlist.{FlatNetlist}
-use Rattle.slew_order.specs.NetTimes.{NetTimes, AreNetTimes, AreSums, AreStarts, HasSink, start_in, elmore_limit}
+use Rattle.slew_order.specs.NetTimes.{NetTimes, AreNetTimes, AreSums, AreStarts, HasNet, HasSink, start_in, nets_in, sinks_in, elmore_limit}
 
 -- the starts of so many groups, and then the sum of their sizes
 pub record SumsSoFar (sizes : ℕ → ℕ) (starts : List ℕ) (sum many : ℕ) : Type 0 where
   pub len : length starts ≡ many
+  pub first : start_in (starts ++ sum ∷ []) 0 ≡ 0
   pub next : (group : ℕ) → group < many → start_in (starts ++ sum ∷ []) (group + 1) ≡ start_in (starts ++ sum ∷ []) group + sizes group
 
 pub no_sums : (sizes : ℕ → ℕ) → SumsSoFar sizes [] 0 0
-no_sums sizes = record { len = refl; next = λ group below. absurd (omega (arith, below)) }
+no_sums sizes = record { len = refl; first = refl; next = λ group below. absurd (omega (arith, below)) }
 
 pub more_sums : (sizes : ℕ → ℕ) (starts : List ℕ) (sum many next : ℕ) → next ≡ sum + sizes many
     → SumsSoFar sizes starts sum many → SumsSoFar sizes (starts ++ sum ∷ []) next (many + 1)
@@ -31,6 +32,7 @@ more_sums sizes starts sum many next is held =
     ap (start_in (starts ++ sum ∷ [])) (sym held.len) ∙ get_or-append_seam starts sum [] 0 in
     record {
       len = longer;
+      first = left 0 (omega arith) ∙ held.first;
       next = λ group below. elim (cases_eq group many) [
         | inl same ↦ ap (λ n. start_in ((starts ++ sum ∷ []) ++ next ∷ []) (n + 1)) same ∙ end ∙ is
             ∙ ap (λ s. s + sizes many) (sym here)
@@ -42,7 +44,7 @@ more_sums sizes starts sum many next is held =
     }
 
 pub all_sums : (sizes : ℕ → ℕ) (starts : List ℕ) (sum many : ℕ) → SumsSoFar sizes starts sum many → AreSums sizes many (starts ++ sum ∷ [])
-all_sums sizes starts sum many held = record { len = length-append starts (sum ∷ []) ∙ ap (λ n. n + 1) held.len; next = held.next }
+all_sums sizes starts sum many held = record { len = length-append starts (sum ∷ []) ∙ ap (λ n. n + 1) held.len; first = held.first; next = held.next }
 
 -- a later net does not begin before
 starts_climb : (starts : List ℕ) → ((net : ℕ) → net + 1 < length starts → start_in starts net ≤ start_in starts (net + 1))
@@ -69,12 +71,24 @@ row_within count row rows size below fits =
     let is : (row + 1) * count ≡ row * count + count = grind arith in
     omega (arith, more, is, fits)
 
+-- the row of a net
+pub load_row : (count : ℕ) (times : NetTimes) (net : ℕ) → AreNetTimes count times → HasNet times net → net * count + count ≤ length times.loads
+load_row count times net whole has =
+    let len = whole.loads in
+    row_within count net (nets_in times) (length times.loads) (omega (arith, has)) (omega (arith, len))
+
+-- the sinks of the nets before a net are among all
+pub starts_within : (times : NetTimes) → ((net : ℕ) → net + 1 < length times.starts → start_in times.starts net ≤ start_in times.starts (net + 1))
+    → (net : ℕ) → net < length times.starts → start_in times.starts net ≤ sinks_in times
+starts_within times rise net within = starts_rise times.starts rise net (nets_in times) (omega (arith, within)) (omega (arith, within))
+
 -- the row of a sink
 pub sink_row : (count : ℕ) (times : NetTimes) (net sink : ℕ) → AreNetTimes count times → HasSink times net sink
     → (start_in times.starts net + sink) * count + count ≤ length times.elmores
 sink_row count times net sink whole has =
-    row_within count (start_in times.starts net + sink) (start_in times.starts (net + 1)) (length times.elmores) has.1
-    (whole.elmores (net + 1) has.0)
+    let len = whole.elmores in
+    let below = starts_within times whole.rise (net + 1) has.0 in
+    row_within count (start_in times.starts net + sink) (sinks_in times) (length times.elmores) (omega (arith, has.1, below)) (omega (arith, len))
 
 -- two sinks have one row only if they are one
 pub one_sink : (count : ℕ) (times : NetTimes) (net sink other of : ℕ) → AreNetTimes count times → HasSink times net sink → HasSink times other of
@@ -111,16 +125,12 @@ pub new_times : (count : ℕ) (netlist : FlatNetlist) (starts : List ℕ) (fill 
     → nets ≡ length netlist.nets → sinks ≡ start_in starts nets → loads ≡ replicate (nets * count) fill → elmores ≡ replicate (sinks * count) 0
     → AreNetTimes count (record { starts = starts; loads = loads; elmores = elmores })
 new_times count netlist starts fill nets sinks loads elmores are is all filled none =
-    let rise = sums_rise _ _ starts are in
-    let many : length loads ≡ nets * count = ap length filled ∙ length-replicate (nets * count) fill in
-    let some : length elmores ≡ sinks * count = ap length none ∙ length-replicate {A = ℕ} (sinks * count) 0 in
+    let last : nets ≡ length starts - 1 = omega (arith, are.len, is) in
+    let some : sinks ≡ start_in starts (length starts - 1) = all ∙ ap (start_in starts) last in
     record {
-      loads = λ net within. row_within count net nets (length loads) (omega (arith, within, are.len, is)) (omega (arith, many));
-      rise = rise;
-      elmores = λ net within.
-          let below = starts_rise starts rise net nets (omega (arith, within, are.len, is)) (omega (arith, are.len, is)) in
-          let more : start_in starts net * count ≤ sinks * count = mul-le-mul_right count (let h : start_in starts net ≤ sinks = omega (arith, below, all) in h) in
-          omega (arith, more, some);
+      loads = ap length filled ∙ length-replicate (nets * count) fill ∙ ap (λ n. n * count) last;
+      rise = sums_rise _ _ starts are;
+      elmores = ap length none ∙ length-replicate {A = ℕ} (sinks * count) 0 ∙ ap (λ n. n * count) some;
       small = subst (λ list. All (λ elmore. elmore < elmore_limit) list) (sym none) (All-replicate (λ elmore. elmore < elmore_limit) (sinks * count) 0 (omega arith));
     }
 
@@ -150,3 +160,63 @@ row_below sizes many starts are group place within small =
     let end = are.next group within in
     let climb = starts_rise starts (sums_rise sizes many starts are) (group + 1) many (omega (arith, within)) (omega (arith, are.len)) in
     omega (arith, small, end, climb)
+
+-- the sums of sizes are one
+module _ (sizes : ℕ → ℕ) (many : ℕ) (one other : List ℕ) (some : AreSums sizes many one) (more : AreSums sizes many other) where
+  one_start : (group : ℕ) → group ≤ many → start_in one group ≡ start_in other group
+  one_start zero within = some.first ∙ sym more.first
+  one_start (suc group) within =
+      let before = one_start group (omega (arith, within)) in
+      let next : group + 1 ≡ suc group = omega arith in
+      ap (start_in one) (sym next) ∙ some.next group (omega (arith, within)) ∙ ap (λ n. n + sizes group) before
+      ∙ sym (more.next group (omega (arith, within))) ∙ ap (start_in other) next
+
+  pub one_sums : one ≡ other
+  one_sums = ext_get_or 0 one other (some.len ∙ sym more.len) (λ group within. one_start group (omega (arith, within, some.len)))
+
+-- the group and the place of a row
+pub record RowOf (sizes : ℕ → ℕ) (many : ℕ) (starts : List ℕ) (row : ℕ) : Type 0 where
+  pub group : ℕ
+  pub place : ℕ
+  pub within : group < many
+  pub small : place < sizes group
+  pub row_is : row ≡ start_in starts group + place
+
+module _ (sizes : ℕ → ℕ) (many : ℕ) (starts : List ℕ) (are : AreSums sizes many starts) (row : ℕ) where
+  row_among : (first : ℕ) → first ≤ many → row < start_in starts first → RowOf sizes many starts row
+  row_among zero few below = absurd (let none = are.first in omega (arith, below, none))
+  row_among (suc group) few below = elim (cases_lt row (start_in starts group)) [
+    | inl before ↦ row_among group (omega (arith, few)) before
+    | inr from ↦
+        let next : suc group ≡ group + 1 = omega arith in
+        let end : start_in starts (suc group) ≡ start_in starts group + sizes group = ap (start_in starts) next ∙ are.next group (omega (arith, few)) in
+        record {
+          group = group;
+          place = row - start_in starts group;
+          within = omega (arith, few);
+          small = omega (arith, below, from, end);
+          row_is = omega (arith, from);
+        }
+  ]
+
+  pub row_found : row < start_in starts many → RowOf sizes many starts row
+  row_found below = row_among many (omega arith) below
+
+-- the row and the corner of a place of a grid
+pub record CornerOf (count rows at : ℕ) : Type 0 where
+  pub row : ℕ
+  pub corner : ℕ
+  pub within : row < rows
+  pub below : corner < count
+  pub at_is : at ≡ row * count + corner
+
+pub corner_found : (count rows at : ℕ) → at < rows * count → CornerOf count rows at
+corner_found count zero at below = absurd (let none : zero * count ≡ 0 = grind arith in omega (arith, below, none))
+corner_found count (suc rows) at below = elim (cases_lt at (rows * count)) [
+  | inl before ↦
+      let found = corner_found count rows at before in
+      record { row = found.row; corner = found.corner; within = (let few = found.within in omega (arith, few)); below = found.below; at_is = found.at_is }
+  | inr from ↦
+      let more : suc rows * count ≡ rows * count + count = grind arith in
+      record { row = rows; corner = at - rows * count; within = omega arith; below = omega (arith, below, from, more); at_is = omega (arith, from) }
+]

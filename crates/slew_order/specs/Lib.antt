@@ -13,3 +13,4 @@ pub mod Slews
 pub mod PinSlews
 pub mod LivePaths
 pub mod SlewLaws
+pub mod OneTimes

@@ -1,5 +1,5 @@
 -- The states of the nets of a design at its corners.
-use Rattle.std.specs.Prelude.{ℕ, ◌+◌, ◌<◌, ◌≤◌, List, [], length, slice_index_or}
+use Rattle.std.specs.Prelude.{◌≡◌, ℕ, ◌+◌, ◌<◌, List, [], length, slice_index_or}
 use Rattle.cell_models.specs.declared.edge.Edge.{Edge}
 use Rattle.slew_states.specs.PinState.{IsSmall, state}
 use Rattle.slew_states.specs.Settled.{AreSettled, arc_edges, states_in}
@@ -36,7 +36,7 @@ module _ (source : SlewSource) where
   abbrev pub AreStatesTo : ℕ → List (List EdgeStates) → Type 0
   AreStatesTo many corners = (corner : ℕ) → corner < many → AreStatesAt corner (states_at corners corner)
 
-  -- these are the states at all corners
+  -- these are the states at all corners, and no more
   pub record AreNetStates (corners : List (List EdgeStates)) : Type 0 where
-    pub len : source.count ≤ length corners
+    pub len : length corners ≡ source.count
     pub each : AreStatesTo source.count corners

@@ -1,5 +1,5 @@
 -- The load of each net and the Elmore sum of each sink of each net, at each corner.
-use Rattle.std.specs.Prelude.{◌≡◌, ℕ, ◌+◌, ◌*◌, ◌^◌, ◌<◌, ◌≤◌, List, length, slice_index_or, All}
+use Rattle.std.specs.Prelude.{◌≡◌, ℕ, ◌+◌, ◌-◌, ◌*◌, ◌^◌, ◌<◌, ◌≤◌, List, length, slice_index_or, All}
 use Rattle.corner_set.specs.Places.{place}
 use Rattle.delay_units.specs.declared.quantities.Farads.{Farads}
 use Rattle.netlist_link.specs.FlatNetlist.{FlatNetlist, net_at}
@@ -26,11 +26,18 @@ elmore_at count times net sink corner = slice_index_or times.elmores (place coun
 abbrev pub elmore_limit : ℕ
 elmore_limit = 56 * 10 ^ 36
 
--- the starts rise, and there is a load for each net and an Elmore sum for each sink, at so many corners
+-- how many nets there are, and how many sinks they have
+abbrev pub nets_in : NetTimes → ℕ
+nets_in times = length times.starts - 1
+
+abbrev pub sinks_in : NetTimes → ℕ
+sinks_in times = start_in times.starts (nets_in times)
+
+-- the starts rise, and there is a load for each net and an Elmore sum for each sink, at so many corners, and no more
 pub record AreNetTimes (count : ℕ) (times : NetTimes) : Type 0 where
-  pub loads : (net : ℕ) → net + 1 < length times.starts → net * count + count ≤ length times.loads
+  pub loads : length times.loads ≡ nets_in times * count
   pub rise : (net : ℕ) → net + 1 < length times.starts → start_in times.starts net ≤ start_in times.starts (net + 1)
-  pub elmores : (net : ℕ) → net < length times.starts → start_in times.starts net * count ≤ length times.elmores
+  pub elmores : length times.elmores ≡ sinks_in times * count
   pub small : All (λ elmore. elmore < elmore_limit) times.elmores
 
 -- there is such a net, and such a sink of it
@@ -40,9 +47,10 @@ HasNet times net = net + 1 < length times.starts
 abbrev pub HasSink : NetTimes → ℕ → ℕ → Type 0
 HasSink times net sink = (net + 1 < length times.starts) × (start_in times.starts net + sink < start_in times.starts (net + 1))
 
--- The starts of so many groups of these sizes, and then the sum of all sizes.
+-- The starts of so many groups of these sizes, the first one at 0, and then the sum of all sizes.
 pub record AreSums (sizes : ℕ → ℕ) (many : ℕ) (starts : List ℕ) : Type 0 where
   pub len : length starts ≡ many + 1
+  pub first : start_in starts 0 ≡ 0
   pub next : (group : ℕ) → group < many → start_in starts (group + 1) ≡ start_in starts group + sizes group
 
 -- the sinks of the nets of a netlist begin there

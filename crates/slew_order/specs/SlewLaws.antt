@@ -45,11 +45,9 @@ LiveDelays = (source : SlewSource) (tables : SlewTables) → AreSlews source tab
     → HasInput source corner (states_in (states_at tables.corners corner)) at edge
     → (delay : ℤ) × (delay_at source corner (states_in (states_at tables.corners corner)) at edge ≡ Some delay)
 
--- the slews of a design are one: at each corner, net and edge they have the same state
+-- the slews of a design are one
 abbrev pub OneSlews : Type 0
-OneSlews = (source : SlewSource) (some other : SlewTables) → AreSlews source some → AreSlews source other → (corner net : ℕ) (edge : Edge)
-    → corner < source.count → net < length source.netlist.nets
-    → states_in (states_at some.corners corner) net edge ≡ states_in (states_at other.corners corner) net edge
+OneSlews = (source : SlewSource) (some other : SlewTables) → AreSlews source some → AreSlews source other → some ≡ other
 
 -- where a design has slews, it is refused for want of memory alone
 abbrev pub SlewsOrEnd : Type 0

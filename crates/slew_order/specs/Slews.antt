@@ -1,5 +1,5 @@
 -- The slews of a design.
-use Rattle.std.specs.Prelude.{◌≡◌, ℕ, ◌<◌, ◌≤◌, List, length, Some, All}
+use Rattle.std.specs.Prelude.{◌≡◌, ℕ, ◌<◌, List, length, Some, All}
 use Rattle.cell_models.specs.declared.edge.Edge.{Edge}
 use Rattle.netlist_link.specs.FlatNetlist.{FlatNetlist}
 use Rattle.slew_states.specs.PinState.{IsSmall}
@@ -30,9 +30,9 @@ abbrev pub tables_of : List (List EdgeStates) → List ℕ → List ℕ → Beyo
 tables_of corners starts places beyond mode slew =
     record { corners = corners; starts = starts; places = places; beyond = beyond; mode = mode; slew = slew }
 
--- there are states of all nets of a netlist at so many corners, and the places of its pins
+-- there are states of all nets of a netlist at so many corners and no more, and the places of its pins
 pub record AreTablesOf (netlist : FlatNetlist) (count : ℕ) (tables : SlewTables) : Type 0 where
-  pub corners : count ≤ length tables.corners
+  pub corners : length tables.corners ≡ count
   pub nets : (corner : ℕ) → corner < count → length (states_at tables.corners corner) ≡ length netlist.nets
   pub small : (corner net : ℕ) (edge : Edge) → corner < count → IsSmall (states_in (states_at tables.corners corner) net edge)
   pub pins : (instance pin net : ℕ) → net_on netlist instance pin ≡ Some net → net < length netlist.nets

@@ -1,5 +1,6 @@
 //! Laws of look-ups and slews.
 ghost use Rattle.slew_order.specs.Lookups.{LookupFunction};
+ghost use Rattle.slew_order.specs.OneTimes.{OneTimes};
 ghost use Rattle.slew_order.specs.SlewLaws.{DeepSlews, AgreeingCorners, WorstAtPins, LiveDelays, OneSlews, SlewsOrEnd, OneSlewEnd};
 
 /// The law of lookups, which its contract states: in a whole table a lookup answers what the function of lookups gives, and nothing
@@ -32,9 +33,14 @@ pub fn live_arcs_have_delays()
     ensures law { LiveDelays }
 {}
 
-/// The law of one answer, which its contract states: the states of the nets of a design at its corners are one; a design that has slews is
-/// refused for want of memory alone; and a design is refused for one reason, but for which cycle is named. It does nothing when it is
-/// called.
+/// The law of equal times, which its contract states: two tables of the loads and Elmore sums of a netlist are equal if they have the
+/// same load at each net and corner, and the same Elmore sum at each sink and corner. It does nothing when it is called.
+pub fn times_are_one()
+    ensures law { OneTimes }
+{}
+
+/// The law of one answer, which its contract states: the slews of a design are one; a design that has slews is refused for want of memory
+/// alone; and a design is refused for one reason, but for which cycle is named. It does nothing when it is called.
 pub fn slews_are_one()
     ensures slews { OneSlews }
     ensures either { SlewsOrEnd }

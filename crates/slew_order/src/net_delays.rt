@@ -49,7 +49,15 @@ impl<C: CornerSet> NetDelays<C> {
         })
     }
 
+    /// There is a load for each net and an Elmore sum for each sink at each corner, and no more. It does nothing when it is called.
+    pub fn whole(&self)
+        ensures { AreNetTimes C.COUNT self.now }
+    {
+        let _ = &self.starts;
+    }
+
     /// Sets the load of a net at a corner, in 10^-21 F, and leaves all others.
+    #[tactic(auto, using(crate::proofs::Starts::load_row))]
     pub fn set_load(&mut self, net: usize, corner: C::Index, load: Farads)
         requires { HasNet self.old net }
         ensures held { load_at C.COUNT self.new net (C.number_of corner) ≡ load.0 }
@@ -76,6 +84,7 @@ impl<C: CornerSet> NetDelays<C> {
     }
 
     /// The load of a net at a corner, in 10^-21 F.
+    #[tactic(auto, using(crate::proofs::Starts::load_row))]
     pub fn load(&self, net: usize, corner: C::Index) -> Farads
         requires { HasNet self.now net }
         ensures { result.0 ≡ load_at C.COUNT self.now net (C.number_of corner) }
@@ -94,6 +103,7 @@ impl<C: CornerSet> NetDelays<C> {
     }
 
     // The row of a sink among those of all sinks.
+    #[tactic(auto, using(crate::proofs::Starts::sink_row))]
     fn row_of(&self, net: usize, sink: usize) -> usize
         requires { HasSink self.now net sink }
         ensures row { result ≡ start_in self.now.starts net + sink }

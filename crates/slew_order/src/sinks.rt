@@ -72,7 +72,6 @@ impl PinSinks {
 }
 
 // The place of a pin on a net in the table of sinks.
-#[tactic(auto, using(crate::proofs::SinkPlacing::pin_within))]
 fn place_of(
     netlist: &Netlist,
     starts: &[usize],
@@ -226,7 +225,7 @@ fn is_on(netlist: &Netlist, instance: usize, pin: usize, net: usize) -> bool
 }
 
 // Which sink of its net the related pin of an arc is.
-#[tactic(auto, using(crate::proofs::Sinking::arc_sunk, crate::proofs::Sinking::pin_sunk, crate::proofs::Links::net_in, crate::proofs::Placing::pin_below))]
+#[tactic(auto, using(crate::proofs::Sinking::arc_sunk, crate::proofs::Sinking::pin_sunk, crate::proofs::Links::net_in, crate::proofs::Placing::place_below))]
 fn related_sink<C: CornerSet>(
     netlist: &Netlist,
     cells: &CellSets<C>,

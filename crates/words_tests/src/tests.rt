@@ -2,15 +2,18 @@
 use corner_set::Pick;
 use edge_io::{OutOfMemory, Text};
 use gdc_words::{
-    Asked, Command, Key, UsageFault, UsageKind, Words, WordsEnd, help_text, read_words,
+    Asked, Command, Key, Libraries, UsageFault, UsageKind, Words, WordsEnd, help_text, read_words,
     version_text,
 };
+use net_parasitics::Missing;
 use nldm_lookup::Beyond;
 use std::alloc::Global;
+use std::process::Abort;
 use std::test::Fail;
+use wire_slews::WireSlew;
 
 /// Words, one a line, with the kind and the place of their first fault.
-const FAULTS: [(&[u8], UsageKind, usize); 36] = [
+const FAULTS: [(&[u8], UsageKind, usize); 46] = [
     (b"", UsageKind::NoCommand, 1),
     (b"\n", UsageKind::UnknownCommand, 1),
     (b"wire\n", UsageKind::UnknownCommand, 1),
@@ -57,6 +60,20 @@ const FAULTS: [(&[u8], UsageKind, usize); 36] = [
     ),
     (b"flat\n--lib\na\n--lib-max\nb\n", UsageKind::UnknownWord, 4),
     (b"flat\n--outside\nedge\n", UsageKind::UnknownWord, 2),
+    (b"wires\n--missing\nzero\n", UsageKind::UnknownWord, 2),
+    (b"calc\n--slew\n1\n", UsageKind::UnknownWord, 2),
+    (b"calc\n--lib-min\n\n", UsageKind::BadValue, 3),
+    (
+        b"calc\n--lib-max\na\n--lib-max\nb\n",
+        UsageKind::Repeated,
+        4,
+    ),
+    (b"flat\n--lib-min\na\n", UsageKind::UnknownWord, 2),
+    (b"calc\n--input-slew\n-1\n", UsageKind::BadValue, 3),
+    (b"calc\n--port-load\n1000000.1\n", UsageKind::BadValue, 3),
+    (b"calc\n--missing\nnone\n", UsageKind::BadValue, 3),
+    (b"calc\n--wire-slew\nzero\n", UsageKind::BadValue, 3),
+    (b"calc\n--outside\nrss\n", UsageKind::BadValue, 3),
     (b"--help\nwires\n", UsageKind::UnknownWord, 2),
     (b"--version\n--help\n", UsageKind::UnknownWord, 2),
 ];
@@ -99,16 +116,65 @@ fn asked_by(alloc: Global, lines: &[u8]) -> Result<Asked, OutOfMemory> {
     read_words(alloc, &words).map_err(|_| OutOfMemory)
 }
 
+/// The first fault of the words is one of a key, which it names.
+fn try_key(
+    rt: &impl Abort,
+    alloc: Global,
+    lines: &[u8],
+    kind: UsageKind,
+    key: &[u8],
+) -> Result<(), Fail> {
+    let fault = fault_of(alloc, lines)?.ok_or("a fault")?;
+    assert_eq!(rt; (fault.kind, fault.place), (kind, 0), "{lines:?}");
+    assert!(rt;
+        fault.key.is_some_and(|named| named.bytes() == key),
+        "{lines:?}"
+    );
+    Ok(())
+}
+
 /// Words that lack a key, and the first that they lack.
-const LACKING: [(&[u8], &[u8]); 8] = [
+const LACKING: [(&[u8], &[u8]); 14] = [
     (b"wires\n", b"--spef"),
     (b"wires\n--triple\nmin\n", b"--spef"),
     (b"show\n", b"--sdf"),
     (b"lookup\n--slew\n1000000\n", b"--lib"),
     (b"lookup\n--lib\na\n--slew\n1\n--load\n2\n", b"--cell"),
     (b"lookup\n--outside\nextend\n", b"--lib"),
+    (b"calc\n--lib\na\n", b"--netlist"),
+    (
+        b"calc\n--netlist\nn\n--top\nt\n--spef\ns\n--lib\nl\n",
+        b"--input-slew",
+    ),
+    (
+        b"calc\n--netlist\nn\n--top\nt\n--spef\ns\n--input-slew\n1\n",
+        b"--lib",
+    ),
+    (b"calc\n--lib-max\na\n", b"--netlist"),
+    (
+        b"calc\n--netlist\nn\n--top\nt\n--spef\ns\n--input-slew\n1\n--lib-min\na\n--lib-typ\nb\n",
+        b"--lib-max",
+    ),
+    (
+        b"calc\n--netlist\nn\n--top\nt\n--spef\ns\n--input-slew\n1\n--lib-max\na\n",
+        b"--lib-min",
+    ),
     (b"flat\n--lib\na\n", b"--netlist"),
     (b"flat\n--top\nt\n--netlist\nn.v\n", b"--lib"),
+];
+
+/// Words with keys that do not stand together, and the key that is named.
+const MIXED: [(&[u8], &[u8]); 4] = [
+    (b"calc\n--lib\na\n--lib-max\nb\n", b"--lib-max"),
+    (
+        b"calc\n--lib-max\na\n--lib-min\nb\n--lib\nc\n",
+        b"--lib-min",
+    ),
+    (b"calc\n--triple\nmin\n--lib-typ\na\n", b"--lib-typ"),
+    (
+        b"calc\n--netlist\nn\n--top\nt\n--spef\ns\n--input-slew\n1\n--lib\na\n--lib-max\nb\n",
+        b"--lib-max",
+    ),
 ];
 
 #[test]
@@ -120,13 +186,10 @@ fn the_first_fault_is_told(rt: HostRuntime) -> Result<(), Fail> {
         assert!(rt; fault.key.is_none(), "{lines:?}");
     }
     for (lines, key) in LACKING {
-        let fault = fault_of(alloc, lines)?.ok_or("a fault")?;
-        let wanted = (UsageKind::MissingKey, 0);
-        assert_eq!(rt; (fault.kind, fault.place), wanted, "{lines:?}");
-        assert!(rt;
-            fault.key.is_some_and(|named| named.bytes() == key),
-            "{lines:?}"
-        );
+        try_key(&rt, alloc, lines, UsageKind::MissingKey, key)?;
+    }
+    for (lines, key) in MIXED {
+        try_key(&rt, alloc, lines, UsageKind::Mixed, key)?;
     }
     Ok(())
 }
@@ -223,6 +286,45 @@ fn flat_asks_for_its_files(rt: HostRuntime) -> Result<(), Fail> {
             .value(Key::Top.word())
             .is_some_and(|value| value.bytes() == b"top".as_slice())
     );
+    Ok(())
+}
+
+/// The needed words of a calculation.
+const CALC: &[u8] =
+    b"calc\n--netlist\nn.v\n--top\ntop\n--spef\ns.spef\n--input-slew\n20\n--lib\na.lib\n";
+
+#[test]
+fn calc_asks_for_its_settings(rt: HostRuntime) -> Result<(), Fail> {
+    let alloc = rt.alloc();
+    let asked = asked_by(alloc, CALC)?;
+    assert_eq!(rt; asked.command(), Command::Calc);
+    assert_eq!(rt; asked.grains(b"--input-slew"), Some(20_000_000));
+    assert_eq!(rt; asked.port_load(), 0);
+    assert_eq!(rt; asked.missing(), Missing::Refuse);
+    assert_eq!(rt; asked.wire_slew(), WireSlew::Same);
+    assert_eq!(rt; asked.libraries(), Libraries::One);
+    let mut lines = Vec::new(alloc);
+    lines.extend_from_slice(CALC)?;
+    lines.extend_from_slice(b"--port-load\n1.5\n--missing\nzero\n--wire-slew\nrss\n")?;
+    let asked = asked_by(alloc, lines.as_slice())?;
+    assert_eq!(rt; asked.port_load(), 1_500_000);
+    assert_eq!(rt; asked.missing(), Missing::Zero);
+    assert_eq!(rt; asked.wire_slew(), WireSlew::Rss);
+    Ok(())
+}
+
+#[test]
+fn calc_asks_for_a_library_for_each_corner(rt: HostRuntime) -> Result<(), Fail> {
+    let lines =
+        b"calc\n--netlist\nn.v\n--top\ntop\n--spef\ns.spef\n--input-slew\n20\n--lib-max\nc.lib\n--lib-min\na.lib\n--lib-typ\nb.lib\n";
+    let asked = asked_by(rt.alloc(), lines)?;
+    assert_eq!(rt; asked.libraries(), Libraries::EachCorner);
+    assert!(rt;
+        asked
+            .value(b"--lib-typ")
+            .is_some_and(|value| value.bytes() == b"b.lib".as_slice())
+    );
+    assert!(rt; asked.value(b"--lib").is_none());
     Ok(())
 }
 

@@ -1,4 +1,5 @@
-use Rattle.slew_order.proofs.OneSlewEnd.{one_slews, slews_or_end, one_slew_end}
+use Rattle.slew_order.proofs.OneSlewEnd.{slews_or_end, one_slew_end}
+use Rattle.slew_order.proofs.OneTables.{one_slews}
 use Rattle.slew_order.proofs.laws.slews_are_one.Goals as goal
 
 -- src/laws.rt

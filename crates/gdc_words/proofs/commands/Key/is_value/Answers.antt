@@ -15,3 +15,17 @@ returns-in-Load c =
       some_grains c.args.value.now c.grains_of-in-Load.result c.grains_of-in-Load.ensures.some c.grains_of-in-Load.ensures.none,
       grains_found c.args.value.now c.grains_of-in-Load.result c.grains_of-in-Load.ensures.some c.grains_of-in-Load.ensures.none,
     )
+
+pub returns-in-InputSlew : goal.returns-in-InputSlew
+returns-in-InputSlew c =
+    rw (c.in-InputSlew.is, c.is_some-in-InputSlew.ensures) (
+      some_grains c.args.value.now c.grains_of-in-InputSlew.result c.grains_of-in-InputSlew.ensures.some c.grains_of-in-InputSlew.ensures.none,
+      grains_found c.args.value.now c.grains_of-in-InputSlew.result c.grains_of-in-InputSlew.ensures.some c.grains_of-in-InputSlew.ensures.none,
+    )
+
+pub returns-in-PortLoad : goal.returns-in-PortLoad
+returns-in-PortLoad c =
+    rw (c.in-PortLoad.is, c.is_some-in-PortLoad.ensures) (
+      some_grains c.args.value.now c.grains_of-in-PortLoad.result c.grains_of-in-PortLoad.ensures.some c.grains_of-in-PortLoad.ensures.none,
+      grains_found c.args.value.now c.grains_of-in-PortLoad.result c.grains_of-in-PortLoad.ensures.some c.grains_of-in-PortLoad.ensures.none,
+    )

@@ -26,6 +26,14 @@ pub put_times-requires-clause-sums : goal.put_times-requires-clause-sums
 put_times-requires-clause-sums g c =
     subst (λ (d : DrawnTree). (corner : ℕ) → corner < g.C.CornerSet.COUNT → AreSums g.C.CornerSet.COUNT d.tree d.sums corner) (sym c.work.view_is) c.in_default.ensures.sums
 
+pub put_times-requires-clause-sinks : goal.put_times-requires-clause-sinks
+put_times-requires-clause-sinks g c = λ sink below.
+    let there = c.requires.wired.there in
+    let of = subst (λ (d : DrawnTree). IsTreeOf g.C.CornerSet.COUNT c.args.section.now (net_pins c.args.self.now c.args.net c.args.driver) d.tree) (sym c.work.view_is) c.in_default.ensures.tree in
+    let many : length c.work.inside.tree.sinks ≡ length (net_at c.args.self.now.netlist c.args.net).sinks =
+    of.sinks ∙ sinks_many c.args.self.now c.args.net c.args.driver in
+    (omega (arith, there, c.requires.fits.len), omega (arith, below, many, c.requires.fits.next c.args.net there))
+
 pub returns-clause-times : goal.returns-clause-times
 returns-clause-times g c =
     times_of_tree c.args.self.now c.args.net c.args.driver c.args.section.now c.work.inside.tree c.put_times.new.delays (record { wired = c.requires.wired; written = c.requires.written })

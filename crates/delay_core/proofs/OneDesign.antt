@@ -1,14 +1,13 @@
 -- The reading of a design has one answer, but for which of the modules that contain themselves is named.
-use Rattle.std.proofs.Common.{◌≡◌, ℕ, inl, List, Some, Result, Ok, Err, refl, sym, ap, ◌∙◌, subst}
+use Rattle.std.proofs.Common.{◌≡◌, ℕ, List, Option, Some, Result, Ok, Err, refl, sym, ap, ap₂, ◌∙◌, subst}
 use Rattle.std.specs.Prelude.{slice_get}
 use Rattle.edge_io.specs.Holding.{Held}
-use Rattle.cell_models.specs.NamedSets.{NamedCells, set_names}
+use Rattle.cell_models.specs.NamedSets.{NamedCells}
 use Rattle.hierarchy.specs.UseLaws.{NamesDiffer}
 use Rattle.liberty_groups.specs.Groups.{Group}
 use Rattle.name_table.specs.Names.{AreDistinct}
 use Rattle.netlist_link.specs.FlatNetlist.{FlatNetlist}
-use Rattle.verdict_phases.specs.FileReading.{ReadsFile}
-use Rattle.verdict_phases.specs.Phases.{Stop, RefusedBy, Unread, Reads, Step, Go, Halt}
+use Rattle.verdict_phases.specs.Phases.{Stop, RefusedBy, Go, Halt}
 use Rattle.verilog_netlist.specs.NetModules.{NetModule}
 use Rattle.delay_core.specs.CellPhase.{ModelsCells}
 use Rattle.delay_core.specs.DesignReading.{ReadsNetlistFile, ReadInputs, LinkedDesign, ReadsInputs, at_grammar, at_uses, at_libraries, with_inputs, LinksInputs, at_models, at_link, with_netlist, ReadsDesign, at_netlist, at_inputs, at_design, with_design}
@@ -16,31 +15,21 @@ use Rattle.delay_core.specs.LibraryPhases.{ParsesLibrary}
 use Rattle.delay_core.specs.LibraryReading.{library_key, ReadsLibraryFile, ReadsLibrary, at_file, at_tree, with_tree, AreFirst, ReadsLibraries, all_read, stops_at}
 use Rattle.delay_core.specs.LinkPhase.{LinksDesign}
 use Rattle.delay_core.specs.NetlistPhase.{ParsesNetlist, is_netlist}
-use Rattle.delay_core.specs.OneAnswer.{SameAnswer}
 use Rattle.delay_core.specs.UsePhase.{UsesCells}
 use Rattle.delay_core.specs.declared.refusal.FileKey.{FileKey}
 use Rattle.delay_core.specs.declared.refusal.FileKey.TheVariants.{Netlist}
-use Rattle.delay_core.specs.declared.refusal.LimitKind.TheVariants.{File}
 use Rattle.delay_core.specs.declared.refusal.Refusal.{Refusal}
-use Rattle.delay_core.specs.declared.refusal.Refusal.TheVariants.{Limit}
-use Rattle.delay_core.specs.InputFiles.{file_limit}
 use Rattle.delay_core.proofs.CellLemmas.{used_differ, names_used}
 use Rattle.delay_core.proofs.InTurn.{AreFirst as AreInTurn, one_front, not_within, one_stopped}
 use Rattle.delay_core.proofs.ModuleNames.{names_differ}
 use Rattle.delay_core.proofs.OneInputs.{one_use_lem, one_models_lem, one_link_lem}
 use Rattle.delay_core.proofs.OneLibrary.{one_library_lem}
 use Rattle.delay_core.proofs.OneNetlist.{one_netlist_lem}
-use Rattle.delay_core.proofs.Places.{some_is, within}
-use Rattle.gdc_run.specs.OneVerdict.{IsFinal, IsDecided, SameStop, SameStep, HasOneAnswer}
-use Rattle.gdc_run.proofs.InTurn.{Steps, Then, stops, goes, Plain, one_plain, same_answers, one_then, one_made, one_by}
-use Rattle.gdc_run.proofs.OneText.{same_stop, stops_equal, stops_alike, reads_or_stops, reads_alike}
-
--- the file of a key has one answer
-one_file : (held : Held) (key : FileKey) (name : List ℕ) → HasOneAnswer (λ step. ReadsFile file_limit (Some held) key (Limit (File key)) name step)
-one_file held key name (Go x) (Go y) r s d e = reads_alike held key name x y r s
-one_file held key name (Go x) (Halt v) r s d e = reads_or_stops held key name x v r s e
-one_file held key name (Halt w) (Go y) r s d e = reads_or_stops held key name y w s r d
-one_file held key name (Halt w) (Halt v) r s d e = stops_alike held key name w v r s d e
+use Rattle.delay_core.proofs.Places.{some_is}
+use Rattle.delay_core.specs.OneDesign.{OneInputs, OneLinking, OneDesign}
+use Rattle.delay_core.specs.OneStep.{IsFinal, IsDecided, HasOneAnswer}
+use Rattle.delay_core.proofs.OneChain.{Steps, Then, stops, goes, Plain, one_plain, same_answers, one_then, one_made, one_by}
+use Rattle.delay_core.proofs.OneText.{one_file, same_stop, stops_equal, reads_or_stops, reads_alike}
 
 -- ---- the libraries
 
@@ -114,6 +103,9 @@ module _ (held : Held) (corners : ℕ) (names : List (List ℕ)) where
 
 -- ---- the inputs
 
+sound_modules : (bytes : List ℕ) (modules : List NetModule) → ParsesNetlist bytes (Ok modules) → NamesDiffer modules
+sound_modules bytes modules (is_netlist _ are) = names_differ bytes modules are
+
 module _ (held : Held) (corners : ℕ) (top : List ℕ) (names : List (List ℕ)) where
   abbrev made : List NetModule → List (List ℕ) → List Group → ReadInputs
   made modules used libraries = record { modules = modules; used = used; libraries = libraries }
@@ -133,57 +125,85 @@ module _ (held : Held) (corners : ℕ) (top : List ℕ) (names : List (List ℕ)
   inputs_view bytes _ (at_libraries modules used why parses uses reads) = goes modules parses (goes used uses (stops why reads refl))
   inputs_view bytes _ (with_inputs modules used trees parses uses reads) = goes modules parses (goes used uses (goes trees reads refl))
 
-  sound_modules : (bytes : List ℕ) (modules : List NetModule) → ParsesNetlist bytes (Ok modules) → NamesDiffer modules
-  sound_modules bytes modules (is_netlist _ are) = names_differ bytes modules are
-
   one_uses : (modules : List NetModule) → NamesDiffer modules → HasOneAnswer (Uses modules)
   one_uses modules differ = one_then (Plain (UsesCells modules top)) (Libraries modules) (one_plain (UsesCells modules top) (λ one other r s. one_use_lem modules top one other differ r s))
       (λ used uses. one_then (ReadsLibraries (Some held) corners names) (λ libraries end. end ≡ Go (made modules used libraries)) (one_libraries held corners names) (λ libraries reads. one_made (made modules used libraries)))
 
-  one_inputs : (bytes : List ℕ) → HasOneAnswer (ReadsInputs (Some held) corners bytes top names)
-  one_inputs bytes = one_by (ReadsInputs (Some held) corners bytes top names) (Inputs bytes) (inputs_view bytes)
+  inputs_alike : (bytes : List ℕ) → HasOneAnswer (ReadsInputs (Some held) corners bytes top names)
+  inputs_alike bytes = one_by (ReadsInputs (Some held) corners bytes top names) (Inputs bytes) (inputs_view bytes)
       (one_then (Plain (ParsesNetlist bytes)) Uses (one_plain (ParsesNetlist bytes) (λ one other r s. same_answers one other (one_netlist_lem bytes one other r s)))
       (λ modules parses. one_uses modules (sound_modules bytes modules parses)))
+
+-- the inputs of a netlist's bytes have one answer
+pub one_inputs : OneInputs
+one_inputs held corners bytes top names = inputs_alike held corners top names bytes
 
 -- ---- the flat netlist
 
 -- inputs of which modules and used cells are sound
-record AreSound (top : List ℕ) (inputs : ReadInputs) : Type 0 where
+record AreSound (inputs : ReadInputs) : Type 0 where
   differ : NamesDiffer inputs.modules
   apart : AreDistinct inputs.used
 
-sound_inputs : (held : Held) (corners : ℕ) (bytes top : List ℕ) (names : List (List ℕ)) (inputs : ReadInputs) → ReadsInputs (Some held) corners bytes top names (Go inputs) → AreSound top inputs
+sound_inputs : (held : Option Held) (corners : ℕ) (bytes top : List ℕ) (names : List (List ℕ)) (inputs : ReadInputs) → ReadsInputs held corners bytes top names (Go inputs) → AreSound inputs
 sound_inputs held corners bytes top names _ (with_inputs modules used trees parses uses reads) =
-    record { differ = sound_modules held corners top names bytes modules parses; apart = used_differ modules top used uses }
+    record { differ = sound_modules bytes modules parses; apart = used_differ modules top used uses }
 
-module _ (inputs : ReadInputs) (top : List ℕ) (sound : AreSound top inputs) where
-  abbrev design : List NamedCells → FlatNetlist → LinkedDesign
-  design cells netlist = record { netlist = netlist; cells = cells }
+abbrev modelled : List NamedCells → Result (List NamedCells) Refusal
+modelled cells = Ok cells
 
-  abbrev Netlists : List NamedCells → Steps LinkedDesign → Type 0
-  Netlists cells step = Then (Plain (LinksDesign inputs.modules top cells)) (λ netlist end. end ≡ Go (design cells netlist)) step
+abbrev unmodelled : Refusal → Result (List NamedCells) Refusal
+unmodelled refusal = Err refusal
 
-  abbrev Links : Steps LinkedDesign → Type 0
-  Links step = Then (Plain (ModelsCells inputs.libraries inputs.used)) Netlists step
+abbrev linked : FlatNetlist → Result FlatNetlist Refusal
+linked netlist = Ok netlist
 
-  links_view : (step : Steps LinkedDesign) → Plain (LinksInputs inputs top) step → Links step
-  links_view (Go _) (with_netlist cells netlist models links) = goes cells models (goes netlist links refl)
-  links_view (Halt (RefusedBy refusal)) (at_models _ models) = stops (RefusedBy refusal) models refl
-  links_view (Halt (RefusedBy refusal)) (at_link cells _ models links) = goes cells models (stops (RefusedBy refusal) links refl)
-  links_view (Halt (Unread key)) none = absurd none
-  links_view (Halt (Reads key)) none = absurd none
+abbrev unlinked : Refusal → Result FlatNetlist Refusal
+unlinked refusal = Err refusal
 
-  one_netlists : (cells : List NamedCells) → ModelsCells inputs.libraries inputs.used (Ok cells) → HasOneAnswer (Netlists cells)
-  one_netlists cells models =
-      let apart : AreDistinct (set_names cells) = subst AreDistinct (sym (names_used inputs.libraries inputs.used cells models)) sound.apart in
-      one_then (Plain (LinksDesign inputs.modules top cells)) (λ netlist end. end ≡ Go (design cells netlist))
-      (one_plain (LinksDesign inputs.modules top cells) (λ one other r s. same_answers one other (one_link_lem inputs.modules top cells one other sound.differ apart r s)))
-      (λ netlist links. one_made (design cells netlist))
+abbrev design_of : List NamedCells → FlatNetlist → LinkedDesign
+design_of cells netlist = record { netlist = netlist; cells = cells }
 
-  one_links : HasOneAnswer (Plain (LinksInputs inputs top))
-  one_links = one_by (Plain (LinksInputs inputs top)) Links links_view
-      (one_then (Plain (ModelsCells inputs.libraries inputs.used)) Netlists
-      (one_plain (ModelsCells inputs.libraries inputs.used) (λ one other r s. same_answers one other (one_models_lem inputs.libraries inputs.used one other r s))) one_netlists)
+module _ (inputs : ReadInputs) (top : List ℕ) (sound : AreSound inputs) where
+  same_cells : (one other : List NamedCells) → ModelsCells inputs.libraries inputs.used (Ok one) → ModelsCells inputs.libraries inputs.used (Ok other) → one ≡ other
+  same_cells one other m n = let same : modelled one ≡ modelled other = one_models_lem inputs.libraries inputs.used (Ok one) (Ok other) m n in cc
+
+  cells_or_not : (cells : List NamedCells) (refusal : Refusal) → ModelsCells inputs.libraries inputs.used (Ok cells) → ModelsCells inputs.libraries inputs.used (Err refusal) → ⊥
+  cells_or_not cells refusal m n = let same : modelled cells ≡ unmodelled refusal = one_models_lem inputs.libraries inputs.used (Ok cells) (Err refusal) m n in cc
+
+  -- the flat netlists over two lists of models, which are one
+  same_link : (one other : List NamedCells) (some more : Result FlatNetlist Refusal) → ModelsCells inputs.libraries inputs.used (Ok one) → ModelsCells inputs.libraries inputs.used (Ok other)
+      → LinksDesign inputs.modules top one some → LinksDesign inputs.modules top other more → some ≡ more
+  same_link one other some more m n r s =
+      one_link_lem inputs.modules top one some more sound.differ (subst AreDistinct (sym (names_used inputs.libraries inputs.used one m)) sound.apart) r
+      (subst (λ (cells : List NamedCells). LinksDesign inputs.modules top cells more) (same_cells other one n m) s)
+
+  links_alike : (one other : Result LinkedDesign Refusal) → LinksInputs inputs top one → LinksInputs inputs top other → one ≡ other
+  links_alike _ _ (at_models f m) (at_models g n) =
+      let same : unmodelled f ≡ unmodelled g = one_models_lem inputs.libraries inputs.used (Err f) (Err g) m n in
+      let equal : f ≡ g = cc in ap Err equal
+  links_alike _ _ (at_models f m) (at_link cells g n s) = absurd (cells_or_not cells f n m)
+  links_alike _ _ (at_models f m) (with_netlist cells netlist n s) = absurd (cells_or_not cells f n m)
+  links_alike _ _ (at_link cells g n s) (at_models f m) = absurd (cells_or_not cells f n m)
+  links_alike _ _ (with_netlist cells netlist n s) (at_models f m) = absurd (cells_or_not cells f n m)
+  links_alike _ _ (at_link cells f m r) (at_link more g n s) =
+      let same : unlinked f ≡ unlinked g = same_link cells more (Err f) (Err g) m n r s in
+      let equal : f ≡ g = cc in ap Err equal
+  links_alike _ _ (at_link cells f m r) (with_netlist more netlist n s) = let same : unlinked f ≡ linked netlist = same_link cells more (Err f) (Ok netlist) m n r s in cc
+  links_alike _ _ (with_netlist more netlist n s) (at_link cells f m r) = let same : unlinked f ≡ linked netlist = same_link cells more (Err f) (Ok netlist) m n r s in cc
+  links_alike _ _ (with_netlist cells netlist m r) (with_netlist more other n s) =
+      let same : linked netlist ≡ linked other = same_link cells more (Ok netlist) (Ok other) m n r s in
+      let equal : netlist ≡ other = cc in
+      ap₂ (λ c f. Ok (design_of c f)) (same_cells cells more m n) equal
+
+-- inputs that were read have one linked design, or one refusal
+pub one_linking : OneLinking
+one_linking held corners bytes top names inputs one other are r s = links_alike inputs top (sound_inputs held corners bytes top names inputs are) one other r s
+
+-- and so as phases
+pub links_one : (held : Option Held) (corners : ℕ) (bytes top : List ℕ) (names : List (List ℕ)) (inputs : ReadInputs) → ReadsInputs held corners bytes top names (Go inputs) → HasOneAnswer (Plain (LinksInputs inputs top))
+links_one held corners bytes top names inputs are =
+    one_plain (LinksInputs inputs top) (λ one other r s. same_answers one other (one_linking held corners bytes top names inputs one other are r s))
 
 -- ---- the design
 
@@ -197,9 +217,9 @@ module _ (held : Held) (corners : ℕ) (file top : List ℕ) (names : List (List
   design_view _ (at_design bytes inputs refusal reads are links) = goes bytes reads (goes inputs are links)
   design_view _ (with_design bytes inputs design reads are links) = goes bytes reads (goes inputs are links)
 
-  -- a design has one answer
-  pub one_design : HasOneAnswer (ReadsDesign (Some held) corners file top names)
-  one_design = one_by (ReadsDesign (Some held) corners file top names) (Then (ReadsNetlistFile (Some held) file) AfterFile) design_view
-      (one_then (ReadsNetlistFile (Some held) file) AfterFile (one_file held Netlist file)
-      (λ bytes reads. one_then (ReadsInputs (Some held) corners bytes top names) (λ inputs. Plain (LinksInputs inputs top)) (one_inputs held corners top names bytes)
-      (λ inputs are. one_links inputs top (sound_inputs held corners bytes top names inputs are))))
+-- a design has one answer
+pub one_design : OneDesign
+one_design held corners file top names = one_by (ReadsDesign (Some held) corners file top names) (Then (ReadsNetlistFile (Some held) file) (AfterFile held corners file top names)) (design_view held corners file top names)
+    (one_then (ReadsNetlistFile (Some held) file) (AfterFile held corners file top names) (one_file held Netlist file)
+    (λ bytes reads. one_then (ReadsInputs (Some held) corners bytes top names) (λ inputs. Plain (LinksInputs inputs top)) (one_inputs held corners bytes top names)
+    (λ inputs are. links_one (Some held) corners bytes top names inputs are)))

@@ -1,10 +1,10 @@
 -- Phases one after another have one answer where each has.
-use Rattle.std.proofs.Common.{◌≡◌, ℕ, inl, inr, Result, Ok, Err, refl, sym, ap, subst}
+use Rattle.std.proofs.Common.{◌≡◌, inl, Result, Ok, Err, refl, sym, subst}
 use Rattle.verdict_phases.specs.Phases.{Stop, RefusedBy, Unread, Reads, Step, Go, Halt}
-use Rattle.delay_core.specs.OneAnswer.{SameRefusal, SameAnswer}
+use Rattle.delay_core.specs.OneAnswer.{SameAnswer}
 use Rattle.delay_core.specs.declared.refusal.FileKey.{FileKey}
 use Rattle.delay_core.specs.declared.refusal.Refusal.{Refusal}
-use Rattle.gdc_run.specs.OneVerdict.{IsFinal, IsDecided, SameStop, SameStep, HasOneAnswer}
+use Rattle.delay_core.specs.OneStep.{IsFinal, IsDecided, SameStop, SameStep, HasOneAnswer}
 
 abbrev pub Steps : Type 0 → Type 0
 Steps A = Step Refusal FileKey A

@@ -8,7 +8,8 @@ use Rattle.delay_core.specs.declared.refusal.LimitKind.TheVariants.{File}
 use Rattle.delay_core.specs.declared.refusal.Refusal.{Refusal}
 use Rattle.delay_core.specs.declared.refusal.Refusal.TheVariants.{Limit}
 use Rattle.delay_core.specs.InputFiles.{file_limit}
-use Rattle.gdc_run.specs.OneVerdict.{IsFinal, IsDecided, SameStop}
+use Rattle.delay_core.specs.OneDesign.{OneFile}
+use Rattle.delay_core.specs.OneStep.{IsFinal, IsDecided, SameStop}
 use Rattle.delay_core.proofs.Places.{some_is}
 
 -- a file has one text, or one reason why it is not read
@@ -64,3 +65,10 @@ module _ (held : Held) (key : FileKey) (name : List ℕ) where
   reads_alike one other r s =
       let same : read one ≡ read other = one_text file_limit held key (Limit (File key)) name (Go one) (Go other) r s tt tt in
       cc
+
+-- the file of a key has one answer
+pub one_file : OneFile
+one_file held key name (Go x) (Go y) r s d e = reads_alike held key name x y r s
+one_file held key name (Go x) (Halt v) r s d e = reads_or_stops held key name x v r s e
+one_file held key name (Halt w) (Go y) r s d e = reads_or_stops held key name y w s r d
+one_file held key name (Halt w) (Halt v) r s d e = stops_alike held key name w v r s d e
