@@ -1,0 +1,35 @@
+"""A made library of three cells with tables of seven by seven values, for the tools that measure; it is no command."""
+
+SLEWS = (1, 4, 10, 20, 35, 60, 100)
+LOADS = (0.5, 1, 1.5, 2, 3, 5, 10)
+# The cells: their inputs, and the sense of their arcs.
+CELLS = {"INV": ("A", "negative_unate"), "BUF": ("A", "positive_unate"), "NAND2": ("AB", "negative_unate")}
+# The rise and the fall of the delay and of the transition: a part that stands, and those by the slew and by the load.
+TABLES = {"cell_rise": (4, 0.2, 6), "cell_fall": (3, 0.15, 5), "rise_transition": (5, 0.3, 4), "fall_transition": (4, 0.25, 3)}
+
+
+def points(numbers):
+    return ", ".join(f"{number:g}" for number in numbers)
+
+
+def table(name, parts, scale):
+    """The lines of a table of seven by seven values."""
+    least, by_slew, by_load = (part * scale for part in parts)
+    yield f"        {name} (t77) {{\n          values ( \\\n"
+    rows = (points(least + by_slew * slew + by_load * load for load in LOADS) for slew in SLEWS)
+    yield ", \\\n".join(f'            "{row}"' for row in rows) + " \\\n          );\n        }\n"
+
+
+def library(scale=1):
+    """The lines of the library, all of whose times are so many times as long."""
+    yield 'library (L) {\n  time_unit : "1ps";\n  capacitive_load_unit (1, ff);\n  lu_table_template (t77) {\n'
+    yield "    variable_1 : input_net_transition;\n    variable_2 : total_output_net_capacitance;\n"
+    yield f'    index_1 ("{points(SLEWS)}");\n    index_2 ("{points(LOADS)}");\n  }}\n'
+    for cell, (inputs, sense) in CELLS.items():
+        yield f"  cell ({cell}) {{\n    pin ({', '.join(inputs)}) {{ direction : input; capacitance : 1; }}\n"
+        yield "    pin (Z) {\n      direction : output;\n"
+        yield f'      timing () {{\n        related_pin : "{" ".join(inputs)}";\n        timing_sense : {sense};\n'
+        for name, parts in TABLES.items():
+            yield from table(name, parts, scale)
+        yield "      }\n    }\n  }\n"
+    yield "}\n"
