@@ -1,12 +1,15 @@
 -- The files of `calc`: the netlist, the library of each corner, and then the SPEF file; and its settings.
-use Rattle.std.proofs.Common.{◌≡◌, ℕ, zero, suc, ◌+◌, inl, inr, true, List, length, Option, Some, refl, sym, ap, ◌∙◌, subst, arith}
+use Rattle.std.proofs.Common.{◌≡◌, ℕ, zero, suc, ◌+◌, inl, inr, true, List, length, Option, Some, Result, Ok, Err, refl, sym, ap, ◌∙◌, subst, arith}
 use Rattle.std.specs.Prelude.{IsTrue, slice_get}
 use Rattle.std.specs.List.{list_any}
 use Rattle.corner_set.specs.declared.pick.Pick.{Pick}
 use Rattle.edge_io.specs.Counts.{RoseBy}
 use Rattle.edge_io.specs.Holding.{Held, TellsMissing}
+use Rattle.sdf_writer.specs.SdfText.{SdfRows}
 use Rattle.spef_nets.specs.Sections.{Corners}
-use Rattle.verdict_phases.specs.Phases.{Stop, Unread, Reads, Go, Halt}
+use Rattle.verdict_phases.specs.Phases.{RefusedBy, Unread, Reads, Go, Halt, Follows}
+use Rattle.verdict_phases.specs.declared.ends.PhaseEnd.{PhaseEnd}
+use Rattle.verdict_phases.specs.declared.ends.PhaseEnd.TheVariants as phase
 use Rattle.gdc_words.specs.CommandLine.{Request, same_key, needed_keys, needs_key, libraries_of, value_of}
 use Rattle.gdc_words.specs.declared.asked.Given.{Given}
 use Rattle.gdc_words.specs.declared.commands.Command.{Command}
@@ -17,6 +20,7 @@ use Rattle.gdc_words.specs.declared.commands.Libraries.{Libraries}
 use Rattle.gdc_words.specs.declared.commands.Libraries.TheVariants.{One, EachCorner}
 use Rattle.delay_core.specs.DesignReading.{ReadInputs}
 use Rattle.delay_core.specs.LibraryReading.{library_key}
+use Rattle.delay_core.specs.Refused.{AtReadFault}
 use Rattle.delay_core.specs.SpefPhases.{sole_corner}
 use Rattle.delay_core.specs.SpefWork.{IsWithin}
 use Rattle.delay_core.specs.declared.refusal.FileKey.{FileKey}
@@ -24,7 +28,6 @@ use Rattle.delay_core.specs.declared.refusal.FileKey.TheVariants.{Netlist, Spef}
 use Rattle.delay_core.specs.declared.refusal.Refusal.{Refusal}
 use Rattle.delay_core.proofs.DesignLemmas.{inputs_stop}
 use Rattle.delay_core.proofs.Places.{some_is}
-use Rattle.delay_annotation.specs.AnnotatedDesigns.{AnnotatedDesign}
 use Rattle.delay_annotation.specs.Annotation.{AnnotatesFrom, at_spef, Annotates, at_netlist, at_inputs, at_design, files_read, key_of_file, IsAnnotationFault}
 use Rattle.delay_annotation.specs.AnnotationWork.{FilesWork}
 use Rattle.delay_annotation.specs.declared.settings.Files.{Files}
@@ -68,15 +71,13 @@ asked_holds request own files settings fact same asked holds = record {
 }
 
 module _ {I : Type 0} (corners : Pick → Corners I) (held : Option Held) (own : Files) (request : Request) where
-  pub calc_rows : (files : Files) (settings : Settings) (design : AnnotatedDesign) → files ≡ own → AreSettingsOf request settings
-      → Annotates held (corners settings.pick) files settings (Go design) → CalcGives corners held own request (Go design.rows)
-  calc_rows files settings design same asked gives =
-      asked_holds request own files settings (λ f s. DesignGives corners held f s (Go design.rows)) same asked (design, gives, refl)
-
-  pub calc_halts : (files : Files) (settings : Settings) (why : Stop Refusal FileKey) → files ≡ own → AreSettingsOf request settings
-      → Annotates held (corners settings.pick) files settings (Halt why) → CalcGives corners held own request (Halt why)
-  calc_halts files settings why same asked gives =
-      asked_holds request own files settings (λ f s. DesignGives corners held f s (Halt why)) same asked gives
+  -- the rows of the design are those that are asked for
+  pub calc_follows : (files : Files) (settings : Settings) (result : Result SdfRows (PhaseEnd Refusal FileKey)) → files ≡ own → AreSettingsOf request settings
+      → Follows (DesignGives corners held files settings) result → Follows (CalcGives corners held own request) result
+  calc_follows files settings (Ok rows) same asked gives = asked_holds request own files settings (λ f s. DesignGives corners held f s (Go rows)) same asked gives
+  calc_follows files settings (Err (phase.Refused refusal)) same asked gives = asked_holds request own files settings (λ f s. DesignGives corners held f s (Halt (RefusedBy refusal))) same asked gives
+  calc_follows files settings (Err (phase.ReadFault key)) same asked gives = asked_holds request own files settings (λ f s. DesignGives corners held f s (Halt (Reads key))) same asked gives
+  calc_follows files settings (Err phase.OutOfMemory) same asked gives = tt
 
   pub no_calc_work : (steps : ℕ) → IsWithin (CalcWork corners held own request) steps steps
   no_calc_work steps = record { work = 0; given = no_settings; bound = omega arith }
@@ -133,12 +134,20 @@ module _ (request : Request) where
         }
 
     -- a fault at one of them has its cause
-    pub calc_cause : (count : ℕ) (files : Files) (faults faults' opens opens' : ℕ) (key : FileKey) → request.command ≡ Calc → count ≡ corner_count (libraries_of request.given)
+    calc_cause : (count : ℕ) (files : Files) (faults faults' opens opens' : ℕ) (key : FileKey) → request.command ≡ Calc → count ≡ corner_count (libraries_of request.given)
         → files ≡ files_with request (libraries_of request.given) → IsAnnotationFault held count files faults faults' opens opens' key → HasCause held request faults faults' opens opens' key
     calc_cause count files faults faults' opens opens' key is counts same fault =
         own_cause (libraries_of request.given) faults faults' opens opens' key is refl
         (subst (λ (f : Files). IsAnnotationFault held (corner_count (libraries_of request.given)) f faults faults' opens opens' key) same
         (subst (λ (n : ℕ). IsAnnotationFault held n files faults faults' opens opens' key) counts fault))
+
+    pub calc_fault : {A : Type 0} (count : ℕ) (files : Files) (faults faults' opens opens' : ℕ) (result : Result A (PhaseEnd Refusal FileKey)) → request.command ≡ Calc
+        → count ≡ corner_count (libraries_of request.given) → files ≡ files_with request (libraries_of request.given)
+        → AtReadFault result (IsAnnotationFault held count files faults faults' opens opens') → AtReadFault result (HasCause held request faults faults' opens opens')
+    calc_fault count files f f' o o' (Ok value) is counts same fault = tt
+    calc_fault count files f f' o o' (Err (phase.Refused refusal)) is counts same fault = tt
+    calc_fault count files f f' o o' (Err (phase.ReadFault key)) is counts same fault = calc_cause count files f f' o o' key is counts same fault
+    calc_fault count files f f' o o' (Err phase.OutOfMemory) is counts same fault = tt
 
     -- where the phases come to one that is not held, that decides
     module _ (libraries : Libraries) where

@@ -1,5 +1,5 @@
 -- That the verdict is answered follows from what each answer says.
-use Rattle.std.proofs.Common.{◌≡◌, ℕ, inl, inr, refl, List, Option, Ok, Err}
+use Rattle.std.proofs.Common.{◌≡◌, ℕ, inl, inr, refl, List, Option, Result, Ok, Err, subst}
 use Rattle.edge_io.specs.Counts.{Rose}
 use Rattle.edge_io.specs.Holding.{Held, TellsMissing}
 use Rattle.edge_io.specs.Told.{appended, AppendsFrontOf}
@@ -7,7 +7,8 @@ use Rattle.verdict_phases.specs.Phases.{RefusedBy, Unread, Reads, Go, Halt}
 use Rattle.corner_set.specs.declared.pick.Pick.{Pick}
 use Rattle.nldm_lookup.specs.declared.beyond.Beyond.{Beyond}
 use Rattle.gdc_words.specs.declared.commands.Command.{Command}
-use Rattle.gdc_words.specs.declared.commands.Command.TheVariants.{Wires, Calc, Show, Lookup, Flat, Help, Version}
+use Rattle.gdc_words.specs.declared.commands.Command.TheVariants.{Wires, Calc, Show, Lookup, Flat, Trial, Help, Version}
+use Rattle.gdc_words.specs.declared.commands.Shape.{Shape}
 use Rattle.gdc_words.specs.declared.faults.UsageFault.{UsageFault}
 use Rattle.gdc_words.proofs.Pairs.{one_request}
 use Rattle.delay_core.specs.declared.refusal.FileKey.{FileKey}
@@ -16,7 +17,8 @@ use Rattle.gdc_run.specs.declared.outcome.Outcome.{Outcome}
 use Rattle.gdc_run.specs.declared.outcome.Outcome.TheVariants.{Done, Refused, Usage, ReadFault, WriteFault, OutOfMemory}
 use Rattle.gdc_words.specs.CommandLine.{Request, Asks, libraries_of}
 use Rattle.gdc_run.specs.Verdict.{Faulty, Answers, Gives, CommandGives, WiresGives, ShowGives, LookupGives, at_reading, at_sdf_reading, at_library_reading}
-use Rattle.gdc_run.specs.Outcomes.{OnDone, IfRefused, IfUsage, IfReadFault, OnWriteFault, GivesText, HasReadFault, AnswersUsage, name_of}
+use Rattle.gdc_run.specs.Trial.{TrialGives}
+use Rattle.gdc_run.specs.Outcomes.{OnDone, IfRefused, IfUsage, IfReadFault, OnWriteFault, GivesText, HasReadFault, AskForTrial, AnswersUsage, name_of}
 use Rattle.gdc_run.proofs.CalcFiles.{unread_output}
 use Rattle.gdc_run.proofs.FlatFiles.{unread_flat}
 use Rattle.gdc_run.specs.Completeness.{AnswersVerdict, IsComplete}
@@ -30,6 +32,13 @@ show_reads held name key (at_sdf_reading why reads) = reads
 
 lookup_reads : (held : Option Held) (file name : List ℕ) (slew load : ℕ) (beyond : Beyond) (key : FileKey) → LookupGives held file name slew load beyond (Halt (Reads key)) → key ≡ Lib
 lookup_reads held file name slew load beyond key (at_library_reading why reads) = reads
+
+abbrev asked : Request → Result Request UsageFault
+asked request = Ok request
+
+-- `trial` comes to none
+trial_reads_none : (shape : Shape) (size : ℕ) (key : FileKey) → ¬ TrialGives shape size (Halt (Reads key))
+trial_reads_none shape size key gives = elim gives [ ]
 
 -- the phases of a command come to the file that the shelf tells is not held
 unread_file : (held : Option Held) (command : Command) (request : Request) (key : FileKey) → CommandGives held command request (Halt (Reads key)) → TellsMissing held (name_of request key) → CommandGives held command request (Halt (Unread key))
@@ -57,6 +66,7 @@ unread_file held Lookup request LibMax reached missing = cc (lookup_reads _ _ _ 
 unread_file held Lookup request Spef reached missing = cc (lookup_reads _ _ _ _ _ _ Spef reached.holds)
 unread_file held Lookup request Sdf reached missing = cc (lookup_reads _ _ _ _ _ _ Sdf reached.holds)
 unread_file held Flat request key reached missing = unread_flat request held key reached missing
+unread_file held Trial request key reached missing = absurd (trial_reads_none reached.shape reached.size key reached.holds)
 unread_file held Help request key reached missing = cc
 unread_file held Version request key reached missing = cc
 
@@ -90,6 +100,24 @@ complete_of words held f f' o o' w w' g g' WriteFault done refused usage fault w
     absurd (sink_calm write.0)
 complete_of words held f f' o o' w w' g g' OutOfMemory done refused usage fault write calm sink_calm =
     inl refl
+
+-- no read fault comes of `trial`
+trial_faultless : (held : Option Held) (command : Command) (request : Request) (key : FileKey) → command ≡ Trial → CommandGives held command request (Halt (Reads key)) → ⊥
+trial_faultless held command request key is reached =
+    let own : CommandGives held Trial request (Halt (Reads key)) = subst (λ (c : Command). CommandGives held c request (Halt (Reads key))) is reached in
+    trial_reads_none own.shape own.size key own.holds
+
+pub trial_without_fault : (words : List (List ℕ)) (held : Option Held) (faults faults' opens opens' : ℕ) (outcome : Outcome) → IfReadFault outcome (λ key. HasReadFault words held key faults faults' opens opens')
+    → IfReadFault outcome (λ _. AskForTrial words → ⊥)
+trial_without_fault words held f f' o o' (ReadFault key) fault = λ asks.
+    let same : asked fault.request ≡ asked asks.0 = one_request words (Ok fault.request) (Ok asks.0) fault.asked asks.1 in
+    let is : fault.request.command ≡ Trial = cc (same, asks.2) in
+    trial_faultless held fault.request.command fault.request key is fault.reached
+trial_without_fault words held f f' o o' Done fault = tt
+trial_without_fault words held f f' o o' (Refused refusal) fault = tt
+trial_without_fault words held f f' o o' (Usage faulty) fault = tt
+trial_without_fault words held f f' o o' WriteFault fault = tt
+trial_without_fault words held f f' o o' OutOfMemory fault = tt
 
 -- words with a first fault ask for nothing
 asks_nothing : (words : List (List ℕ)) (fault : UsageFault) (request : Request) → Asks words (Err fault) → Asks words (Ok request) → ⊥

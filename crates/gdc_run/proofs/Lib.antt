@@ -6,9 +6,11 @@ pub mod Completing
 pub mod FlatEnds
 pub mod FlatFiles
 pub mod FlatTexts
+pub mod MadeFiles
 pub mod OneCalc
 pub mod OneLookup
 pub mod OnePut
+pub mod OneTrial
 pub mod OneVerdict
 pub mod OneWires
 pub mod ReadBack

@@ -42,22 +42,23 @@ one_port_load given _ _ (no_load none) (no_load also) = refl
 -- ---- the command
 
 -- The rows of the design of these files are one, at the corners of any set.
-module _ {I : Type 0} (corners : Pick → Corners I) (numbered : (pick : Pick) → AreNumbered (corners pick)) (some : (pick : Pick) → 0 < (corners pick).count) (held : Held) (files : Files) (request : Request) where
+module _ {I : Type 0} (corners : Pick → Corners I) (numbered : (pick : Pick) → AreNumbered (corners pick)) (some : (pick : Pick) → 0 < (corners pick).count) (held : Held) (files : Files) where
   abbrev Rows : Settings → Step Refusal FileKey SdfRows → Type 0
   Rows settings step = As (λ design. design.rows) (Annotates (Some held) (corners settings.pick) files settings) step
 
-  one_rows : (settings : Settings) → HasOneAnswer (Rows settings)
+  pub one_rows : (settings : Settings) → HasOneAnswer (Rows settings)
   one_rows settings =
       one_put (λ design. design.rows) (Annotates (Some held) (corners settings.pick) files settings) (one_annotation (corners settings.pick) (numbered settings.pick) (some settings.pick) held files settings)
 
-  -- and the settings that are asked for are
-  pub one_calculation : HasOneAnswer (λ step. ReadsSettings request (λ settings. Rows settings step))
-  one_calculation one other r s d e =
-      let slew : s.slew ≡ r.slew = one_grains (value_of request.given key.InputSlew) s.slew r.slew s.slew_reads r.slew_reads in
-      let load : s.load ≡ r.load = one_port_load request.given s.load r.load s.load_reads r.load_reads in
-      let its : Rows (settings_at request r.slew r.load) other =
-      subst (λ (n : ℕ). Rows (settings_at request r.slew n) other) load (subst (λ (n : ℕ). Rows (settings_at request n s.load) other) slew s.holds) in
-      one_rows (settings_at request r.slew r.load) one other r.holds its d e
+  module _ (request : Request) where
+    -- and the settings that are asked for are
+    pub one_calculation : HasOneAnswer (λ step. ReadsSettings request (λ settings. Rows settings step))
+    one_calculation one other r s d e =
+        let slew : s.slew ≡ r.slew = one_grains (value_of request.given key.InputSlew) s.slew r.slew s.slew_reads r.slew_reads in
+        let load : s.load ≡ r.load = one_port_load request.given s.load r.load s.load_reads r.load_reads in
+        let its : Rows (settings_at request r.slew r.load) other =
+        subst (λ (n : ℕ). Rows (settings_at request r.slew n) other) load (subst (λ (n : ℕ). Rows (settings_at request n s.load) other) slew s.holds) in
+        one_rows (settings_at request r.slew r.load) one other r.holds its d e
 
 -- each corner of three has its number
 each_numbered : (pick : Pick) → AreNumbered (each_corner pick)

@@ -7,7 +7,7 @@ use Rattle.sdf_reader.proofs.OneFault.{one_fault}
 use Rattle.sdf_reader.proofs.SoFar.{one_rows}
 use Rattle.gdc_words.specs.CommandLine.{Request, value_of, pick_from, beyond_from, libraries_of}
 use Rattle.gdc_words.specs.declared.commands.Command.{Command}
-use Rattle.gdc_words.specs.declared.commands.Command.TheVariants.{Wires, Calc, Show, Lookup, Flat, Help, Version}
+use Rattle.gdc_words.specs.declared.commands.Command.TheVariants.{Wires, Calc, Show, Lookup, Flat, Trial, Help, Version}
 use Rattle.gdc_words.specs.declared.commands.Key.TheVariants as key
 use Rattle.gdc_words.specs.declared.faults.UsageFault.{UsageFault}
 use Rattle.gdc_words.proofs.Pairs.{one_request}
@@ -27,6 +27,7 @@ use Rattle.gdc_run.specs.OneVerdict.{OneVerdict}
 use Rattle.gdc_run.proofs.OneCalc.{one_calc}
 use Rattle.gdc_run.proofs.OneLookup.{one_grains, one_lookup}
 use Rattle.gdc_run.proofs.OnePut.{one_put}
+use Rattle.gdc_run.proofs.OneTrial.{one_asked_trial}
 use Rattle.gdc_run.proofs.OneWires.{one_wires}
 
 -- ---- `show`
@@ -73,6 +74,7 @@ one_command held Show request = one_put output.Listing (ShowGives (Some held) (v
 one_command held Lookup request = one_point held request
 one_command held Flat request = one_put output.Flat (FlatGives (Some held) (value_of request.given key.Netlist) (value_of request.given key.Top) (value_of request.given key.Lib))
     (one_design held 1 (value_of request.given key.Netlist) (value_of request.given key.Top) (value_of request.given key.Lib ∷ []))
+one_command held Trial request = one_asked_trial request
 one_command held Help request = one_made output.Help
 one_command held Version request = one_made output.Version
 

@@ -10,7 +10,7 @@ use Rattle.edge_io.specs.Holding.{Held}
 use Rattle.edge_io.specs.Told.{appended}
 use Rattle.gdc_words.specs.CommandLine.{Request}
 use Rattle.gdc_words.specs.declared.commands.Command.{Command}
-use Rattle.gdc_words.specs.declared.commands.Command.TheVariants.{Wires, Calc, Show, Lookup, Flat, Help, Version}
+use Rattle.gdc_words.specs.declared.commands.Command.TheVariants.{Wires, Calc, Show, Lookup, Flat, Trial, Help, Version}
 use Rattle.name_table.specs.WellSpelled.{IsWellSpelled}
 use Rattle.name_table.specs.declared.spef_names.NodeName.{NodeName}
 use Rattle.rc_tree.specs.ListedPins.{listed_pins}
@@ -134,6 +134,7 @@ module _ (halves : HalvesSettle) (named : NamedSettles) (law : ReadBack IsSettle
   calc_readable (output.Sdf rows) fits = record { says = spelled 1 (inl refl) rows fits; only = only_spelled 1 (inl refl) rows fits }
   calc_readable (output.SdfOfCorners rows) fits = record { says = spelled 3 (inr refl) rows fits; only = only_spelled 3 (inr refl) rows fits }
   calc_readable (output.Listing rows) fits = tt
+  calc_readable (output.Summary rows) fits = tt
   calc_readable (output.Arcs rows) fits = tt
   calc_readable (output.Flat design) fits = tt
   calc_readable output.Help fits = tt
@@ -146,6 +147,7 @@ module _ (halves : HalvesSettle) (named : NamedSettles) (law : ReadBack IsSettle
   command_readable held Show request made gives fits = tt
   command_readable held Lookup request made gives fits = tt
   command_readable held Flat request made gives fits = tt
+  command_readable held Trial request made gives fits = tt
   command_readable held Help request made gives fits = tt
   command_readable held Version request made gives fits = tt
 

@@ -1,22 +1,26 @@
 -- The work of a run.
 use Rattle.std.proofs.Common.{◌≡◌, ℕ, ◌+◌, ◌*◌, ◌≤◌, List, length, Ok, refl, sym, subst, arith}
-use Rattle.std.specs.Prelude.{Option}
+use Rattle.std.specs.Prelude.{Option, Some}
 use Rattle.corner_set.specs.declared.pick.Pick.{Pick}
 use Rattle.edge_io.specs.Holding.{Held}
 use Rattle.verdict_phases.specs.Phases.{Go}
 use Rattle.gdc_words.specs.declared.commands.Command.{Command}
-use Rattle.gdc_words.specs.declared.commands.Command.TheVariants.{Wires, Calc, Show, Lookup, Flat, Help, Version}
+use Rattle.gdc_words.specs.declared.commands.Command.TheVariants.{Wires, Calc, Show, Lookup, Flat, Trial, Help, Version}
 use Rattle.gdc_words.specs.declared.commands.Libraries.{Libraries}
 use Rattle.gdc_words.specs.declared.commands.Libraries.TheVariants.{One, EachCorner}
-use Rattle.gdc_words.specs.CommandLine.{Request, Asks, libraries_of}
+use Rattle.gdc_words.specs.declared.commands.Key.TheVariants as key
+use Rattle.gdc_words.specs.declared.commands.Shape.{Shape}
+use Rattle.gdc_words.specs.Sizes.{IsSize}
+use Rattle.gdc_words.specs.CommandLine.{Request, Asks, libraries_of, shape_of, value_of}
 use Rattle.liberty_groups.specs.Groups.{Group}
 use Rattle.cell_models.specs.Cells.{TimedCell}
 use Rattle.gdc_run.specs.Calculation.{no_settings}
 use Rattle.gdc_run.specs.ArcRows.{arc_edges}
 use Rattle.delay_core.specs.LibraryPhases.{ParsesLibrary, ModelsCell}
+use Rattle.gdc_run.specs.Trial.{TrialWork}
 use Rattle.gdc_run.specs.Verdict.{ReadsSpef, ReadsLib}
 use Rattle.delay_core.specs.SpefWork.{TextWork, IsWithin}
-use Rattle.gdc_run.specs.Work.{WiresWork, no_file, of_file, CellWork, no_model_yet, of_model, LookupWork, no_library, of_library, OutputWork, CommandWork, WordsWork, no_words, of_words}
+use Rattle.gdc_run.specs.Work.{WiresWork, no_file, of_file, CellWork, no_model_yet, of_model, LookupWork, no_library, of_library, OutputWork, not_made, of_made, CommandWork, WordsWork, no_words, of_words}
 
 pub no_file_work : (held : Option Held) (pick : Pick) (name : List ℕ) (steps : ℕ) → IsWithin (WiresWork held pick name) steps steps
 no_file_work held pick name steps = record { work = 0; given = no_file; bound = omega arith }
@@ -51,6 +55,7 @@ no_command_work held Calc request = no_output_work held request (libraries_of re
 no_command_work held Show request = refl
 no_command_work held Lookup request = no_library
 no_command_work held Flat request = refl
+no_command_work held Trial request = not_made
 no_command_work held Help request = refl
 no_command_work held Version request = refl
 
@@ -61,6 +66,16 @@ no_work_of_command held command request steps = record { work = 0; given = no_co
 pub calc_within : (held : Option Held) (command : Command) (request : Request) (before after : ℕ) → command ≡ Calc → IsWithin (OutputWork held request (libraries_of request.given)) before after
     → IsWithin (CommandWork held command request) before after
 calc_within held command request before after is within = subst (λ (own : Command). IsWithin (CommandWork held own request) before after) (sym is) within
+
+-- and `trial` that of its files
+pub trial_within : (held : Option Held) (command : Command) (request : Request) (shape : Shape) (size before after : ℕ) → command ≡ Trial → Some shape ≡ shape_of (value_of request.given key.Shape)
+    → IsSize (value_of request.given key.Size) size → IsWithin (TrialWork shape size) before after → IsWithin (CommandWork held command request) before after
+trial_within held command request shape size before after is shape_reads size_reads within =
+    subst (λ (own : Command). IsWithin (CommandWork held own request) before after) (sym is) (record {
+      work = within.work;
+      given = of_made (record { shape = shape; size = size; shape_reads = shape_reads; size_reads = size_reads; holds = within.given });
+      bound = within.bound;
+    })
 
 pub no_words_work : (words : List (List ℕ)) (held : Option Held) (steps : ℕ) → IsWithin (WordsWork words held) steps steps
 no_words_work words held steps = record { work = 0; given = no_words; bound = omega arith }

@@ -13,5 +13,6 @@ pub mod Putting
 pub mod ReadBack
 pub mod Saying
 pub mod Statuses
+pub mod Trial
 pub mod Verdict
 pub mod Work

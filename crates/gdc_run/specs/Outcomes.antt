@@ -4,7 +4,7 @@ use Rattle.edge_io.specs.Counts.{Rose, RoseBy}
 use Rattle.edge_io.specs.Holding.{Held, TellsMissing}
 use Rattle.verdict_phases.specs.Phases.{Reads, Go, Halt}
 use Rattle.gdc_words.specs.declared.commands.Command.{Command}
-use Rattle.gdc_words.specs.declared.commands.Command.TheVariants.{Wires, Calc, Show, Lookup, Flat}
+use Rattle.gdc_words.specs.declared.commands.Command.TheVariants.{Wires, Calc, Show, Lookup, Flat, Trial}
 use Rattle.gdc_words.specs.declared.commands.Key.TheVariants as key
 use Rattle.gdc_words.specs.declared.commands.Libraries.{Libraries}
 use Rattle.gdc_words.specs.declared.commands.Libraries.TheVariants.{One, EachCorner}
@@ -113,6 +113,10 @@ pub record HasReadFault (words : List (List ℕ)) (held : Option Held) (key : Fi
   pub asked : Asks words (Ok request)
   pub reached : CommandGives held request.command request (Halt (Reads key))
   pub fault : HasCause held request faults faults' opens opens' key
+
+-- the words ask for `trial`
+abbrev pub AskForTrial : List (List ℕ) → Type 0
+AskForTrial words = (request : Request) × Asks words (Ok request) × (request.command ≡ Trial)
 
 -- where the words have a first fault, the run answers it, unless memory runs out
 abbrev pub AnswersUsage : List (List ℕ) → Outcome → Type 0

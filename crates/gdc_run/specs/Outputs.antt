@@ -6,7 +6,7 @@ use Rattle.sdf_reader.specs.declared.rows.SdfRow.{SdfRow}
 use Rattle.sdf_reader.specs.Lines.{rows_text, summary_line}
 use Rattle.gdc_words.specs.HelpText.{help_text, version_text}
 use Rattle.gdc_run.specs.declared.output.Output.{Output}
-use Rattle.gdc_run.specs.declared.output.Output.TheVariants.{Sdf, SdfOfCorners, Listing, Arcs, Flat, Help, Version}
+use Rattle.gdc_run.specs.declared.output.Output.TheVariants.{Sdf, SdfOfCorners, Listing, Summary, Arcs, Flat, Help, Version}
 use Rattle.gdc_run.specs.declared.arc_rows.ArcRow.{ArcRow}
 use Rattle.gdc_run.specs.FlatText.{flat_text}
 use Rattle.delay_core.specs.RefusalLine.{edge_text}
@@ -36,6 +36,7 @@ abbrev pub output_text : Output → List ℕ
 output_text (Sdf rows) = sdf_text rows
 output_text (SdfOfCorners rows) = sdf_text rows
 output_text (Listing rows) = listing_text rows
+output_text (Summary rows) = summary_line rows
 output_text (Arcs rows) = arcs_text rows
 output_text (Flat design) = flat_text design
 output_text Help = help_text

@@ -11,7 +11,7 @@ use Rattle.sdf_reader.specs.declared.rows.SdfRow.{SdfRow}
 use Rattle.verdict_phases.specs.Phases.{Stop, RefusedBy, Step, Go, Halt}
 use Rattle.verdict_phases.specs.FileReading.{ReadsFile}
 use Rattle.gdc_words.specs.declared.commands.Command.{Command}
-use Rattle.gdc_words.specs.declared.commands.Command.TheVariants.{Wires, Calc, Show, Lookup, Flat, Help, Version}
+use Rattle.gdc_words.specs.declared.commands.Command.TheVariants.{Wires, Calc, Show, Lookup, Flat, Trial, Help, Version}
 use Rattle.gdc_words.specs.declared.commands.Key.TheVariants as key
 use Rattle.gdc_words.specs.declared.commands.Libraries.{Libraries}
 use Rattle.gdc_words.specs.declared.commands.Libraries.TheVariants.{One, EachCorner}
@@ -33,6 +33,7 @@ use Rattle.cell_models.specs.Cells.{TimedCell}
 use Rattle.gdc_run.specs.ArcRows.{CellGives}
 use Rattle.gdc_run.specs.Calculation.{each_corner, files_with, CalcGives}
 use Rattle.gdc_run.specs.Putting.{As}
+use Rattle.gdc_run.specs.Trial.{TrialGives, ReadsTrial}
 use Rattle.delay_core.specs.LibraryPhases.{ParsesLibrary, ModelsCell}
 use Rattle.gdc_run.specs.declared.arc_rows.ArcRow.{ArcRow}
 use Rattle.delay_core.specs.WireNets.{RowsOf}
@@ -122,6 +123,7 @@ CommandGives held Lookup request step = ReadsPoint request
     (beyond_from request.given)) step)
 CommandGives held Flat request step = As output.Flat
     (FlatGives held (value_of request.given key.Netlist) (value_of request.given key.Top) (value_of request.given key.Lib)) step
+CommandGives held Trial request step = ReadsTrial request (λ shape size. As output.Summary (TrialGives shape size) step)
 CommandGives held Help request step = step ≡ Go output.Help
 CommandGives held Version request step = step ≡ Go output.Version
 

@@ -3,23 +3,21 @@ use Rattle.std.specs.Prelude.{◌≡◌, ℕ, ◌*◌, IsTrue, List, length, Opt
 use Rattle.edge_io.specs.Holding.{Held}
 use Rattle.corner_set.specs.declared.pick.Pick.{Pick}
 use Rattle.verdict_phases.specs.Phases.{Go}
-use Rattle.verdict_phases.specs.declared.ends.PhaseEnd.{PhaseEnd}
 use Rattle.verdict_phases.specs.declared.ends.PhaseEnd.TheVariants as phase
 use Rattle.gdc_words.specs.declared.commands.Command.{Command}
-use Rattle.gdc_words.specs.declared.commands.Command.TheVariants.{Wires, Calc, Show, Lookup, Flat, Help, Version}
+use Rattle.gdc_words.specs.declared.commands.Command.TheVariants.{Wires, Calc, Show, Lookup, Flat, Trial, Help, Version}
 use Rattle.gdc_words.specs.declared.commands.Key.TheVariants as key
 use Rattle.gdc_words.specs.declared.commands.Libraries.{Libraries}
 use Rattle.gdc_words.specs.declared.commands.Libraries.TheVariants.{One, EachCorner}
 use Rattle.gdc_words.specs.CommandLine.{Request, Asks, libraries_of, value_of, pick_from}
 use Rattle.delay_core.specs.SpefPhases.{sole_corner}
-use Rattle.delay_core.specs.declared.refusal.FileKey.{FileKey}
-use Rattle.delay_core.specs.declared.refusal.Refusal.{Refusal}
 use Rattle.gdc_run.specs.declared.outcome.Outcome.{Outcome}
 use Rattle.gdc_run.specs.declared.outcome.Outcome.TheVariants as outcome
 use Rattle.gdc_run.specs.declared.top.End.{End}
 use Rattle.gdc_run.specs.declared.top.End.TheVariants as end
 use Rattle.delay_core.specs.SpefWork.{TextWork, is_early}
 use Rattle.gdc_run.specs.Calculation.{each_corner, files_with, CalcWork}
+use Rattle.gdc_run.specs.Trial.{TrialWork, ReadsTrial}
 use Rattle.gdc_run.specs.Verdict.{ReadsSpef, ReadsLib}
 use Rattle.liberty_groups.specs.Groups.{Group}
 use Rattle.cell_models.specs.Cells.{TimedCell}
@@ -47,13 +45,19 @@ abbrev pub OutputWork : Option Held → Request → Libraries → ℕ → Type 0
 OutputWork held request One work = CalcWork sole_corner held (files_with request One) request work
 OutputWork held request EachCorner work = CalcWork each_corner held (files_with request EachCorner) request work
 
--- the work of a command: `wires`, `calc` and `lookup` take steps, and no other
+-- the work of `trial`: none before its files are made, and then theirs
+pub data MadeWork (request : Request) : ℕ → Type 0 where
+  not_made : MadeWork request 0
+  of_made : {work : ℕ} → ReadsTrial request (λ shape size. TrialWork shape size work) → MadeWork request work
+
+-- the work of a command: `wires`, `calc`, `lookup` and `trial` take steps, and no other
 abbrev pub CommandWork : Option Held → Command → Request → ℕ → Type 0
 CommandWork held Wires request work = WiresWork held (pick_from request.given) (value_of request.given key.Spef) work
 CommandWork held Calc request work = OutputWork held request (libraries_of request.given) work
 CommandWork held Show request work = work ≡ 0
 CommandWork held Lookup request work = LookupWork held (value_of request.given key.Lib) (value_of request.given key.Cell) work
 CommandWork held Flat request work = work ≡ 0
+CommandWork held Trial request work = MadeWork request work
 CommandWork held Help request work = work ≡ 0
 CommandWork held Version request work = work ≡ 0
 

@@ -15,9 +15,10 @@ ghost use Rattle.gdc_run.specs.ReadBack.{IsFitFor};
 ghost use Rattle.gdc_run.specs.Verdict.{CalcOutput};
 ghost use Rattle.gdc_run.specs.Work.{OutputWork};
 
+use crate::design::design_rows;
 use crate::output::Output;
 use corner_set::{CornerSet, Single, Triple};
-use delay_annotation::{Files, Settings, annotate};
+use delay_annotation::{Files, Settings};
 use delay_core::{FileKey, Refusal};
 use delay_units::{Atto, Farads};
 use edge_io::{OutOfMemory, Shelf, Steps, Text, TextList};
@@ -97,7 +98,7 @@ fn settings_of(alloc: Global, asked: &Asked) -> Result<Settings, OutOfMemory>
 }
 
 /// The rows of a design with its delays at the corners of its libraries: of the module, the files and the settings that are asked for.
-#[tactic(auto, using(crate::proofs::CalcFiles::calc_rows, crate::proofs::CalcFiles::calc_halts, crate::proofs::CalcFiles::calc_cause, crate::proofs::CalcFiles::calc_work, crate::proofs::CalcFiles::no_calc_work, crate::proofs::CalcRows::calc_fit))]
+#[tactic(auto, using(crate::proofs::CalcFiles::no_calc_work))]
 fn calc_rows<C: CornerSet, H: Shelf, L: Ledger>(
     alloc: Global,
     shelf: &mut H,
@@ -118,9 +119,7 @@ fn calc_rows<C: CornerSet, H: Shelf, L: Ledger>(
 {
     let files = files_of(alloc, asked)?;
     let settings = settings_of(alloc, asked)?;
-    let annotated = annotate::<C, H, L>(alloc, shelf, &files, &settings, steps)?;
-    annotated.agrees();
-    Ok(annotated.rows)
+    design_rows::<C, H, L>(alloc, shelf, &files, &settings, steps)
 }
 
 /// What a calculation has to write: rows of its one corner, or of each of its three.

@@ -1,10 +1,12 @@
 //! What gdc does between its words and its exit status: delays of wires, from SPEF to SDF; delays of the wires and the cells of a
-//! design; delays of a cell of a Liberty library; the flat netlist of a design; and the rows of SDF files. `run` is the one call that the program makes. The theorem of the program is
-//! its contract. Files and streams are traits here, so that a run can be tried in memory.
+//! design; delays of a cell of a Liberty library; the flat netlist of a design; the rows of SDF files; and the summary of the delays of a
+//! design that is made by its size. `run` is the one call that the program makes. The theorem of the program is its contract. Files and
+//! streams are traits here, so that a run can be tried in memory.
 #![tactic(auto)]
 
 mod arc_rows;
 mod calc;
+mod design;
 mod flat;
 mod flat_lines;
 mod flat_text;
@@ -15,7 +17,10 @@ mod outcome;
 mod output;
 mod performing;
 mod show;
+mod text_sink;
 mod top;
+mod trial;
+mod trial_shelf;
 mod wires;
 
 pub use laws::one_verdict;

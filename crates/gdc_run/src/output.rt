@@ -24,6 +24,8 @@ pub enum Output {
     SdfOfCorners(Rows<Triple>),
     /// A line for each of these rows, and then their summary.
     Listing(SdfRows),
+    /// The summary of these rows.
+    Summary(SdfRows),
     /// A line for each of these rows of arcs.
     Arcs(ArcRows),
     /// A line for each instance and each net of this design.
@@ -95,6 +97,7 @@ pub fn write_output<O: Sink>(output: &Output, out: &mut O) -> Result<(), Failed>
         Output::Sdf(rows) => write(rows, out),
         Output::SdfOfCorners(rows) => write(rows, out),
         Output::Listing(rows) => write_listing(rows, out),
+        Output::Summary(rows) => print_summary(rows, out),
         Output::Arcs(rows) => write_arcs(rows, out),
         Output::Flat(design) => write_flat(design, out),
         Output::Help => write_all(out, help_text()),

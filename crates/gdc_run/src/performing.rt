@@ -2,6 +2,7 @@
 ghost use Rattle.std.specs.Prelude.{◌≡◌, IfOk};
 ghost use Rattle.verdict_phases.specs.Phases.{Follows};
 ghost use Rattle.delay_core.specs.Refused.{AtReadFault};
+ghost use Rattle.gdc_words.specs.declared.commands.Command.TheVariants.{Trial};
 ghost use Rattle.gdc_run.specs.Outcomes.{HasCause};
 ghost use Rattle.gdc_run.specs.ReadBack.{IsFitFor};
 ghost use Rattle.gdc_run.specs.Verdict.{CommandGives};
@@ -14,6 +15,7 @@ use crate::flat::flat;
 use crate::lookup::lookup;
 use crate::output::Output;
 use crate::show::show;
+use crate::trial::trial;
 use crate::wires::wires;
 use delay_core::{FileKey, Refusal};
 use edge_io::{Shelf, Steps};
@@ -36,6 +38,7 @@ pub fn perform<H: Shelf, L: Ledger>(
         (HasCause (H.held shelf.old) asked.now (H.faults shelf.old) (H.faults shelf.new) (H.opens shelf.old) (H.opens shelf.new)) }
     ensures steps { IsWithin (CommandWork (H.held shelf.old) asked.now.command asked.now) steps.old steps.new }
     ensures no_steps { OnEarly result (steps.new ≡ steps.old) }
+    ensures untouched { asked.now.command ≡ Trial → shelf.new ≡ shelf.old }
 {
     match asked.command() {
         Command::Wires => {
@@ -72,6 +75,10 @@ pub fn perform<H: Shelf, L: Ledger>(
                 asked.needed(Key::Lib),
             )?;
             Ok(Output::Flat(design))
+        }
+        Command::Trial => {
+            let rows = trial(alloc, asked.shape(), asked.size(), steps)?;
+            Ok(Output::Summary(rows))
         }
         Command::Help => Ok(Output::Help),
         Command::Version => Ok(Output::Version),

@@ -4,7 +4,7 @@ ghost use Rattle.edge_io.specs.Counts.{Rose};
 ghost use Rattle.edge_io.specs.Told.{appended, AppendsFrontOf};
 ghost use Rattle.gdc_words.specs.CommandLine.{Asks};
 ghost use Rattle.gdc_run.specs.Verdict.{Gives, Answers};
-ghost use Rattle.gdc_run.specs.Outcomes.{OnDone, IfRefused, IfUsage, IfReadFault, OnWriteFault, UnlessWritten, GivesText, GivesFit, GivesReadable, HasReadFault, AnswersUsage};
+ghost use Rattle.gdc_run.specs.Outcomes.{OnDone, IfRefused, IfUsage, IfReadFault, OnWriteFault, UnlessWritten, GivesText, GivesFit, GivesReadable, HasReadFault, AskForTrial, AnswersUsage};
 ghost use Rattle.gdc_run.specs.OneVerdict.{OneVerdict};
 ghost use Rattle.gdc_run.specs.Saying.{AskForCorners, Says};
 ghost use Rattle.gdc_run.specs.Completeness.{IsComplete};
@@ -75,6 +75,7 @@ fn decide<H: Shelf, L: Ledger>(
     ensures corners { IfRefusedEnd result (AskForCorners words.now corners.new) }
     ensures steps { IsWithin (WordsWork words.now (H.held shelf.old)) steps.old steps.new }
     ensures no_steps { OnEarlyEnd result (steps.new ≡ steps.old) }
+    ensures untouched { AskForTrial words.now → shelf.new ≡ shelf.old }
 {
     let asked = read_words(alloc, words)?;
     *corners = corner_count(asked.libraries());
@@ -105,6 +106,7 @@ fn answer<H: Shelf, O: Sink, L: Ledger>(
     ensures corners { IfRefused result (λ _. AskForCorners words.now corners.new) }
     ensures steps { IsWithin (WordsWork words.now (H.held shelf.old)) steps.old steps.new }
     ensures no_steps { BeforeTrees result (steps.new ≡ steps.old) }
+    ensures untouched_shelf { AskForTrial words.now → shelf.new ≡ shelf.old }
 {
     match decide(alloc, words, shelf, corners, steps) {
         Err(End::Usage(fault)) => Outcome::Usage(fault),
@@ -149,6 +151,10 @@ pub fn run<H: Shelf, O: Sink, E: Sink, L: Ledger>(
     ensures read_fault { IfReadFault result (λ key. HasReadFault words.now (H.held shelf.old) key
         (H.faults shelf.old) (H.faults shelf.new) (H.opens shelf.old) (H.opens shelf.new)) }
 
+    // `trial` uses no shelf, and no read fault comes of it.
+    ensures untouched_shelf { AskForTrial words.now → shelf.new ≡ shelf.old }
+    ensures no_read_fault { IfReadFault result (λ _. AskForTrial words.now → ⊥) }
+
     // Where the text could not be written whole, a front of it was, and the count of `out` rose.
     ensures write_fault { OnWriteFault result (Rose (O.faults out.old) (O.faults out.new)
         × GivesText words.now (H.held shelf.old)
@@ -167,8 +173,8 @@ pub fn run<H: Shelf, O: Sink, E: Sink, L: Ledger>(
     // The answer's line stands behind what `err` held, with as many corners as the words ask for.
     ensures said { Says words.now result (E.written err.old) (E.written err.new) (E.faults err.old) (E.faults err.new) }
 
-    // No more steps than 16 for each resistor, capacitance to ground and connection of the nets, and for `calc` 160 for each edge of an
-    // arc beside them; and none before all sections are read without a fault, or before the model of a cell is made.
+    // No more steps than 16 for each resistor, capacitance to ground and connection of the nets, and for `calc` and `trial` 160 for each
+    // edge of an arc beside them; and none before all sections are read without a fault, or before the model of a cell is made.
     ensures steps { IsWithin (WordsWork words.now (H.held shelf.old)) steps.old steps.new }
     ensures no_steps { BeforeTrees result (steps.new ≡ steps.old) }
 {

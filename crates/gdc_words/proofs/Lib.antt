@@ -1,4 +1,5 @@
 pub mod Grains
 pub mod NeededKeys
 pub mod Pairs
+pub mod SizeDigits
 pub mod WordPairs

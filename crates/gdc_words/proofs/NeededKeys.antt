@@ -4,7 +4,7 @@ use Rattle.std.specs.List.{find, list_any}
 use Rattle.std.proofs.lemmas.Slice.Eq.{bytes_eq-Decides}
 use Rattle.gdc_words.specs.declared.commands.Command.{Command}
 use Rattle.gdc_words.specs.declared.commands.Key.{Key}
-use Rattle.gdc_words.specs.declared.commands.Key.TheVariants.{Spef, Triple, Sdf, Netlist, Top, Lib, LibMin, LibTyp, LibMax, Cell, Slew, Load, InputSlew, PortLoad, Missing, WireSlew, Outside}
+use Rattle.gdc_words.specs.declared.commands.Key.TheVariants.{Spef, Triple, Sdf, Netlist, Top, Lib, LibMin, LibTyp, LibMax, Cell, Slew, Load, InputSlew, PortLoad, Missing, WireSlew, Outside, Shape, Size}
 use Rattle.gdc_words.specs.declared.asked.Given.{Given}
 use Rattle.gdc_words.specs.CommandLine.{first_missing, needs_key, needed_keys, libraries_of, is_given, same_key, key_word, key_of}
 
@@ -35,6 +35,8 @@ word_names PortLoad = refl
 word_names Missing = refl
 word_names WireSlew = refl
 word_names Outside = refl
+word_names Shape = refl
+word_names Size = refl
 
 some_is : {X : Type 0} (a b : X) → Some a ≡ Some b → a ≡ b
 some_is a b e = cc

@@ -6,7 +6,7 @@ use Rattle.std.specs.List.{find, AllByRecursion}
 use Rattle.std.proofs.lemmas.List.Elements.{All-from_recursion, All-push, recursion_from_All}
 use Rattle.gdc_words.specs.declared.commands.Command.{Command}
 use Rattle.gdc_words.specs.declared.commands.Key.{Key}
-use Rattle.gdc_words.specs.declared.commands.Key.TheVariants.{Slew, Load, Spef, Triple, Sdf, Netlist, Top, Lib, LibMin, LibTyp, LibMax, Cell, InputSlew, PortLoad, Missing, WireSlew, Outside}
+use Rattle.gdc_words.specs.declared.commands.Key.TheVariants.{Slew, Load, Spef, Triple, Sdf, Netlist, Top, Lib, LibMin, LibTyp, LibMax, Cell, InputSlew, PortLoad, Missing, WireSlew, Outside, Shape, Size}
 use Rattle.gdc_words.specs.declared.asked.Given.{Given}
 use Rattle.gdc_words.specs.declared.faults.UsageFault.{UsageFault}
 use Rattle.gdc_words.specs.declared.faults.WordsEnd.{WordsEnd}
@@ -75,6 +75,8 @@ decimal_reads Cell value decimal is = cc
 decimal_reads Missing value decimal is = cc
 decimal_reads WireSlew value decimal is = cc
 decimal_reads Outside value decimal is = cc
+decimal_reads Shape value decimal is = cc
+decimal_reads Size value decimal is = cc
 
 -- pairs are read in one way
 one_key : (a b : Result Key UsageFault) (key other : Key) → a ≡ Ok key → a ≡ Ok other → key ≡ other

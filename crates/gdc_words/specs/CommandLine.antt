@@ -3,11 +3,11 @@ use Rattle.std.specs.Prelude.{◌≡◌, ℕ, ◌+◌, Bool, true, false, not, �
 use Rattle.std.specs.List.{find, list_any}
 use Rattle.std.specs.Str.{bytes_eq}
 use Rattle.gdc_words.specs.declared.commands.Command.{Command}
-use Rattle.gdc_words.specs.declared.commands.Command.TheVariants.{Wires, Calc, Show, Lookup, Flat, Help, Version}
+use Rattle.gdc_words.specs.declared.commands.Command.TheVariants.{Wires, Calc, Show, Lookup, Flat, Trial, Help, Version}
 use Rattle.gdc_words.specs.declared.commands.Key.{Key}
 use Rattle.corner_set.specs.declared.pick.Pick.{Pick}
 use Rattle.corner_set.specs.declared.pick.Pick.TheVariants.{Min, Typ, Max}
-use Rattle.gdc_words.specs.declared.commands.Key.TheVariants.{Spef, Triple, Sdf, Netlist, Top, Lib, LibMin, LibTyp, LibMax, Cell, Slew, Load, InputSlew, PortLoad, Missing, WireSlew, Outside}
+use Rattle.gdc_words.specs.declared.commands.Key.TheVariants.{Spef, Triple, Sdf, Netlist, Top, Lib, LibMin, LibTyp, LibMax, Cell, Slew, Load, InputSlew, PortLoad, Missing, WireSlew, Outside, Shape, Size}
 use Rattle.gdc_words.specs.declared.commands.Libraries.{Libraries}
 use Rattle.gdc_words.specs.declared.commands.Libraries.TheVariants.{One, EachCorner}
 use Rattle.nldm_lookup.specs.declared.beyond.Beyond.{Beyond}
@@ -16,11 +16,14 @@ use Rattle.net_parasitics.specs.declared.ends.Missing.{Missing as MissingNets}
 use Rattle.net_parasitics.specs.declared.ends.Missing.TheVariants as nets
 use Rattle.wire_slews.specs.declared.slews.WireSlew.{WireSlew as WireMode}
 use Rattle.wire_slews.specs.declared.slews.WireSlew.TheVariants as wire
+use Rattle.gdc_words.specs.declared.commands.Shape.{Shape as TrialShape}
+use Rattle.gdc_words.specs.declared.commands.Shape.TheVariants.{Chain, Block}
 use Rattle.gdc_words.specs.declared.asked.Given.{Given}
 use Rattle.gdc_words.specs.declared.faults.UsageKind.{UsageKind}
 use Rattle.gdc_words.specs.declared.faults.UsageKind.TheVariants.{NoCommand, UnknownCommand, UnknownWord, Repeated, MissingValue, BadValue, Mixed, MissingKey}
 use Rattle.gdc_words.specs.declared.faults.UsageFault.{UsageFault}
 use Rattle.gdc_words.specs.Decimals.{IsGrains}
+use Rattle.gdc_words.specs.Sizes.{IsSize}
 
 -- what the words ask for: the command, and the keys that stand, each with its value, in the order of the words
 pub record Request : Type 0 where
@@ -35,6 +38,7 @@ command_of word =
     else if bytes_eq word (codes "show") then Some Show
     else if bytes_eq word (codes "lookup") then Some Lookup
     else if bytes_eq word (codes "flat") then Some Flat
+    else if bytes_eq word (codes "trial") then Some Trial
     else if bytes_eq word (codes "--help") then Some Help
     else if bytes_eq word (codes "--version") then Some Version
     else None
@@ -58,12 +62,14 @@ key_word PortLoad = codes "--port-load"
 key_word Missing = codes "--missing"
 key_word WireSlew = codes "--wire-slew"
 key_word Outside = codes "--outside"
+key_word Shape = codes "--shape"
+key_word Size = codes "--size"
 
 -- all keys
 abbrev pub keys : List Key
 keys =
     Spef ∷ Triple ∷ Sdf ∷ Netlist ∷ Top ∷ Lib ∷ LibMin ∷ LibTyp ∷ LibMax ∷ Cell ∷ Slew ∷ Load
-    ∷ InputSlew ∷ PortLoad ∷ Missing ∷ WireSlew ∷ Outside ∷ []
+    ∷ InputSlew ∷ PortLoad ∷ Missing ∷ WireSlew ∷ Outside ∷ Shape ∷ Size ∷ []
 
 -- the key that a word names
 abbrev pub key_of : List ℕ → Option Key
@@ -86,6 +92,7 @@ needed_keys Calc libraries = Netlist ∷ Top ∷ Spef ∷ InputSlew ∷ library_
 needed_keys Show libraries = Sdf ∷ []
 needed_keys Lookup libraries = Lib ∷ Cell ∷ Slew ∷ Load ∷ []
 needed_keys Flat libraries = Netlist ∷ Top ∷ Lib ∷ []
+needed_keys Trial libraries = Shape ∷ Size ∷ []
 needed_keys Help libraries = []
 needed_keys Version libraries = []
 
@@ -97,6 +104,7 @@ further_keys Calc EachCorner = PortLoad ∷ Missing ∷ WireSlew ∷ Outside ∷
 further_keys Show libraries = []
 further_keys Lookup libraries = Outside ∷ []
 further_keys Flat libraries = []
+further_keys Trial libraries = []
 further_keys Help libraries = []
 further_keys Version libraries = []
 
@@ -138,6 +146,13 @@ beyond_of word =
     else if bytes_eq word (codes "extend") then Some Extend
     else None
 
+-- the shape that a word names
+abbrev pub shape_of : List ℕ → Option TrialShape
+shape_of word =
+    if bytes_eq word (codes "chain") then Some Chain
+    else if bytes_eq word (codes "block") then Some Block
+    else None
+
 abbrev pub is_filled : List ℕ → Bool
 is_filled [] = false
 is_filled (b ∷ bytes) = true
@@ -151,7 +166,8 @@ is_decimal PortLoad = true
 is_decimal _ = false
 
 -- A value has the form that its key wants: the name of a file, of a module or of a cell is a text that is not empty, a member of a triple,
--- what a net without a section is, what a wire does to a slew and what is done past an axis have their words, and a decimal reads as grains.
+-- what a net without a section is, what a wire does to a slew, what is done past an axis and a shape have their words, a decimal reads as
+-- grains, and a size is digits.
 abbrev pub IsValue : Key → List ℕ → Type 0
 IsValue Spef value = IsTrue (is_filled value)
 IsValue Triple value = IsTrue (is_some (pick_of value))
@@ -170,6 +186,8 @@ IsValue PortLoad value = (grains : ℕ) × IsGrains value grains
 IsValue Missing value = IsTrue (is_some (missing_of value))
 IsValue WireSlew value = IsTrue (is_some (wire_slew_of value))
 IsValue Outside value = IsTrue (is_some (beyond_of value))
+IsValue Shape value = IsTrue (is_some (shape_of value))
+IsValue Size value = (size : ℕ) × IsSize value size
 
 -- a key stands among these
 abbrev pub is_given : List Given → Key → Bool

@@ -3,16 +3,16 @@
 use Rattle.std.specs.Prelude.{ℕ, List, [], ◌∷◌, ◌++◌, codes}
 use Rattle.std.specs.List.{flat_map}
 use Rattle.gdc_words.specs.declared.commands.Command.{Command}
-use Rattle.gdc_words.specs.declared.commands.Command.TheVariants.{Wires, Calc, Show, Lookup, Flat, Help, Version}
+use Rattle.gdc_words.specs.declared.commands.Command.TheVariants.{Wires, Calc, Show, Lookup, Flat, Trial, Help, Version}
 use Rattle.gdc_words.specs.declared.commands.Key.{Key}
-use Rattle.gdc_words.specs.declared.commands.Key.TheVariants.{Spef, Triple, Sdf, Netlist, Top, Lib, LibMin, LibTyp, LibMax, Cell, Slew, Load, InputSlew, PortLoad, Missing, WireSlew, Outside}
+use Rattle.gdc_words.specs.declared.commands.Key.TheVariants.{Spef, Triple, Sdf, Netlist, Top, Lib, LibMin, LibTyp, LibMax, Cell, Slew, Load, InputSlew, PortLoad, Missing, WireSlew, Outside, Shape, Size}
 use Rattle.gdc_words.specs.declared.commands.Libraries.{Libraries}
 use Rattle.gdc_words.specs.declared.commands.Libraries.TheVariants.{One, EachCorner}
 use Rattle.gdc_words.specs.CommandLine.{key_word, needed_keys, further_keys}
 
 -- the commands, in the order in which they are told
 abbrev pub commands : List Command
-commands = Wires ∷ Calc ∷ Show ∷ Lookup ∷ Flat ∷ Help ∷ Version ∷ []
+commands = Wires ∷ Calc ∷ Show ∷ Lookup ∷ Flat ∷ Trial ∷ Help ∷ Version ∷ []
 
 -- the word of a command
 abbrev pub command_word : Command → List ℕ
@@ -21,6 +21,7 @@ command_word Calc = codes "calc"
 command_word Show = codes "show"
 command_word Lookup = codes "lookup"
 command_word Flat = codes "flat"
+command_word Trial = codes "trial"
 command_word Help = codes "--help"
 command_word Version = codes "--version"
 
@@ -43,6 +44,8 @@ value_word PortLoad = codes "FEMTOFARADS"
 value_word Missing = codes "refuse|zero"
 value_word WireSlew = codes "none|rss"
 value_word Outside = codes "refuse|edge|extend"
+value_word Shape = codes "chain|block"
+value_word Size = codes "N"
 
 -- what a command does
 abbrev pub purpose : Command → List ℕ
@@ -51,6 +54,7 @@ purpose Calc = codes "writes the delays of the wires and of the cells of a desig
 purpose Show = codes "prints the rows of an SDF file, and their summary"
 purpose Lookup = codes "prints the delay and the transition of each arc of a cell of a Liberty library, at one slew and one load"
 purpose Flat = codes "prints the instances and the nets of a design, with what drives them"
+purpose Trial = codes "calculates a design of such a shape and size, which needs no file, and prints the summary of its delays"
 purpose Help = codes "prints this text"
 purpose Version = codes "prints the version"
 
@@ -78,6 +82,7 @@ keys_lines Wires = keys_line Wires One
 keys_lines Show = keys_line Show One
 keys_lines Lookup = keys_line Lookup One
 keys_lines Flat = keys_line Flat One
+keys_lines Trial = keys_line Trial One
 keys_lines Help = keys_line Help One
 keys_lines Version = keys_line Version One
 

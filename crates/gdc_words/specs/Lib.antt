@@ -1,4 +1,5 @@
 pub mod CommandLine
 pub mod Decimals
 pub mod HelpText
+pub mod Sizes
 pub mod WordsEnds

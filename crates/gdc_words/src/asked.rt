@@ -1,12 +1,17 @@
 //! What the words ask for.
-ghost use Rattle.std.specs.Prelude.{◌≡◌, IsTrue, IfSome, IfNone, option_copied, option_map};
+ghost use Rattle.std.specs.Prelude.{◌≡◌, IsTrue, Some, IfSome, IfNone, option_copied, option_map};
 ghost use Rattle.std.specs.List.{find};
-ghost use Rattle.gdc_words.specs.CommandLine.{same_key, needs_key, is_given, corner_key, library_keys, libraries_of, mixed_key, first_missing, value_of, value_at, pair_at, is_decimal, IsValue, HasGrains, HasNoGrains, IsPortLoad, pick_from, missing_from, wire_slew_from, beyond_from};
+ghost use Rattle.gdc_words.specs.CommandLine.{same_key, needs_key, is_given, corner_key, library_keys, libraries_of, mixed_key, first_missing, value_of, value_at, pair_at, is_decimal, IsValue, HasGrains, HasNoGrains, IsPortLoad, pick_from, missing_from, wire_slew_from, beyond_from, shape_of};
+ghost use Rattle.gdc_words.specs.declared.commands.Key.TheVariants as keys;
 ghost use Rattle.gdc_words.specs.declared.commands.Libraries.TheVariants.{EachCorner};
 ghost use Rattle.gdc_words.specs.Decimals.{IsGrains};
+ghost use Rattle.gdc_words.specs.Sizes.{IsSize};
 
-use crate::commands::{Command, Key, Libraries, beyond_of, missing_of, pick_of, wire_slew_of};
+use crate::commands::{
+    Command, Key, Libraries, Shape, beyond_of, missing_of, pick_of, shape_of, wire_slew_of,
+};
 use crate::decimals::grains_of;
+use crate::sizes::size_of;
 use corner_set::Pick;
 use edge_io::Text;
 use net_parasitics::Missing;
@@ -164,6 +169,28 @@ impl Asked {
     {
         match grains_of(self.needed(key).bytes()) {
             Some(grains) => grains,
+            None => unreachable!(),
+        }
+    }
+
+    /// The shape of a trial.
+    pub fn shape(&self) -> Shape
+        requires needed { IsTrue (needs_key self.now.command self.now.given keys.Shape) }
+        ensures { Some result ≡ shape_of (value_of self.now.given keys.Shape) }
+    {
+        match shape_of(self.needed(Key::Shape).bytes()) {
+            Some(shape) => shape,
+            None => unreachable!(),
+        }
+    }
+
+    /// The size of a trial, from 1 to 600,000.
+    pub fn size(&self) -> u32
+        requires needed { IsTrue (needs_key self.now.command self.now.given keys.Size) }
+        ensures { IsSize (value_of self.now.given keys.Size) result }
+    {
+        match size_of(self.needed(Key::Size).bytes()) {
+            Some(size) => size,
             None => unreachable!(),
         }
     }

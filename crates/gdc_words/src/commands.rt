@@ -1,8 +1,9 @@
 //! The commands and the keys, with the tables that say which key stands with which command.
 ghost use Rattle.std.specs.Prelude.{◌≡◌, ◌↔◌, IsTrue};
-ghost use Rattle.gdc_words.specs.CommandLine.{command_of, key_of, keys, key_word, takes_key, needed_keys, is_decimal, IsValue, pick_of, missing_of, wire_slew_of, beyond_of};
+ghost use Rattle.gdc_words.specs.CommandLine.{command_of, key_of, keys, key_word, takes_key, needed_keys, is_decimal, IsValue, pick_of, missing_of, wire_slew_of, beyond_of, shape_of};
 
 use crate::decimals::grains_of;
+use crate::sizes::size_of;
 use corner_set::Pick;
 use net_parasitics::Missing;
 use nldm_lookup::Beyond;
@@ -21,6 +22,8 @@ pub enum Command {
     Lookup,
     /// `flat`: the instances and the nets of a design, with what drives them.
     Flat,
+    /// `trial`: the summary of the delays of a design that is made by its shape and size.
+    Trial,
     /// `--help`: the commands, their keys, and the statuses.
     Help,
     /// `--version`: the version of the program.
@@ -64,6 +67,19 @@ pub enum Key {
     WireSlew,
     /// `--outside`: what is done past the end of a table's axis, `refuse`, `edge` or `extend`.
     Outside,
+    /// `--shape`: the shape of a trial, `chain` or `block`.
+    Shape,
+    /// `--size`: the size of a trial, from 1 to 600,000.
+    Size,
+}
+
+/// The shape of a trial.
+#[derive(Clone, Copy, Debug, PartialEq, Eq)]
+pub enum Shape {
+    /// Two inverters, with so many resistors between them, one behind the other.
+    Chain,
+    /// So many inverters, one behind the other.
+    Block,
 }
 
 /// The libraries that the words name.
@@ -131,6 +147,19 @@ pub(crate) fn beyond_of(word: &[u8]) -> Option<Beyond>
     }
 }
 
+/// The shape that a word names.
+pub(crate) fn shape_of(word: &[u8]) -> Option<Shape>
+    ensures { result ≡ shape_of word.now }
+{
+    if word == b"chain".as_slice() {
+        Some(Shape::Chain)
+    } else if word == b"block".as_slice() {
+        Some(Shape::Block)
+    } else {
+        None
+    }
+}
+
 impl Command {
     /// The command that a word names.
     pub(crate) fn of(word: &[u8]) -> Option<Command>
@@ -146,6 +175,8 @@ impl Command {
             Some(Command::Lookup)
         } else if word == b"flat".as_slice() {
             Some(Command::Flat)
+        } else if word == b"trial".as_slice() {
+            Some(Command::Trial)
         } else if word == b"--help".as_slice() {
             Some(Command::Help)
         } else if word == b"--version".as_slice() {
@@ -180,6 +211,7 @@ impl Command {
             (Command::Show, Key::Sdf) => true,
             (Command::Lookup, Key::Lib | Key::Cell | Key::Slew | Key::Load | Key::Outside) => true,
             (Command::Flat, Key::Netlist | Key::Top | Key::Lib) => true,
+            (Command::Trial, Key::Shape | Key::Size) => true,
             _ => false,
         }
     }
@@ -206,6 +238,7 @@ impl Command {
             (Command::Show, _) => &[Key::Sdf],
             (Command::Lookup, _) => &[Key::Lib, Key::Cell, Key::Slew, Key::Load],
             (Command::Flat, _) => &[Key::Netlist, Key::Top, Key::Lib],
+            (Command::Trial, _) => &[Key::Shape, Key::Size],
             (Command::Help, _) => &[],
             (Command::Version, _) => &[],
         }
@@ -235,6 +268,8 @@ impl Key {
             Key::Missing,
             Key::WireSlew,
             Key::Outside,
+            Key::Shape,
+            Key::Size,
         ]
     }
 
@@ -267,6 +302,8 @@ impl Key {
             Key::Missing => b"--missing",
             Key::WireSlew => b"--wire-slew",
             Key::Outside => b"--outside",
+            Key::Shape => b"--shape",
+            Key::Size => b"--size",
         }
     }
 
@@ -302,6 +339,8 @@ impl Key {
             Key::Missing => missing_of(value).is_some(),
             Key::WireSlew => wire_slew_of(value).is_some(),
             Key::Outside => beyond_of(value).is_some(),
+            Key::Shape => shape_of(value).is_some(),
+            Key::Size => size_of(value).is_some(),
         }
     }
 }

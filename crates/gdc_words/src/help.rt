@@ -19,6 +19,8 @@ Commands, each with its keys:
       prints the delay and the transition of each arc of a cell of a Liberty library, at one slew and one load
   flat --netlist FILE --top MODULE --lib FILE
       prints the instances and the nets of a design, with what drives them
+  trial --shape chain|block --size N
+      calculates a design of such a shape and size, which needs no file, and prints the summary of its delays
   --help
       prints this text
   --version

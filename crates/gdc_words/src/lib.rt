@@ -8,10 +8,11 @@ mod decimals;
 mod faults;
 mod help;
 mod reading;
+mod sizes;
 mod words;
 
 pub use asked::{Asked, Given};
-pub use commands::{Command, Key, Libraries};
+pub use commands::{Command, Key, Libraries, Shape};
 pub use faults::{UsageFault, UsageKind, WordsEnd};
 pub use help::{help_text, version_text};
 pub use reading::read_words;

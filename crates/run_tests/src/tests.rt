@@ -20,6 +20,7 @@ mod refusals;
 mod rows;
 mod show;
 mod tool_files;
+mod trial;
 mod words;
 
 /// A run to try: its words, one a line, the bytes of its file, and the faults of the outside.

@@ -13,7 +13,7 @@ use std::test::Fail;
 use wire_slews::WireSlew;
 
 /// Words, one a line, with the kind and the place of their first fault.
-const FAULTS: [(&[u8], UsageKind, usize); 46] = [
+const FAULTS: [(&[u8], UsageKind, usize); 56] = [
     (b"", UsageKind::NoCommand, 1),
     (b"\n", UsageKind::UnknownCommand, 1),
     (b"wire\n", UsageKind::UnknownCommand, 1),
@@ -74,6 +74,16 @@ const FAULTS: [(&[u8], UsageKind, usize); 46] = [
     (b"calc\n--missing\nnone\n", UsageKind::BadValue, 3),
     (b"calc\n--wire-slew\nzero\n", UsageKind::BadValue, 3),
     (b"calc\n--outside\nrss\n", UsageKind::BadValue, 3),
+    (b"trial\n--size\n0\n", UsageKind::BadValue, 3),
+    (b"trial\n--size\n600001\n", UsageKind::BadValue, 3),
+    (b"trial\n--size\n4294967297\n", UsageKind::BadValue, 3),
+    (b"trial\n--size\n1.0\n", UsageKind::BadValue, 3),
+    (b"trial\n--size\n+1\n", UsageKind::BadValue, 3),
+    (b"trial\n--size\n\n", UsageKind::BadValue, 3),
+    (b"trial\n--shape\nstar\n", UsageKind::BadValue, 3),
+    (b"trial\n--shape\n\n", UsageKind::BadValue, 3),
+    (b"trial\n--spef\na\n", UsageKind::UnknownWord, 2),
+    (b"calc\n--size\n1\n", UsageKind::UnknownWord, 2),
     (b"--help\nwires\n", UsageKind::UnknownWord, 2),
     (b"--version\n--help\n", UsageKind::UnknownWord, 2),
 ];
@@ -134,7 +144,7 @@ fn try_key(
 }
 
 /// Words that lack a key, and the first that they lack.
-const LACKING: [(&[u8], &[u8]); 14] = [
+const LACKING: [(&[u8], &[u8]); 17] = [
     (b"wires\n", b"--spef"),
     (b"wires\n--triple\nmin\n", b"--spef"),
     (b"show\n", b"--sdf"),
@@ -161,6 +171,9 @@ const LACKING: [(&[u8], &[u8]); 14] = [
     ),
     (b"flat\n--lib\na\n", b"--netlist"),
     (b"flat\n--top\nt\n--netlist\nn.v\n", b"--lib"),
+    (b"trial\n", b"--shape"),
+    (b"trial\n--size\n1\n", b"--shape"),
+    (b"trial\n--shape\nblock\n", b"--size"),
 ];
 
 /// Words with keys that do not stand together, and the key that is named.

@@ -1,4 +1,4 @@
--- What was written is the text of what the verdict gives.
+-- What is written is the verdict's, and fit for the command.
 use Rattle.gdc_run.proofs.top.answer.Goals as goal
 
 pub returns-in-Ok-write_output-clause-done : goal.returns-in-Ok-write_output-clause-done

@@ -1,4 +1,4 @@
-use Rattle.gdc_run.proofs.Completing.{complete_of, usage_of}
+use Rattle.gdc_run.proofs.Completing.{complete_of, trial_without_fault, usage_of}
 use Rattle.gdc_run.proofs.ReadBack.{done_readable, done_text}
 use Rattle.gdc_run.proofs.Saying.{says_of}
 use Rattle.gdc_run.proofs.top.run.Goals as goal
@@ -18,3 +18,6 @@ returns-clause-usage_first g c =
 
 pub returns-clause-said : goal.returns-clause-said
 returns-clause-said g c = says_of _ _ _ _ _ _ _ _ c.answer-outcome.ensures.corners c.say.ensures.writes
+
+pub returns-clause-no_read_fault : goal.returns-clause-no_read_fault
+returns-clause-no_read_fault g c = trial_without_fault _ _ _ _ _ _ _ c.answer-outcome.ensures.read_fault
