@@ -9,11 +9,11 @@ use Rattle.token_texts.specs.Runs.{run_length}
 use Rattle.token_texts.specs.RunLemmas.{run_within}
 use Rattle.token_texts.specs.Spans.{text_at}
 use Rattle.token_texts.specs.declared.spans.Span.{Span}
-use Rattle.verilog_netlist.specs.Cuts.{IsWithin}
+use Rattle.token_texts.specs.Cuts.{IsWithin}
 use Rattle.verilog_netlist.specs.Tokens.{Lexeme, AreTokensFrom, end, skip, take_one, cut_at, escaped_cut_at, ends_escaped, is_visible, is_bad, span_of}
 use Rattle.verilog_netlist.specs.declared.kinds.Kind.{Kind}
 use Rattle.verilog_netlist.specs.declared.kinds.Kind.TheVariants as kind
-use Rattle.verilog_netlist.specs.declared.scan.Cut.TheVariants.{Take}
+use Rattle.token_texts.specs.declared.cuts.Cut.TheVariants.{Take}
 use Rattle.verilog_netlist.proofs.Cutting.{cut_within, cut_backslash}
 
 -- a byte of a text

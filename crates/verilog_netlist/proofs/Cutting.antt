@@ -6,11 +6,12 @@ use Rattle.token_texts.specs.Comments.{line_length, pair_place}
 use Rattle.token_texts.specs.Runs.{run_length}
 use Rattle.token_texts.specs.CommentLemmas.{line_within, pair_within}
 use Rattle.token_texts.specs.RunLemmas.{run_more, run_within}
-use Rattle.verilog_netlist.specs.Cuts.{IsWithin}
+use Rattle.token_texts.specs.Cuts.{IsWithin}
 use Rattle.verilog_netlist.specs.Tokens.{is_digit, is_letter, underscore, dollar, backquote, begins_name, goes_on_name, is_visible, is_constant_digit, is_sign, is_base, and_before, based_length, signed_length, constant_length, word_cut, number_cut_at, number_cut, ends_escaped, escaped_cut_at, escaped_cut, comment_cut, slash_cut, paren_cut, mark_kind, cut_at}
+use Rattle.verilog_netlist.specs.declared.kinds.Kind.{Kind}
 use Rattle.verilog_netlist.specs.declared.kinds.Kind.TheVariants as kind
-use Rattle.verilog_netlist.specs.declared.scan.Cut.{Cut}
-use Rattle.verilog_netlist.specs.declared.scan.Cut.TheVariants.{Skip, Take}
+use Rattle.token_texts.specs.declared.cuts.Cut.{Cut}
+use Rattle.token_texts.specs.declared.cuts.Cut.TheVariants.{Skip, Take}
 
 pub cut_blank : (first : ℕ) (rest : List ℕ) → is_blank first ≡ true → cut_at first rest ≡ Skip 1
 unfolding cut_at
@@ -155,7 +156,7 @@ cut_within first rest =
     by false false false false false false true word number = paren_within rest
     by false false false false false false false word number = (omega arith, omega arith)
 
-pub within_of : (first : ℕ) (rest bytes : List ℕ) (cut : Cut) → bytes ≡ first ∷ rest → cut ≡ cut_at first rest → IsWithin (length bytes) cut
+pub within_of : (first : ℕ) (rest bytes : List ℕ) (cut : Cut Kind) → bytes ≡ first ∷ rest → cut ≡ cut_at first rest → IsWithin (length bytes) cut
 within_of first rest bytes cut parts e =
     let size : length rest + 1 ≡ length bytes = let l : length bytes ≡ length (first ∷ rest) = ap length parts in omega arith in
     subst (λ (n : ℕ). IsWithin n cut) size (subst (IsWithin (length rest + 1)) (let f : cut_at first rest ≡ cut = cc in f) (cut_within first rest))

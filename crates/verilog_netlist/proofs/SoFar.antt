@@ -7,7 +7,7 @@ use Rattle.token_texts.specs.Runs.{run_length}
 use Rattle.token_fronts.specs.Machine.{Stop, go_on, outcome}
 use Rattle.token_fronts.specs.ReadingLaw.{says_made, leaves_where_stopped, one_reading, one_leaving}
 use Rattle.verilog_netlist.specs.Tokens.{Lexeme, span_of, cut_at, AreTokensFrom, end, skip, take_one, AreTokens, IsToken}
-use Rattle.verilog_netlist.specs.Cuts.{IsWithin}
+use Rattle.token_texts.specs.Cuts.{IsWithin}
 use Rattle.verilog_netlist.specs.Grammar.{IsNetlist}
 use Rattle.verilog_netlist.specs.Steps.{Step, Refuse, Go, Put, step_in}
 use Rattle.verilog_netlist.specs.Modes.{State, first_state, state_after, next, finish_in, finish}
@@ -18,8 +18,8 @@ use Rattle.verilog_netlist.specs.declared.kinds.Kind.{Kind}
 use Rattle.verilog_netlist.specs.declared.entries.Entry.{Entry}
 use Rattle.verilog_netlist.specs.declared.modes.Mode.{Mode}
 use Rattle.verilog_netlist.specs.declared.modes.Mode.TheVariants.{Modules}
-use Rattle.verilog_netlist.specs.declared.scan.Cut.{Cut}
-use Rattle.verilog_netlist.specs.declared.scan.Cut.TheVariants.{Skip, Take}
+use Rattle.token_texts.specs.declared.cuts.Cut.{Cut}
+use Rattle.token_texts.specs.declared.cuts.Cut.TheVariants.{Skip, Take}
 use Rattle.verilog_netlist.specs.declared.reading.ReadEnd.{ReadEnd}
 use Rattle.verilog_netlist.specs.declared.reading.ReadEnd.TheVariants.{Syntax, NotStructural, OutOfMemory}
 use Rattle.verilog_netlist.proofs.Cutting.{cut_blank, cut_within}
@@ -102,7 +102,7 @@ some_tokens size start [] le = ([], end)
 some_tokens zero start (first ∷ rest) le = absurd (omega arith)
 some_tokens (suc size) start (first ∷ rest) le = by (cut_at first rest) refl (cut_within first rest) (λ n small. some_tokens size (start + n) (drop n (first ∷ rest)) small)
   where
-    by : (cut : Cut) → cut_at first rest ≡ cut → IsWithin (length rest + 1) (cut_at first rest)
+    by : (cut : Cut Kind) → cut_at first rest ≡ cut → IsWithin (length rest + 1) (cut_at first rest)
         → ((n : ℕ) → length (drop n (first ∷ rest)) ≤ size → (tokens : List Lexeme) × AreTokensFrom (start + n) (drop n (first ∷ rest)) tokens)
         → (tokens : List Lexeme) × AreTokensFrom start (first ∷ rest) tokens
     by (Skip n) e within later =

@@ -5,7 +5,6 @@ pub mod Netlists
 pub mod Firsts
 pub mod Namespaces
 pub mod Directions
-pub mod Cuts
 pub mod WordFilter
 pub mod Steps
 pub mod Modes

@@ -8,8 +8,8 @@ use Rattle.verilog_netlist.specs.Words.{word_kind}
 use Rattle.token_texts.specs.declared.spans.Span.{Span}
 use Rattle.verilog_netlist.specs.declared.kinds.Kind.{Kind}
 use Rattle.verilog_netlist.specs.declared.kinds.Kind.TheVariants.{Name, Number, Constant, LeftParen, RightParen, LeftBracket, RightBracket, LeftBrace, RightBrace, Dot, Comma, Semicolon, Colon, Bad}
-use Rattle.verilog_netlist.specs.declared.scan.Cut.{Cut}
-use Rattle.verilog_netlist.specs.declared.scan.Cut.TheVariants.{Skip, Take}
+use Rattle.token_texts.specs.declared.cuts.Cut.{Cut}
+use Rattle.token_texts.specs.declared.cuts.Cut.TheVariants.{Skip, Take}
 
 abbrev pub dollar : ℕ
 dollar = 36
@@ -96,15 +96,15 @@ abbrev pub bound_of : List ℕ → ℕ
 bound_of digits = min (value_after 0 digits) past_bounds
 
 -- an identifier, or a reserved word
-abbrev pub word_cut : List ℕ → Cut
+abbrev pub word_cut : List ℕ → Cut Kind
 word_cut bytes = let n = run_length goes_on_name bytes in Take n (word_kind (take n bytes))
 
 -- bytes of which so many are digits, and so many behind them the rest of a constant
-abbrev pub number_cut_at : List ℕ → ℕ → ℕ → Cut
+abbrev pub number_cut_at : List ℕ → ℕ → ℕ → Cut Kind
 number_cut_at bytes digits zero = Take digits (Number (bound_of (take digits bytes)))
 number_cut_at bytes digits (suc more) = Take (digits + suc more) Constant
 
-abbrev pub number_cut : List ℕ → Cut
+abbrev pub number_cut : List ℕ → Cut Kind
 number_cut bytes = let digits = run_length is_digit bytes in number_cut_at bytes digits (constant_length (drop digits bytes))
 
 -- a blank, or the end of the file
@@ -113,26 +113,26 @@ ends_escaped [] = true
 ends_escaped (byte ∷ rest) = is_blank byte
 
 -- behind a backslash, where so many visible bytes follow: an escaped identifier, or a byte that begins no token
-abbrev pub escaped_cut_at : List ℕ → ℕ → Cut
+abbrev pub escaped_cut_at : List ℕ → ℕ → Cut Kind
 escaped_cut_at rest zero = Take 1 Bad
 escaped_cut_at rest (suc more) = if ends_escaped (drop (suc more) rest) then Take (suc more + 1) Name else Take 1 Bad
 
-abbrev pub escaped_cut : List ℕ → Cut
+abbrev pub escaped_cut : List ℕ → Cut Kind
 escaped_cut rest = escaped_cut_at rest (run_length is_visible rest)
 
 -- `/*` or `(*` with `inner` behind it, in which it ends at this place: it is passed over, or it is open and takes all
-abbrev pub comment_cut : List ℕ → Option ℕ → Cut
+abbrev pub comment_cut : List ℕ → Option ℕ → Cut Kind
 comment_cut inner None = Take (length inner + 2) Bad
 comment_cut inner (Some place) = Skip (place + 4)
 
 -- behind a slash: a comment, or a byte that begins no token
-abbrev pub slash_cut : List ℕ → Cut
+abbrev pub slash_cut : List ℕ → Cut Kind
 slash_cut rest =
     if begins_with slash rest then Skip (line_length rest)
     else (if begins_with star rest then comment_cut (drop 1 rest) (pair_place star slash (drop 1 rest)) else Take 1 Bad)
 
 -- behind a `(`: an attribute, or the mark
-abbrev pub paren_cut : List ℕ → Cut
+abbrev pub paren_cut : List ℕ → Cut Kind
 paren_cut rest = if begins_with star rest then comment_cut (drop 1 rest) (pair_place star right_paren (drop 1 rest)) else Take 1 LeftParen
 
 -- the other marks, or a byte that begins no token
@@ -151,7 +151,7 @@ mark_kind byte =
 
 -- What stands at the front of `first ∷ rest`: bytes that are passed over, or a token. A directive goes from a backquote up to
 -- the end of its line.
-unfoldable pub cut_at : ℕ → List ℕ → Cut
+unfoldable pub cut_at : ℕ → List ℕ → Cut Kind
 cut_at first rest =
     if is_blank first then Skip 1
     else (if begins_name first then word_cut (first ∷ rest)

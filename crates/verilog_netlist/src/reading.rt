@@ -11,10 +11,10 @@ ghost use Rattle.verilog_netlist.specs.declared.entries.Entry.{Entry};
 use crate::entries::Entry;
 use crate::kinds::Kind;
 use crate::reader::Reader;
-use crate::scan::{Cut, cut_at};
+use crate::scan::cut_at;
 use edge_io::Text;
 use std::alloc::Global;
-use token_texts::{Blank, Span, run_length};
+use token_texts::{Blank, Cut, Span, run_length};
 
 /// Why a file is no netlist. Tokens count from 1; comments, attributes, directives and blanks are none.
 #[derive(Debug, Drop)]

@@ -1,25 +1,15 @@
 //! Parts a file's bytes into tokens.
 ghost use Rattle.std.specs.Prelude.{◌≡◌, ℕ, ◌+◌, ◌^◌, ◌<◌, ◌≤◌, ◌∷◌, List, length, IfSome, IfNone};
 ghost use Rattle.verilog_netlist.specs.Tokens.{is_digit, begins_name, goes_on_name, is_visible, is_constant_digit, is_sign, is_base, based_length, signed_length, and_before, constant_length, bound_of, word_cut, number_cut, ends_escaped, escaped_cut, comment_cut, slash_cut, paren_cut, mark_kind, cut_at};
-ghost use Rattle.verilog_netlist.specs.Cuts.{IsWithin};
+ghost use Rattle.token_texts.specs.Cuts.{IsWithin};
 ghost use Rattle.verilog_netlist.specs.Ranges.{constant_width};
 ghost use Rattle.token_texts.specs.Comments.{pair_place};
 ghost use Rattle.verilog_netlist.specs.declared.kinds.Kind.TheVariants.{Bad};
-ghost use Rattle.verilog_netlist.specs.declared.scan.Cut.TheVariants.{Take};
+ghost use Rattle.token_texts.specs.declared.cuts.Cut.TheVariants.{Take};
 
 use crate::kinds::Kind;
 use crate::words::word_kind;
-use token_texts::{ByteClass, begins_with, is_blank, line_length, pair_place, run_length};
-
-/// What stands at the front of some bytes.
-#[derive(Clone, Copy)]
-pub enum Cut {
-    /// So many bytes that are passed over.
-    Skip(usize),
-
-    /// A token of so many bytes.
-    Take(usize, Kind),
-}
+use token_texts::{ByteClass, Cut, begins_with, is_blank, line_length, pair_place, run_length};
 
 /// Any number past the bounds of ranges and selects counts as this.
 const PAST_BOUNDS: u32 = 1_048_576;
@@ -187,7 +177,7 @@ pub(crate) fn constant_width(text: &[u8]) -> u32
 
 /// An identifier, or a reserved word.
 #[inline]
-fn word_cut(bytes: &[u8]) -> Cut
+fn word_cut(bytes: &[u8]) -> Cut<Kind>
     ensures { result ≡ word_cut bytes.now }
 {
     let length = run_length::<InName>(bytes);
@@ -195,7 +185,7 @@ fn word_cut(bytes: &[u8]) -> Cut
 }
 
 /// A number, or a constant.
-fn number_cut(bytes: &[u8]) -> Cut
+fn number_cut(bytes: &[u8]) -> Cut<Kind>
     requires { length bytes.now < 2 ^ 32 }
     ensures { result ≡ number_cut bytes.now }
 {
@@ -220,7 +210,7 @@ fn ends_escaped(bytes: &[u8]) -> bool
 }
 
 /// Behind a backslash: an escaped identifier, or a byte that begins no token.
-fn escaped_cut(rest: &[u8]) -> Cut
+fn escaped_cut(rest: &[u8]) -> Cut<Kind>
     requires { length rest.now < 2 ^ 32 }
     ensures { result ≡ escaped_cut rest.now }
 {
@@ -233,7 +223,7 @@ fn escaped_cut(rest: &[u8]) -> Cut
 }
 
 /// Behind `/*` or `(*`, which end with the byte `*` and this one.
-fn comment_cut(last: u8, inner: &[u8]) -> Cut
+fn comment_cut(last: u8, inner: &[u8]) -> Cut<Kind>
     requires { length inner.now < 2 ^ 32 }
     ensures { result ≡ comment_cut inner.now (pair_place 42 last inner.now) }
 {
@@ -244,7 +234,7 @@ fn comment_cut(last: u8, inner: &[u8]) -> Cut
 }
 
 /// Behind a slash: a comment, or a byte that begins no token.
-fn slash_cut(rest: &[u8]) -> Cut
+fn slash_cut(rest: &[u8]) -> Cut<Kind>
     requires { length rest.now < 2 ^ 32 }
     ensures { result ≡ slash_cut rest.now }
 {
@@ -259,7 +249,7 @@ fn slash_cut(rest: &[u8]) -> Cut
 
 /// Behind a `(`: an attribute, or the mark.
 #[inline]
-fn paren_cut(rest: &[u8]) -> Cut
+fn paren_cut(rest: &[u8]) -> Cut<Kind>
     requires { length rest.now < 2 ^ 32 }
     ensures { result ≡ paren_cut rest.now }
 {
@@ -292,7 +282,7 @@ fn mark(byte: u8) -> Option<Kind>
 
 /// What stands at the front of the bytes, which are `first` and `rest`.
 #[inline]
-pub(crate) fn cut_at(bytes: &[u8], first: u8, rest: &[u8]) -> Cut
+pub(crate) fn cut_at(bytes: &[u8], first: u8, rest: &[u8]) -> Cut<Kind>
     requires parts { bytes.now ≡ first ∷ rest.now }
     requires bytes { length bytes.now < 2 ^ 32 }
     ensures value { result ≡ cut_at first rest.now }

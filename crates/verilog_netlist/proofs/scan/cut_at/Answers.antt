@@ -2,7 +2,7 @@
 use Rattle.std.proofs.Common.{ℕ, sym, ap, ◌∙◌}
 use Rattle.token_texts.specs.ByteLemmas.{not_byte}
 use Rattle.verilog_netlist.specs.Tokens.{word_cut, number_cut, cut_at}
-use Rattle.verilog_netlist.specs.declared.scan.Cut.TheVariants.{Skip, Take}
+use Rattle.token_texts.specs.declared.cuts.Cut.TheVariants.{Skip, Take}
 use Rattle.verilog_netlist.proofs.Cutting.{cut_blank, cut_name, cut_digit, cut_backslash, cut_directive, cut_slash, cut_paren, cut_mark, within_of}
 use Rattle.verilog_netlist.proofs.scan.cut_at.Goals as goal
 
