@@ -37,11 +37,10 @@ def write_text(path, text):
         file.write(text)
 
 
-def build(folder, name, stands_on, files, words=()):
-    """Builds the program `name` in the folder, over copies of the crates that it stands on, and answers its path.
+def lay_out(folder, name, stands_on, files):
+    """Writes the program `name` into the folder, with copies of the crates that it stands on, and answers the folder of its crate.
 
-    `files` has the text of each of its files by the path in the crate, such as src/main.rt. `words` are those of the one run by
-    which the toolchain builds it. What was proved in the folder before is kept.
+    `files` has the text of each of its files by the path in the crate, such as src/main.rt. What was proved in the folder before is kept.
     """
     crates = os.path.join(folder, "crates")
     below = crates_below(stands_on)
@@ -58,6 +57,13 @@ def build(folder, name, stands_on, files, words=()):
         shutil.rmtree(os.path.join(own, part), ignore_errors=True)
     for path, text in files.items():
         write_text(os.path.join(own, path), text)
+    return own
+
+
+def build(folder, name, stands_on, files, words=()):
+    """Builds the program `name` in the folder as `lay_out` writes it, and answers its path. `words` are those of the one run by which the
+    toolchain builds it."""
+    own = lay_out(folder, name, stands_on, files)
     ended = subprocess.run(["rt", "run", *(["--", *words] if words else [])], cwd=own, stdin=subprocess.DEVNULL, check=False,
                            stdout=subprocess.PIPE, stderr=subprocess.STDOUT, text=True)
     program = os.path.join(own, "out", name)
