@@ -19,6 +19,7 @@ mod lookup;
 mod refusals;
 mod rows;
 mod show;
+mod slices;
 mod tool_files;
 mod trial;
 mod words;
