@@ -1,5 +1,6 @@
 //! A sink into memory.
-ghost use Rattle.std.specs.Prelude.{◌≡◌, IfOk, Some};
+ghost use Rattle.std.specs.Prelude.{◌≡◌, ◌≤◌, ◌++◌, Some, IfOk, OnOk, OnErr};
+ghost use Rattle.edge_io.specs.Counts.{Rose};
 ghost use Rattle.sdf_writer.specs.SdfText.{sdf_text};
 
 use corner_set::Single;
@@ -7,28 +8,45 @@ use edge_io::{Failed, OutOfMemory, Sink, Text};
 use sdf_writer::{Rows, write};
 use std::alloc::Global;
 
-/// A text that grows with what is written to it. A write fails only where there is no memory for it.
+/// A text that grows with what is written to it. A write fails only where there was no memory for it, so its faults are counted as what
+/// was denied. The count stands still at 2 ^ 64 - 1.
 #[derive(Drop)]
 struct TextSink {
     text: Text,
-    faults: u64,
+    denied: u64,
+}
+
+impl TextSink {
+    // Puts the piece behind the text. Where there was no memory for it, the text stays, and what was denied counts one more.
+    fn add(&mut self, piece: &[u8]) -> Result<(), OutOfMemory>
+        ensures ok { OnOk result (self.new.text ≡ self.old.text ++ piece.now) }
+        ensures count { OnOk result (self.new.denied ≡ self.old.denied) }
+        ensures unchanged { OnErr result (self.new.text ≡ self.old.text) }
+        ensures later { self.old.denied ≤ self.new.denied }
+        ensures denied { OnErr result (Rose self.old.denied self.new.denied) }
+    {
+        match self.text.push_all(piece) {
+            Ok(()) => Ok(()),
+            Err(OutOfMemory) => {
+                self.denied = self.denied.saturating_add(1);
+                Err(OutOfMemory)
+            }
+        }
+    }
 }
 
 impl Sink for TextSink {
     ghost written = { λ sink. Some sink.text };
 
-    ghost faults = { λ sink. sink.faults };
+    ghost faults = { λ sink. sink.denied };
 
     fn write(&mut self, piece: &[u8]) -> Result<usize, Failed> {
         if piece.is_empty() {
             return Ok(0);
         }
-        match self.text.push_all(piece) {
+        match self.add(piece) {
             Ok(()) => Ok(piece.len()),
-            Err(OutOfMemory) => {
-                self.faults = self.faults.saturating_add(1);
-                Err(Failed)
-            }
+            Err(OutOfMemory) => Err(Failed),
         }
     }
 }
@@ -39,7 +57,7 @@ pub(crate) fn sdf_text_of(alloc: Global, rows: &Rows<Single>) -> Result<Text, Ou
 {
     let mut sink = TextSink {
         text: Text::new(alloc),
-        faults: 0,
+        denied: 0,
     };
     match write(rows, &mut sink) {
         Ok(()) => Ok(sink.text),

@@ -14,7 +14,7 @@ use crate::text_sink::sdf_text_of;
 use crate::trial_shelf::TrialShelf;
 use corner_set::{Pick, Single};
 use delay_annotation::{Files, Settings};
-use delay_core::{FILE_LIMIT, FileKey, Refusal};
+use delay_core::{FileKey, Refusal};
 use delay_units::{Atto, Farads};
 use edge_io::{OutOfMemory, Steps, Text, TextList};
 use gdc_words::Shape;
@@ -31,6 +31,9 @@ use wire_slews::WireSlew;
 
 // The slew at the input port: 20 ps, in attoseconds.
 const INPUT_SLEW: i64 = 20_000_000;
+
+// How many bytes the reader of SDF takes, whose places have 32 bits.
+const READ_LIMIT: usize = u32::MAX as usize;
 
 // The files of a shape and a size.
 fn files_of(alloc: Global, shape: Shape, size: u32) -> Result<TrialFiles, OutOfMemory>
@@ -96,14 +99,14 @@ fn trial_rows<L: Ledger>(
     design_rows::<Single, TrialShelf<'_>, L>(alloc, &mut shelf, &names, &settings, steps)
 }
 
-// What is read of the SDF text of rows. No more is read than of a file: no size makes so long a text.
+// What is read of the SDF text of rows. A text past what the reader takes counts as want of memory: no size makes so long a text.
 fn rows_read_back(alloc: Global, rows: &Rows<Single>) -> Result<SdfRows, OutOfMemory>
     requires { AreFit IsWellSpelled 1 rows.now }
     ensures { IfOk result (λ back. back ≡ read_back_rows rows.now) }
 {
     read_back();
     let text = sdf_text_of(alloc, rows)?;
-    if FILE_LIMIT < text.len() {
+    if READ_LIMIT < text.len() {
         return Err(OutOfMemory);
     }
     match read(alloc, text.bytes()) {
