@@ -1,14 +1,9 @@
--- The pairs of arcs and edges, and refused look-ups.
-use Rattle.std.proofs.Common.{◌≡◌, ◌≢◌, ℕ, ◌+◌, ◌<◌, ◌≤◌, true, List, [], ◌∷◌, ◌++◌, length, take, drop, Option, None, Some, is_some, refl, sym, ap, ◌∙◌, subst, inl, inr, arith}
-use Rattle.std.proofs.lemmas.Bool.{cases_eq, false≢true}
+-- The pairs of arcs and edges.
+use Rattle.std.proofs.Common.{◌≡◌, ℕ, ◌+◌, ◌<◌, ◌≤◌, true, List, [], ◌∷◌, ◌++◌, length, take, drop, Option, None, Some, is_some, refl, sym, ap, ◌∙◌, arith}
+use Rattle.std.proofs.lemmas.Bool.{false≢true}
 use Rattle.std.proofs.lemmas.List.{take_more, take-append-drop}
-use Rattle.cell_models.specs.declared.edge.Edge.{Edge}
-use Rattle.cell_models.specs.declared.edge.Edge.TheVariants.{Rise, Fall}
 use Rattle.slew_states.specs.declared.arcs.FlatArc.{FlatArc}
-use Rattle.slew_states.specs.declared.states.PinState.{PinState}
 use Rattle.slew_states.specs.Arcs.{no_arc, arc_at}
-use Rattle.slew_states.specs.PinState.{Look, Wire}
-use Rattle.slew_states.specs.Refused.{IsRefused, NoneRefused}
 use Rattle.slew_states.specs.Settled.{edges_of, arc_edges}
 
 edges-append : (xs ys : List FlatArc) → arc_edges (xs ++ ys) ≡ arc_edges xs + arc_edges ys
@@ -24,15 +19,3 @@ edges_part arcs many = let parts = ap arc_edges (sym (take-append-drop many arcs
 pub some_net : (net : Option ℕ) → is_some net ≡ true → (m : ℕ) × (net ≡ Some m)
 some_net None is = absurd (false≢true is)
 some_net (Some m) is = (m, refl)
-
--- no look-up of one arc more is refused
-pub none_more : (look : Look) (wire : Wire) (before : ℕ → Edge → PinState) (arcs : List FlatArc) (many : ℕ) → NoneRefused look wire before arcs many → ((slew : ℕ) → IsRefused look wire before arcs many Rise slew → ⊥)
-    → ((slew : ℕ) → IsRefused look wire before arcs many Fall slew → ⊥) → NoneRefused look wire before arcs (many + 1)
-none_more look wire before arcs many none rise fall arc slew edge below is = elim (cases_eq arc many) [
-  | inl at ↦ at_edge edge (subst (λ k. IsRefused look wire before arcs k edge slew) at is)
-  | inr ne ↦ let ne' : arc ≢ many = ne in none arc slew edge (omega (arith, ne', below)) is
-]
-  where
-    at_edge : (edge : Edge) → IsRefused look wire before arcs many edge slew → ⊥
-    at_edge Rise here = rise slew here
-    at_edge Fall here = fall slew here

@@ -4,6 +4,5 @@ pub mod PinState
 pub mod Loops
 pub mod Laws
 pub mod Settled
-pub mod Refused
 pub mod Ends
 pub mod NetEdges

@@ -4,19 +4,17 @@ ghost use Rattle.slew_states.specs.declared.arcs.FlatArc.{FlatArc};
 ghost use Rattle.slew_states.specs.Arcs.{HaveNets};
 
 use crate::tests::halves::Halves;
-use cell_models::{ArcKind, Edge};
+use cell_models::ArcKind;
 use edge_io::{OutOfMemory, Steps};
 use graph_order::OrderEnd;
-use slew_states::{
-    Driver, EdgeStates, FlatArc, PinState, Refused, first_refused, order_nets, settle,
-};
+use slew_states::{Driver, EdgeStates, FlatArc, PinState, order_nets, settle};
 use std::alloc::Global;
 use std::marker::Brand;
 use std::sync::ledger::{Blank, Ledger};
 use std::test::Fail;
 
-/// The states of all nets and the first refused look-up, or a loop.
-type Answer = Result<(Vec<EdgeStates>, Option<Refused>), Vec<usize>>;
+/// The states of all nets, or a loop.
+type Answer = Result<Vec<EdgeStates>, Vec<usize>>;
 
 /// An arc with both edges.
 const fn arc(source: Option<usize>, target: Option<usize>, kind: ArcKind) -> FlatArc {
@@ -74,8 +72,7 @@ fn states_by<L: Ledger>(
         Err(OrderEnd::OutOfMemory) => return Err(OutOfMemory),
     };
     let states = settle(alloc, &halves, arcs, drivers, 20, &order, &mut steps)?;
-    let refused = first_refused(&halves, arcs, &states, &mut steps);
-    Ok(Ok((states, refused)))
+    Ok(Ok(states))
 }
 
 /// The states of a netlist at a slew of 20 at its ports.
@@ -120,12 +117,11 @@ fn kinds_take_their_input_edges(rt: HostRuntime) -> Result<(), Fail> {
             arc(Some(1), Some(2), kind),
         ];
         let answer = states_of(rt.alloc(), PLAIN, &arcs, &drivers)?;
-        let (states, refused) = answer.ok().ok_or("states")?;
+        let states = answer.ok().ok_or("states")?;
         assert_eq!(rt;
             states.as_slice(),
             [known(20, 20), known(20, 30), want].as_slice()
         );
-        assert!(rt; refused.is_none());
     }
     Ok(())
 }
@@ -152,7 +148,7 @@ fn the_largest_of_all_arcs_counts(rt: HostRuntime) -> Result<(), Fail> {
         arc(Some(0), Some(1), ArcKind::Positive),
     ];
     let answer = states_of(rt.alloc(), PLAIN, &arcs, &drivers)?;
-    let (states, refused) = answer.ok().ok_or("states")?;
+    let states = answer.ok().ok_or("states")?;
     let absent = EdgeStates {
         rise: PinState::Absent,
         fall: PinState::Absent,
@@ -165,7 +161,6 @@ fn the_largest_of_all_arcs_counts(rt: HostRuntime) -> Result<(), Fail> {
         states.as_slice(),
         [known(20, 20), known(20, 30), known(20, 35), absent, half].as_slice()
     );
-    assert!(rt; refused.is_none());
     Ok(())
 }
 
@@ -179,7 +174,7 @@ fn what_is_refused_is_stuck(rt: HostRuntime) -> Result<(), Fail> {
 
     // The fall of net 1 is 30, past the limit of the next arc.
     let limit = Halves { limit: 25, wire: 0 };
-    let (states, refused) = states_of(rt.alloc(), limit, &arcs, &drivers)?
+    let states = states_of(rt.alloc(), limit, &arcs, &drivers)?
         .ok()
         .ok_or("states")?;
     let stuck = EdgeStates {
@@ -190,35 +185,26 @@ fn what_is_refused_is_stuck(rt: HostRuntime) -> Result<(), Fail> {
         states.as_slice(),
         [known(20, 20), known(20, 30), stuck].as_slice()
     );
-    assert_eq!(rt;
-        refused,
-        Some(Refused {
-            arc: 0,
-            edge: Edge::Fall,
-            slew: 30
-        })
-    );
 
     // A wire adds 10: half of 30 and 10 is 25, half of 35 and 10 is 27.
     let wire = Halves {
         limit: 1000,
         wire: 10,
     };
-    let (states, refused) = states_of(rt.alloc(), wire, &arcs, &drivers)?
+    let states = states_of(rt.alloc(), wire, &arcs, &drivers)?
         .ok()
         .ok_or("states")?;
     assert_eq!(rt;
         states.as_slice(),
         [known(20, 20), known(25, 35), known(27, 42)].as_slice()
     );
-    assert!(rt; refused.is_none());
 
-    // A wire past the limit leaves a pin stuck, and no look-up is refused.
+    // A wire past the limit leaves a pin stuck.
     let long = Halves {
         limit: 1000,
         wire: 999_999_999_990,
     };
-    let (states, refused) = states_of(rt.alloc(), long, &arcs, &drivers)?
+    let states = states_of(rt.alloc(), long, &arcs, &drivers)?
         .ok()
         .ok_or("states")?;
     let both = EdgeStates {
@@ -226,7 +212,6 @@ fn what_is_refused_is_stuck(rt: HostRuntime) -> Result<(), Fail> {
         fall: PinState::Stuck,
     };
     assert_eq!(rt; states.as_slice(), [known(20, 20), both, both].as_slice());
-    assert!(rt; refused.is_none());
     Ok(())
 }
 
