@@ -1,9 +1,10 @@
--- How far a text in quotes goes, byte by byte.
+-- How far a text in quotes goes, byte by byte, and that what stands at a quote has a byte, and none past the end.
 use Rattle.std.proofs.Common.{◌≡◌, ℕ, suc, ◌+◌, ◌<◌, ◌≤◌, Bool, true, false, cond, not, ◌&&◌, ◌==◌, List, [], ◌∷◌, length, drop, get_or, Option, Some, None, option_map, refl, ap, ap₂, ◌∙◌, arith}
 use Rattle.std.proofs.lemmas.Bool.{eq-eqb}
 use Rattle.std.proofs.lemmas.List.{drop_more, drop_all}
 use Rattle.edge_io.specs.Bytes.{quote}
-use Rattle.token_texts.specs.Quoted.{takes, quote_end}
+use Rattle.token_texts.specs.Quoted.{takes, quote_end, quoted_to, quoted_cut}
+use Rattle.token_texts.specs.Cuts.{IsWithin}
 use Rattle.token_texts.specs.ByteLemmas.{not_byte}
 use Rattle.token_texts.specs.declared.quoted.Escape.{Escape}
 
@@ -20,6 +21,15 @@ quote_within escape taken [] place e = absurd (cc)
 quote_within escape taken (b ∷ bytes) place e =
     step_within bytes place (b == quote && not taken) (quote_end escape (takes escape b taken) bytes)
     (quote_within escape (takes escape b taken) bytes) e
+
+module _ {K : Type 0} (quoted_kind open_kind : K) where
+  quoted_to_within : (rest : List ℕ) (end : Option ℕ) → ((place : ℕ) → end ≡ Some place → place < length rest)
+      → IsWithin (length rest + 1) (quoted_to quoted_kind open_kind rest end)
+  quoted_to_within rest None below = (omega arith, omega arith)
+  quoted_to_within rest (Some place) below = let lt = below place refl in (omega arith, omega arith)
+
+  pub quoted_within : (escape : Escape) (rest : List ℕ) → IsWithin (length rest + 1) (quoted_cut escape quoted_kind open_kind rest)
+  quoted_within escape rest = quoted_to_within rest (quote_end escape false rest) (quote_within escape false rest)
 
 -- further on by so many
 abbrev pub moved : ℕ → Option ℕ → Option ℕ

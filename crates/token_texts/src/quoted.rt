@@ -1,7 +1,10 @@
 //! Texts in quotes.
-ghost use Rattle.std.specs.Prelude.{◌≡◌, ◌<◌, false, length};
+ghost use Rattle.std.specs.Prelude.{◌≡◌, ◌+◌, ◌^◌, ◌<◌, false, length};
 ghost use Rattle.std.specs.Option.{IfSome};
-ghost use Rattle.token_texts.specs.Quoted.{takes, quote_end};
+ghost use Rattle.token_texts.specs.Cuts.{IsWithin};
+ghost use Rattle.token_texts.specs.Quoted.{takes, quote_end, quoted_cut};
+
+use crate::cuts::Cut;
 
 /// What a backslash in a text does.
 #[derive(Clone, Copy, PartialEq, Eq, Debug)]
@@ -41,4 +44,17 @@ pub fn quote_end(escape: Escape, rest: &[u8]) -> Option<usize>
         place += 1;
     }
     None
+}
+
+/// Behind a quote: a text of the first kind, or, where no quote ends it, a token of the second, which takes all.
+#[inline]
+pub fn quoted_cut<K: Copy>(escape: Escape, quoted_kind: K, open_kind: K, rest: &[u8]) -> Cut<K>
+    requires { length rest.now < 2 ^ 32 }
+    ensures value { result ≡ quoted_cut escape quoted_kind open_kind rest.now }
+    ensures within { IsWithin (length rest.now + 1) result }
+{
+    match quote_end(escape, rest) {
+        Some(place) => Cut::Take(place + 2, quoted_kind),
+        None => Cut::Take(rest.len() + 1, open_kind),
+    }
 }
