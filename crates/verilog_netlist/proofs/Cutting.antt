@@ -1,13 +1,13 @@
 -- What stands at the front of some bytes, by their first byte, and that it has a byte, and none past the end.
-use Rattle.std.proofs.Common.{◌≡◌, ℕ, zero, suc, ◌+◌, ◌-◌, ◌<◌, ◌≤◌, Bool, true, false, cond, ◌||◌, ◌==◌, List, [], ◌∷◌, length, drop, length-drop, Option, Some, None, refl, ap, subst, arith}
+use Rattle.std.proofs.Common.{◌≡◌, ℕ, zero, suc, ◌+◌, ◌-◌, ◌<◌, ◌≤◌, Bool, true, false, cond, ◌||◌, ◌==◌, List, [], ◌∷◌, length, drop, length-drop, refl, ap, subst, arith}
 use Rattle.edge_io.specs.Bytes.{left_paren, right_paren, star, slash, backslash, begins_with}
 use Rattle.token_texts.specs.Blanks.{is_blank}
-use Rattle.token_texts.specs.Comments.{line_length, pair_place}
+use Rattle.token_texts.specs.Comments.{line_length, comment_cut}
 use Rattle.token_texts.specs.Runs.{run_length}
-use Rattle.token_texts.specs.CommentLemmas.{line_within, pair_within}
+use Rattle.token_texts.specs.CommentLemmas.{line_within, comment_within, comment_or_within}
 use Rattle.token_texts.specs.RunLemmas.{run_more, run_within}
 use Rattle.token_texts.specs.Cuts.{IsWithin}
-use Rattle.verilog_netlist.specs.Tokens.{is_digit, is_letter, underscore, dollar, backquote, begins_name, goes_on_name, is_visible, is_constant_digit, is_sign, is_base, and_before, based_length, signed_length, constant_length, word_cut, number_cut_at, number_cut, ends_escaped, escaped_cut_at, escaped_cut, comment_cut, slash_cut, paren_cut, mark_kind, cut_at}
+use Rattle.verilog_netlist.specs.Tokens.{is_digit, is_letter, underscore, dollar, backquote, begins_name, goes_on_name, is_visible, is_constant_digit, is_sign, is_base, and_before, based_length, signed_length, constant_length, word_cut, number_cut_at, number_cut, ends_escaped, escaped_cut_at, escaped_cut, slash_cut, paren_cut, mark_kind, cut_at}
 use Rattle.verilog_netlist.specs.declared.kinds.Kind.{Kind}
 use Rattle.verilog_netlist.specs.declared.kinds.Kind.TheVariants as kind
 use Rattle.token_texts.specs.declared.cuts.Cut.{Cut}
@@ -110,30 +110,14 @@ escaped_at_within rest (suc n) le = by (ends_escaped (drop (suc n) rest))
     by true = (omega arith, omega arith)
     by false = (omega arith, omega arith)
 
-comment_at_within : (inner : List ℕ) (end : Option ℕ) → ((place : ℕ) → end ≡ Some place → place + 2 ≤ length inner) → IsWithin (length inner + 2) (comment_cut inner end)
-comment_at_within inner None below = (omega arith, omega arith)
-comment_at_within inner (Some place) below = let le = below place refl in (omega arith, omega arith)
-
-comment_within : (last : ℕ) (rest : List ℕ) → begins_with star rest ≡ true → IsWithin (length rest + 1) (comment_cut (drop 1 rest) (pair_place star last (drop 1 rest)))
-comment_within last [] h = absurd (cc)
-comment_within last (byte ∷ rest) h =
-    let e : length rest + 2 ≡ length (byte ∷ rest) + 1 = omega arith in
-    subst (λ (n : ℕ). IsWithin n (comment_cut rest (pair_place star last rest))) e (comment_at_within rest (pair_place star last rest) (pair_within star last rest))
-
 slash_within : (rest : List ℕ) → IsWithin (length rest + 1) (slash_cut rest)
-slash_within rest = by (begins_with slash rest) (begins_with star rest) (comment_within slash rest)
-  where
-    by : (line block : Bool) → (block ≡ true → IsWithin (length rest + 1) (comment_cut (drop 1 rest) (pair_place star slash (drop 1 rest))))
-        → IsWithin (length rest + 1) (cond line (Skip (line_length rest)) (cond block (comment_cut (drop 1 rest) (pair_place star slash (drop 1 rest))) (Take 1 kind.Bad)))
-    by true block inside = line_within rest
-    by false true inside = inside refl
-    by false false inside = (omega arith, omega arith)
+slash_within rest = comment_or_within kind.Bad slash rest (Take 1 kind.Bad) (λ none. (omega arith, omega arith))
 
 paren_within : (rest : List ℕ) → IsWithin (length rest + 1) (paren_cut rest)
-paren_within rest = by (begins_with star rest) (comment_within right_paren rest)
+paren_within rest = by (begins_with star rest) (comment_within kind.Bad right_paren rest)
   where
-    by : (attribute : Bool) → (attribute ≡ true → IsWithin (length rest + 1) (comment_cut (drop 1 rest) (pair_place star right_paren (drop 1 rest))))
-        → IsWithin (length rest + 1) (cond attribute (comment_cut (drop 1 rest) (pair_place star right_paren (drop 1 rest))) (Take 1 kind.LeftParen))
+    by : (attribute : Bool) → (attribute ≡ true → IsWithin (length rest + 1) (comment_cut right_paren kind.Bad (drop 1 rest)))
+        → IsWithin (length rest + 1) (cond attribute (comment_cut right_paren kind.Bad (drop 1 rest)) (Take 1 kind.LeftParen))
     by true inside = inside refl
     by false inside = (omega arith, omega arith)
 

@@ -1,8 +1,8 @@
 -- The bytes of a Verilog file (IEEE 1364-2005, lexical conventions), and the tokens that they are parted into.
-use Rattle.std.specs.Prelude.{◌≡◌, ℕ, zero, suc, ◌+◌, ◌-◌, ◌*◌, Bool, true, false, ◌&&◌, ◌||◌, ◌==◌, nat_le, min, if◌then◌else◌, List, [], ◌∷◌, length, take, drop, Option, Some, None}
+use Rattle.std.specs.Prelude.{◌≡◌, ℕ, zero, suc, ◌+◌, ◌-◌, ◌*◌, Bool, true, false, ◌&&◌, ◌||◌, ◌==◌, nat_le, min, if◌then◌else◌, List, [], ◌∷◌, length, take, drop, unwrap_or}
 use Rattle.edge_io.specs.Bytes.{left_paren, right_paren, star, comma, slash, colon, semicolon, left_bracket, backslash, right_bracket, left_brace, right_brace, begins_with}
 use Rattle.token_texts.specs.Blanks.{is_blank}
-use Rattle.token_texts.specs.Comments.{line_length, pair_place}
+use Rattle.token_texts.specs.Comments.{line_length, comment_cut, comment_at}
 use Rattle.token_texts.specs.Runs.{run_length}
 use Rattle.verilog_netlist.specs.Words.{word_kind}
 use Rattle.token_texts.specs.declared.spans.Span.{Span}
@@ -120,20 +120,13 @@ escaped_cut_at rest (suc more) = if ends_escaped (drop (suc more) rest) then Tak
 abbrev pub escaped_cut : List ℕ → Cut Kind
 escaped_cut rest = escaped_cut_at rest (run_length is_visible rest)
 
--- `/*` or `(*` with `inner` behind it, in which it ends at this place: it is passed over, or it is open and takes all
-abbrev pub comment_cut : List ℕ → Option ℕ → Cut Kind
-comment_cut inner None = Take (length inner + 2) Bad
-comment_cut inner (Some place) = Skip (place + 4)
-
 -- behind a slash: a comment, or a byte that begins no token
 abbrev pub slash_cut : List ℕ → Cut Kind
-slash_cut rest =
-    if begins_with slash rest then Skip (line_length rest)
-    else (if begins_with star rest then comment_cut (drop 1 rest) (pair_place star slash (drop 1 rest)) else Take 1 Bad)
+slash_cut rest = unwrap_or (comment_at Bad slash rest) (Take 1 Bad)
 
 -- behind a `(`: an attribute, or the mark
 abbrev pub paren_cut : List ℕ → Cut Kind
-paren_cut rest = if begins_with star rest then comment_cut (drop 1 rest) (pair_place star right_paren (drop 1 rest)) else Take 1 LeftParen
+paren_cut rest = if begins_with star rest then comment_cut right_paren Bad (drop 1 rest) else Take 1 LeftParen
 
 -- the other marks, or a byte that begins no token
 abbrev pub mark_kind : ℕ → Kind

@@ -1,15 +1,16 @@
 //! Parts a file's bytes into tokens.
 ghost use Rattle.std.specs.Prelude.{◌≡◌, ℕ, ◌+◌, ◌^◌, ◌<◌, ◌≤◌, ◌∷◌, List, length, IfSome, IfNone};
-ghost use Rattle.verilog_netlist.specs.Tokens.{is_digit, begins_name, goes_on_name, is_visible, is_constant_digit, is_sign, is_base, based_length, signed_length, and_before, constant_length, bound_of, word_cut, number_cut, ends_escaped, escaped_cut, comment_cut, slash_cut, paren_cut, mark_kind, cut_at};
+ghost use Rattle.verilog_netlist.specs.Tokens.{is_digit, begins_name, goes_on_name, is_visible, is_constant_digit, is_sign, is_base, based_length, signed_length, and_before, constant_length, bound_of, word_cut, number_cut, ends_escaped, escaped_cut, slash_cut, paren_cut, mark_kind, cut_at};
 ghost use Rattle.token_texts.specs.Cuts.{IsWithin};
 ghost use Rattle.verilog_netlist.specs.Ranges.{constant_width};
-ghost use Rattle.token_texts.specs.Comments.{pair_place};
 ghost use Rattle.verilog_netlist.specs.declared.kinds.Kind.TheVariants.{Bad};
 ghost use Rattle.token_texts.specs.declared.cuts.Cut.TheVariants.{Take};
 
 use crate::kinds::Kind;
 use crate::words::word_kind;
-use token_texts::{ByteClass, Cut, begins_with, is_blank, line_length, pair_place, run_length};
+use token_texts::{
+    ByteClass, Cut, begins_with, comment_at, comment_cut, is_blank, line_length, run_length,
+};
 
 /// Any number past the bounds of ranges and selects counts as this.
 const PAST_BOUNDS: u32 = 1_048_576;
@@ -222,28 +223,14 @@ fn escaped_cut(rest: &[u8]) -> Cut<Kind>
     }
 }
 
-/// Behind `/*` or `(*`, which end with the byte `*` and this one.
-fn comment_cut(last: u8, inner: &[u8]) -> Cut<Kind>
-    requires { length inner.now < 2 ^ 32 }
-    ensures { result ≡ comment_cut inner.now (pair_place 42 last inner.now) }
-{
-    match pair_place(b'*', last, inner) {
-        Some(place) => Cut::Skip(place + 4),
-        None => Cut::Take(inner.len() + 2, Kind::Bad),
-    }
-}
-
 /// Behind a slash: a comment, or a byte that begins no token.
 fn slash_cut(rest: &[u8]) -> Cut<Kind>
     requires { length rest.now < 2 ^ 32 }
     ensures { result ≡ slash_cut rest.now }
 {
-    if begins_with(b'/', rest) {
-        Cut::Skip(line_length(rest))
-    } else if begins_with(b'*', rest) {
-        comment_cut(b'/', rest.split_at(1).1)
-    } else {
-        Cut::Take(1, Kind::Bad)
+    match comment_at(Kind::Bad, b'/', rest) {
+        Some(cut) => cut,
+        None => Cut::Take(1, Kind::Bad),
     }
 }
 
@@ -254,7 +241,7 @@ fn paren_cut(rest: &[u8]) -> Cut<Kind>
     ensures { result ≡ paren_cut rest.now }
 {
     if begins_with(b'*', rest) {
-        comment_cut(b')', rest.split_at(1).1)
+        comment_cut(b')', Kind::Bad, rest.split_at(1).1)
     } else {
         Cut::Take(1, Kind::LeftParen)
     }
