@@ -69,7 +69,8 @@ key_of_file corners before = if before == corners + 1 then Spef else input_key c
 
 -- A fault at one of the files has its cause: the count of faults rose, or the shelf tells that it does not hold the file. The files up to
 -- this one were opened.
-pub record IsAnnotationFault (held : Option Held) (corners : ℕ) (files : Files) (faults faults' opens opens' : ℕ) (key : FileKey) : Type 0 where
+pub record IsAnnotationFault (held : Option Held) (corners : ℕ) (files : Files) (faults faults' opens opens' : ℕ)
+    (key : FileKey) : Type 0 where
   pub before : ℕ
   pub name : List ℕ
   pub named : slice_get (files_read files) before ≡ Some name

@@ -7,8 +7,8 @@ ghost use Rattle.delay_annotation.specs.OneTiming.{OneDelays, OneSlews};
 use corner_set::CornerSet;
 
 /// The law of loads and Elmore sums, which its contract states: where the sections of a file are of different nets, a design has one answer
-/// of the phases of its nets. There is one table of loads and Elmore sums, or one refusal, in which one of the resistors of a mesh is named,
-/// and in which an unreached node is told in one of its spellings. It does nothing when it is called.
+/// of the phases of its nets. There is one table of loads and Elmore sums, or one refusal, in which one of the resistors of a mesh is
+/// named, and in which an unreached node is told in one of its spellings. It does nothing when it is called.
 #[tactic(auto, using(crate::proofs::OneDelays::one_delays_answer))]
 pub fn one_delays_answer()
     ensures law { OneDelays }

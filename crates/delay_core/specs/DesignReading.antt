@@ -85,7 +85,8 @@ input_key corners (suc corner) = library_key corners corner
 
 -- A fault at one of these files has its cause: the count of faults rose, or the shelf tells that it does not hold the file. The files
 -- up to this one were opened.
-pub record IsInputFault (held : Option Held) (corners : ℕ) (files : List (List ℕ)) (faults faults' opens opens' : ℕ) (key : FileKey) : Type 0 where
+pub record IsInputFault (held : Option Held) (corners : ℕ) (files : List (List ℕ)) (faults faults' opens opens' : ℕ)
+    (key : FileKey) : Type 0 where
   pub before : ℕ
   pub name : List ℕ
   pub named : slice_get files before ≡ Some name

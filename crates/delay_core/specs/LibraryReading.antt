@@ -52,7 +52,8 @@ pub data ReadsLibraries (held : Option Held) (corners : ℕ) (names : List (List
 
 -- A fault at the library of a corner has its cause: the count of faults rose, or the shelf tells that it does not hold the file. The
 -- files of the corners up to this one were opened.
-pub record IsLibraryFault (held : Option Held) (corners : ℕ) (names : List (List ℕ)) (faults faults' opens opens' : ℕ) (key : FileKey) : Type 0 where
+pub record IsLibraryFault (held : Option Held) (corners : ℕ) (names : List (List ℕ)) (faults faults' opens opens' : ℕ)
+    (key : FileKey) : Type 0 where
   pub corner : ℕ
   pub name : List ℕ
   pub within : corner < corners

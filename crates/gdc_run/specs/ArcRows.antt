@@ -1,4 +1,5 @@
--- The rows of a cell's arcs at one slew of their inputs and one load of their outputs, where a way is chosen to go past the ends of an axis.
+-- The rows of a cell's arcs at one slew of their inputs and one load of their outputs, by the way that is chosen to go past the ends of
+-- an axis.
 use Rattle.std.specs.Prelude.{◌≡◌, ℕ, ℤ, List, [], ◌∷◌, ◌++◌, flat_map, slice_get, Option, Some, None, Result, Ok, Err, All}
 use Rattle.std.specs.List.{AllZip}
 use Rattle.nldm_lookup.specs.Interpolant.{IsInterpolant, IsLookupEnd}

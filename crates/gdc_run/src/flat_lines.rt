@@ -114,7 +114,8 @@ pub(crate) fn write_line<O: Sink>(
     out: &mut O,
 ) -> Result<(), Failed>
     requires { HasLine design.now line }
-    ensures writes { Writes (line_text design.now line) (O.written out.old) (O.written out.new) (O.faults out.old) (O.faults out.new) result }
+    ensures writes { Writes (line_text design.now line) (O.written out.old) (O.written out.new)
+        (O.faults out.old) (O.faults out.new) result }
 {
     match line {
         Line::Instance(i) => write_instance(design, i, out),

@@ -21,17 +21,21 @@ module _ (modules : List NetModule) (top : ℕ) where
     pub path : IsPath modules top met.path
     pub within : met.instance < instance_count modules (module_on modules top met.path)
 
-  walk-stands : (levels : ℕ) (path : List ℕ) → IsPath modules top path → All StandsIn (walk modules levels path (module_on modules top path))
+  walk-stands : (levels : ℕ) (path : List ℕ) → IsPath modules top path
+      → All StandsIn (walk modules levels path (module_on modules top path))
   unfolding walk
   walk-stands zero path is_path = All-nil StandsIn
   walk-stands (suc levels) path is_path =
       joined-all StandsIn (met_at modules (walk modules levels) path (module_on modules top path)) 0
-      (instance_count modules (module_on modules top path)) (λ k low high. met k (omega arith) (λ lower. walk-stands levels (k ∷ path) (is_path, lower)))
+      (instance_count modules (module_on modules top path))
+      (λ k low high. met k (omega arith) (λ lower. walk-stands levels (k ∷ path) (is_path, lower)))
     where
       met : (k : ℕ) → k < instance_count modules (module_on modules top path)
-          → (HasLower modules top (module_on modules top path) k → All StandsIn (walk modules levels (k ∷ path) (module_on modules top (k ∷ path))))
+          → (HasLower modules top (module_on modules top path) k
+          → All StandsIn (walk modules levels (k ∷ path) (module_on modules top (k ∷ path))))
           → All StandsIn (met_at modules (walk modules levels) path (module_on modules top path) k)
-      met k within below = All-cons StandsIn (record { path = path; instance = k }) (behind (is_hierarchy modules (module_on modules top path) k))
+      met k within below = All-cons StandsIn (record { path = path; instance = k })
+          (behind (is_hierarchy modules (module_on modules top path) k))
           (record { path = is_path; within = within }) (by (is_hierarchy modules (module_on modules top path) k) refl)
         where
           behind : Bool → List Met
@@ -55,8 +59,13 @@ module _ (modules : List NetModule) (top : ℕ) where
 
       by : (is : Bool) → is_module modules top met ≡ is → StandsIn met → All (IsPath modules top) (filter_map (entered modules top) mets)
           → All (IsPath modules top) (filter_map (entered modules top) (met ∷ mets))
-      by true is stands rest = rw is (All-cons (IsPath modules top) (met.instance ∷ met.path) (filter_map (entered modules top) mets)
-          (stands.path, (stands.within, ltb-true (lower_of modules (module_on modules top met.path) met.instance) (length modules) is)) rest)
+      by true is stands rest = rw is (All-cons (IsPath modules top) (met.instance ∷ met.path) (filter_map (entered modules top) mets) (
+        stands.path,
+        (
+          stands.within,
+          ltb-true (lower_of modules (module_on modules top met.path) met.instance) (length modules) is,
+        ),
+      ) rest)
       by false is stands rest = rw is rest
 
   -- each visited module is at the end of a path

@@ -21,7 +21,8 @@ pub fn one_answer()
     ensures delays { (inputs : Inputs) (missing : Missing) (one other : NetTimes) → AreDistinct (net_names inputs.sections)
         → AreNetDelays inputs missing one → AreNetDelays inputs missing other → one ≡ other }
     ensures either { (inputs : Inputs) (missing : Missing) (times : NetTimes) (end : ParasiticsEnd)
-        → AreDistinct (net_names inputs.sections) → 0 < inputs.count → AreNetDelays inputs missing times → IsParasiticsEnd inputs missing end → end ≡ OutOfMemory }
+        → AreDistinct (net_names inputs.sections) → 0 < inputs.count → AreNetDelays inputs missing times
+        → IsParasiticsEnd inputs missing end → end ≡ OutOfMemory }
     ensures ends { (inputs : Inputs) (missing : Missing) (one other : ParasiticsEnd) → AreDistinct (net_names inputs.sections)
         → 0 < inputs.count → IsParasiticsEnd inputs missing one → IsParasiticsEnd inputs missing other → IsSameEnd one other }
 {}

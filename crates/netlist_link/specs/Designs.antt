@@ -49,7 +49,8 @@ pub record IsSound (d : Design) : Type 0 where
 
 -- the place is that of the cell of an instance that is met
 abbrev pub IsCellPlace : List NamedCells → Design → ℕ → ℕ → Type 0
-IsCellPlace cells d i c = c ≡ position_or_len (bytes_eq (met_instance d.modules.now (top_of d.walk.now) (met_of d i)).cell) (set_names cells)
+IsCellPlace cells d i c =
+    c ≡ position_or_len (bytes_eq (met_instance d.modules.now (top_of d.walk.now) (met_of d i)).cell) (set_names cells)
 
 -- the names of the pins of each cell differ
 abbrev pub HaveDistinctPins : List NamedCells → Type 0

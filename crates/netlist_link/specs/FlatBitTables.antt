@@ -74,7 +74,8 @@ HoldVisits d many = HoldBits d many (targets_before d many) (nets_before d many)
 
 -- the visited modules before this one are kept, and the first so many of its names
 abbrev pub HoldNames : Design → ℕ → ℕ → FlatBits → Type 0
-HoldNames d v i = HoldBits d (v + 1) (targets_before d v ++ joined_from (targets_of_name d.modules.now (top_of d.walk.now) (path_of d v)) 0 i)
+HoldNames d v i =
+    HoldBits d (v + 1) (targets_before d v ++ joined_from (targets_of_name d.modules.now (top_of d.walk.now) (path_of d v)) 0 i)
     (nets_before d v ++ joined_from (nets_of_name d.modules.now (top_of d.walk.now) (path_of d v)) 0 i)
 
 -- the bits of a visited module are among those that are kept

@@ -194,10 +194,12 @@ fn joint_at(design: &Design<'_>, i: usize, cell: usize, port: &[u8]) -> Option<K
     requires within { i < length design.now.walk.now.met }
     requires cell { IsOfCell design.now i → cell < length design.now.pins.now }
     ensures joint { (cells : List NamedCells) → AreAllPins cells (length cells) design.now.pins.now → HaveDistinctPins cells
-        → (is_module design.now.modules.now (top_of design.now.walk.now) (met_of design.now i) ≡ false → IsCellPlace cells design.now i cell)
+        → (is_module design.now.modules.now (top_of design.now.walk.now) (met_of design.now i) ≡ false
+        → IsCellPlace cells design.now i cell)
         → joint_in result ≡ joint_here cells design.now i port.now }
     ensures number { (cells : List NamedCells) → AreAllPins cells (length cells) design.now.pins.now → HaveDistinctPins cells
-        → (is_module design.now.modules.now (top_of design.now.walk.now) (met_of design.now i) ≡ false → IsCellPlace cells design.now i cell)
+        → (is_module design.now.modules.now (top_of design.now.walk.now) (met_of design.now i) ≡ false
+        → IsCellPlace cells design.now i cell)
         → IfSome result (λ joint. joint.number ≡ number_here cells design.now i port.now) }
 {
     let met = design.walk.met();

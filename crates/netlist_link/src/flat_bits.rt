@@ -40,7 +40,8 @@ impl NamePlaces {
     /// The bits of the names of a module before this one.
     pub fn before(&self, m: usize, name: usize) -> usize
         requires { HasPlace self.now m name }
-        ensures { (modules : List NetModule) → AreNamePlaces modules self.now → m < length modules → name ≤ length (module_at modules m).names
+        ensures { (modules : List NetModule) → AreNamePlaces modules self.now → m < length modules
+            → name ≤ length (module_at modules m).names
             → result ≡ bits_before (module_at modules m).names name }
     {
         self.bits[self.starts[m] as usize + name] as usize
@@ -129,7 +130,8 @@ impl FlatBits {
 
     // Puts a new net at the end, for a bit of a name in a visited module.
     fn add_net(&mut self, place: NetPlace) -> Result<(), OutOfMemory>
-        ensures { (d : Design) (started : ℕ) (targets : List (Option NetBit)) (nets : List NetBit) → HoldBits d started targets nets self.old
+        ensures { (d : Design) (started : ℕ) (targets : List (Option NetBit)) (nets : List NetBit)
+            → HoldBits d started targets nets self.old
             → IsBitOf d place.visit place.name place.bit → OnOk result (HoldBits d started (targets ++ Some (net_bit_of d place) ∷ [])
             (nets ++ net_bit_of d place ∷ []) self.new) }
     {
@@ -174,7 +176,8 @@ impl FlatBits {
         requires within { AreWithin (names_of design.now visit) run.first run.count }
         ensures { (started : ℕ) (targets : List (Option NetBit)) (nets : List NetBit) → HoldBits design.now started targets nets self.old
             → OnOk result (HoldBits design.now started (targets
-            ++ map (wired design.now.modules.now (top_of design.now.walk.now) (path_of design.now visit)) (bits_of_run run)) nets self.new) }
+            ++ map (wired design.now.modules.now (top_of design.now.walk.now) (path_of design.now visit)) (bits_of_run run))
+            nets self.new) }
     {
         let m = design.walk.visits()[visit].module as usize;
         for number in 0..run.count {
