@@ -3,10 +3,11 @@ use Rattle.std.proofs.Common.{◌≡◌, ℕ, ◌+◌, ◌-◌, Bool, true, fals
 use Rattle.std.specs.List.{flat_map}
 use Rattle.std.proofs.Math.Seq.{take-append_seam, drop-append_seam}
 use Rattle.std.proofs.lemmas.List.{length-append}
-use Rattle.token_texts.specs.Quoted.{quote_end}
+use Rattle.token_texts.specs.Quoted.{quote_end, quoted_to}
+use Rattle.token_texts.specs.declared.quoted.Escape.TheVariants.{NextByte}
 use Rattle.token_texts.specs.CutLemmas.{take_one}
-use Rattle.sdf_reader.specs.Tokens.{text_end, text_cut, cut_at, Lexeme, AreTokens, said_behind, meaning}
-use Rattle.sdf_reader.specs.declared.scan.Kind.TheVariants.{Quoted}
+use Rattle.sdf_reader.specs.Tokens.{cut_at, Lexeme, AreTokens, said_behind, meaning}
+use Rattle.sdf_reader.specs.declared.scan.Kind.TheVariants.{Quoted, OpenQuoted}
 use Rattle.token_texts.specs.declared.cuts.Cut.TheVariants.{Take}
 use Rattle.sdf_reader.proofs.Cutting.{cut_quote}
 use Rattle.sdf_writer.specs.SdfText.{escaped, quoted}
@@ -20,23 +21,23 @@ abbrev next : Option ℕ → Option ℕ
 next found = option_map (λ place. place + 1) found
 
 -- a byte that stands as it is, and one behind a backslash
-end_plain : (byte : ℕ) (rest : List ℕ) → (byte == 34) ≡ false → (byte == 92) ≡ false → text_end false (byte ∷ rest) ≡ next (text_end false rest)
+end_plain : (byte : ℕ) (rest : List ℕ) → (byte == 34) ≡ false → (byte == 92) ≡ false → quote_end NextByte false (byte ∷ rest) ≡ next (quote_end NextByte false rest)
 unfolding quote_end
 end_plain byte rest p q =
-    ap (λ t. cond (t && true) (Some 0) (next (text_end (byte == 92 && true) rest))) p
-    ∙ ap (λ t. next (text_end (t && true) rest)) q
+    ap (λ t. cond (t && true) (Some 0) (next (quote_end NextByte (byte == 92 && true) rest))) p
+    ∙ ap (λ t. next (quote_end NextByte (t && true) rest)) q
 
 and_false : (p : Bool) → (p && false) ≡ false
 and_false true = refl
 and_false false = refl
 
-end_taken : (byte : ℕ) (rest : List ℕ) → text_end true (byte ∷ rest) ≡ next (text_end false rest)
+end_taken : (byte : ℕ) (rest : List ℕ) → quote_end NextByte true (byte ∷ rest) ≡ next (quote_end NextByte false rest)
 unfolding quote_end
 end_taken byte rest =
-    ap (λ t. cond t (Some 0) (next (text_end (byte == 92 && false) rest))) (and_false (byte == 34))
-    ∙ ap (λ t. next (text_end t rest)) (and_false (byte == 92))
+    ap (λ t. cond t (Some 0) (next (quote_end NextByte (byte == 92 && false) rest))) (and_false (byte == 34))
+    ∙ ap (λ t. next (quote_end NextByte t rest)) (and_false (byte == 92))
 
-end_slash : (rest : List ℕ) → text_end false (92 ∷ rest) ≡ next (text_end true rest)
+end_slash : (rest : List ℕ) → quote_end NextByte false (92 ∷ rest) ≡ next (quote_end NextByte true rest)
 unfolding quote_end
 end_slash rest = refl
 
@@ -54,7 +55,7 @@ said_slash rest = refl
 
 -- a byte of the text
 record Passes (byte : ℕ) (piece : List ℕ) : Type 0 where
-  ends : (rest : List ℕ) (place : ℕ) → text_end false rest ≡ Some place → text_end false (piece ++ rest) ≡ Some (length piece + place)
+  ends : (rest : List ℕ) (place : ℕ) → quote_end NextByte false rest ≡ Some place → quote_end NextByte false (piece ++ rest) ≡ Some (length piece + place)
   said : (rest : List ℕ) → said_behind false (piece ++ rest) ≡ byte ∷ said_behind false rest
 
 by_one : (place : ℕ) → next (Some place) ≡ Some (1 + place)
@@ -83,11 +84,11 @@ passes byte = by (byte == 34) (byte == 92) refl refl
     by false true p q = passes_taken byte
     by false false p q = passes_plain byte p q
 
-end_of : (text rest : List ℕ) → text_end false (inner text ++ 34 ∷ rest) ≡ Some (length (inner text))
+end_of : (text rest : List ℕ) → quote_end NextByte false (inner text ++ 34 ∷ rest) ≡ Some (length (inner text))
 unfolding quote_end
 end_of [] rest = refl
 end_of (byte ∷ text) rest =
-    ap (text_end false) (append_assoc (escaped byte) (inner text) (34 ∷ rest))
+    ap (quote_end NextByte false) (append_assoc (escaped byte) (inner text) (34 ∷ rest))
     ∙ (passes byte).ends (inner text ++ 34 ∷ rest) (length (inner text)) (end_of text rest)
     ∙ ap (λ n. Some n) (sym (length-append (escaped byte) (inner text)))
 
@@ -108,7 +109,7 @@ cut_there : (text rest : List ℕ) → cut_at 34 ((inner text ++ 34 ∷ []) ++ r
 cut_there text rest =
     let whole : (inner text ++ 34 ∷ []) ++ rest ≡ inner text ++ 34 ∷ rest = append_assoc (inner text) (34 ∷ []) rest in
     let size : length (inner text) + 2 ≡ length (quoted text) = let e = length-append (inner text) (34 ∷ []) in omega (arith, e) in
-    ap (cut_at 34) whole ∙ cut_quote (inner text ++ 34 ∷ rest) ∙ ap (text_cut (inner text ++ 34 ∷ rest)) (end_of text rest) ∙ ap (λ n. Take n Quoted) size
+    ap (cut_at 34) whole ∙ cut_quote (inner text ++ 34 ∷ rest) ∙ ap (quoted_to Quoted OpenQuoted (inner text ++ 34 ∷ rest)) (end_of text rest) ∙ ap (λ n. Take n Quoted) size
 
 pub quoted_at : (text rest : List ℕ) (others : List Lexeme) → AreTokens rest others → AreTokens (quoted text ++ rest) (text_token text ∷ others)
 quoted_at text rest others are =

@@ -1,9 +1,9 @@
 -- The bytes of an SDF file (IEEE 1497-2001), and the tokens that they are parted into.
-use Rattle.std.specs.Prelude.{ℕ, zero, suc, ◌+◌, ◌-◌, Bool, true, false, not, ◌&&◌, ◌||◌, ◌==◌, nat_le, if◌then◌else◌, List, [], ◌∷◌, length, take, drop, Option, Some, None}
-use Rattle.edge_io.specs.Bytes.{quote, left_paren, right_paren, star, slash, backslash, begins_with}
+use Rattle.std.specs.Prelude.{ℕ, zero, suc, ◌-◌, Bool, true, false, not, ◌&&◌, ◌||◌, ◌==◌, nat_le, if◌then◌else◌, List, [], ◌∷◌, length, take, drop, unwrap_or}
+use Rattle.edge_io.specs.Bytes.{quote, left_paren, right_paren, backslash}
 use Rattle.token_texts.specs.Blanks.{is_blank}
-use Rattle.token_texts.specs.Comments.{line_length, comment_end}
-use Rattle.token_texts.specs.Quoted.{takes, quote_end}
+use Rattle.token_texts.specs.Comments.{comment_at}
+use Rattle.token_texts.specs.Quoted.{takes, quoted_cut}
 use Rattle.token_texts.specs.Runs.{escaped_run_length}
 use Rattle.token_texts.specs.declared.quoted.Escape.TheVariants.{NextByte}
 use Rattle.sdf_reader.specs.declared.scan.Kind.{Kind}
@@ -20,38 +20,21 @@ is_plain byte = nat_le 33 byte && not (byte == left_paren || byte == right_paren
 abbrev pub word_length : List ℕ → ℕ
 word_length bytes = escaped_run_length is_plain bytes
 
--- Bytes behind a quote: the place of the quote that ends the text. A backslash takes the next byte with it; `taken` says that one stands
--- before these bytes.
-abbrev pub text_end : Bool → List ℕ → Option ℕ
-text_end taken bytes = quote_end NextByte taken bytes
-
--- A `/*` with `inner` behind it, where the comment ends at this place: it is passed over, or it is open and takes all.
-abbrev pub comment_cut : List ℕ → Option ℕ → Cut Kind
-comment_cut inner None = Take (length inner + 2) OpenNote
-comment_cut inner (Some place) = Skip (place + 4)
-
--- A quote with `rest` behind it, in which the text ends at this place: a text, or an open one, which takes all.
-abbrev pub text_cut : List ℕ → Option ℕ → Cut Kind
-text_cut rest None = Take (length rest + 1) OpenQuoted
-text_cut rest (Some place) = Take (place + 2) Quoted
-
 -- Bytes of which a word takes so many: that word, or a byte that begins no token. A control byte does not, and neither does a backslash at
 -- the end.
 abbrev pub word_cut : List ℕ → ℕ → Cut Kind
 word_cut bytes zero = Take (length bytes) Bad
 word_cut bytes (suc more) = Take (suc more) Word
 
--- What stands at the front of `first ∷ rest`: bytes that are passed over, or a token. What no text of the grammar has is a token that takes
--- all.
+-- What stands at the front of `first ∷ rest`: bytes that are passed over, or a token. In a text a backslash takes the next byte with it.
+-- What no text of the grammar has is a token that takes all.
 unfoldable pub cut_at : ℕ → List ℕ → Cut Kind
 cut_at first rest =
     if is_blank first then Skip 1
     else (if first == left_paren then Take 1 LeftParen
     else (if first == right_paren then Take 1 RightParen
-    else (if first == quote then text_cut rest (text_end false rest)
-    else (if first == slash && begins_with slash rest then Skip (line_length rest)
-    else (if first == slash && begins_with star rest then comment_cut (drop 1 rest) (comment_end (drop 1 rest))
-    else word_cut (first ∷ rest) (word_length (first ∷ rest)))))))
+    else (if first == quote then quoted_cut NextByte Quoted OpenQuoted rest
+    else unwrap_or (comment_at OpenNote first rest) (word_cut (first ∷ rest) (word_length (first ∷ rest))))))
 
 -- what no text of the grammar has: a byte that begins no token, and a text and a comment that do not end
 abbrev pub is_broken : Kind → Bool

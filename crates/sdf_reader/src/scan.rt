@@ -1,13 +1,9 @@
 //! Parts a file's bytes into tokens.
-ghost use Rattle.std.specs.Prelude.{◌≡◌, ◌+◌, ◌^◌, ◌<◌, ◌≤◌, ◌∷◌, false, length};
-ghost use Rattle.token_texts.specs.Comments.{comment_end};
-ghost use Rattle.sdf_reader.specs.Tokens.{is_plain, word_length, text_end, comment_cut, text_cut, word_cut, cut_at};
+ghost use Rattle.std.specs.Prelude.{◌≡◌, ◌^◌, ◌<◌, ◌∷◌, length};
+ghost use Rattle.sdf_reader.specs.Tokens.{is_plain, word_length, word_cut, cut_at};
 ghost use Rattle.token_texts.specs.Cuts.{IsWithin};
 
-use token_texts::{
-    ByteClass, Cut, Escape, begins_with, comment_end, escaped_run_length, is_blank, line_length,
-    quote_end,
-};
+use token_texts::{ByteClass, Cut, Escape, comment_at, escaped_run_length, is_blank, quoted_cut};
 
 /// What a token is.
 #[derive(Clone, Copy, PartialEq, Eq, Debug)]
@@ -38,31 +34,6 @@ impl ByteClass for PlainBytes {
     }
 }
 
-/// Behind a quote: a text, or an open one.
-#[inline]
-fn text_cut(rest: &[u8]) -> Cut<Kind>
-    requires { length rest.now < 2 ^ 32 }
-    ensures value { result ≡ text_cut rest.now (text_end false rest.now) }
-    ensures within { IsWithin (length rest.now + 1) result }
-{
-    match quote_end(Escape::NextByte, rest) {
-        Some(place) => Cut::Take(place + 2, Kind::Quoted),
-        None => Cut::Take(rest.len() + 1, Kind::OpenQuoted),
-    }
-}
-
-/// Behind the `/*` of a comment.
-fn comment_cut(inner: &[u8]) -> Cut<Kind>
-    requires { length inner.now < 2 ^ 32 }
-    ensures value { result ≡ comment_cut inner.now (comment_end inner.now) }
-    ensures within { IsWithin (length inner.now + 2) result }
-{
-    match comment_end(inner) {
-        Some(place) => Cut::Skip(place + 4),
-        None => Cut::Take(inner.len() + 2, Kind::OpenNote),
-    }
-}
-
 /// A word, or a byte that begins no token.
 #[inline]
 fn word_cut(bytes: &[u8]) -> Cut<Kind>
@@ -75,22 +46,6 @@ fn word_cut(bytes: &[u8]) -> Cut<Kind>
         Cut::Take(length, Kind::Word)
     } else {
         Cut::Take(bytes.len(), Kind::Bad)
-    }
-}
-
-/// At a slash, with `rest` behind it: a comment, or a word.
-fn slash_cut(bytes: &[u8], rest: &[u8]) -> Cut<Kind>
-    requires parts { bytes.now ≡ 47 ∷ rest.now }
-    requires bytes { length bytes.now < 2 ^ 32 }
-    ensures value { result ≡ cut_at 47 rest.now }
-    ensures within { IsWithin (length bytes.now) result }
-{
-    if begins_with(b'/', rest) {
-        Cut::Skip(line_length(rest))
-    } else if begins_with(b'*', rest) {
-        comment_cut(rest.split_at(1).1)
-    } else {
-        word_cut(bytes)
     }
 }
 
@@ -109,9 +64,9 @@ pub(crate) fn cut_at(bytes: &[u8], first: u8, rest: &[u8]) -> Cut<Kind>
     } else if first == b')' {
         Cut::Take(1, Kind::RightParen)
     } else if first == b'"' {
-        text_cut(rest)
-    } else if first == b'/' {
-        slash_cut(bytes, rest)
+        quoted_cut(Escape::NextByte, Kind::Quoted, Kind::OpenQuoted, rest)
+    } else if let Some(comment) = comment_at(Kind::OpenNote, first, rest) {
+        comment
     } else {
         word_cut(bytes)
     }
