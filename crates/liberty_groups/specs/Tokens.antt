@@ -1,10 +1,10 @@
 -- The bytes of a Liberty file (Liberty User Guide), and the tokens that they are parted into.
-use Rattle.std.specs.Prelude.{◌≡◌, ℕ, zero, suc, ◌+◌, ◌-◌, Bool, true, false, not, ◌&&◌, ◌||◌, ◌==◌, nat_le, nat_lt, if◌then◌else◌, List, [], ◌∷◌, length, take, drop, count_by, slice_index, position, Option, Some, None}
+use Rattle.std.specs.Prelude.{◌≡◌, ℕ, zero, suc, ◌+◌, ◌-◌, Bool, true, false, not, ◌&&◌, ◌||◌, ◌==◌, nat_le, nat_lt, if◌then◌else◌, List, [], ◌∷◌, length, take, drop, count_by, slice_index, position, Option, Some, None, unwrap_or}
 use Rattle.std.specs.List.{list_any}
 use Rattle.edge_io.specs.Bytes.{tab, carriage_return, space, quote, left_paren, right_paren, star, comma, slash, colon, semicolon, left_bracket, backslash, right_bracket, left_brace, right_brace, begins_with}
 use Rattle.token_texts.specs.Blanks.{is_blank, is_line_end}
-use Rattle.token_texts.specs.Comments.{line_length, comment_end}
-use Rattle.token_texts.specs.Quoted.{quote_end}
+use Rattle.token_texts.specs.Comments.{comment_at}
+use Rattle.token_texts.specs.Quoted.{quoted_cut}
 use Rattle.token_texts.specs.declared.quoted.Escape.TheVariants.{NextQuote}
 use Rattle.liberty_groups.specs.declared.scan.Kind.{Kind}
 use Rattle.liberty_groups.specs.declared.scan.Kind.TheVariants.{Word, Quoted, LeftParen, RightParen, LeftBrace, RightBrace, Colon, Semicolon, Comma, Bad, OpenQuoted, OpenNote}
@@ -24,10 +24,6 @@ continued_to rest (Some place) = if is_line_end (slice_index rest place) then pl
 
 abbrev pub continuation : List ℕ → ℕ
 continuation rest = continued_to rest (position ends_gap rest)
-
--- A quote with `rest` behind it: the place in `rest` of the quote that ends the text. A quote right behind a backslash does not.
-abbrev pub text_end : Bool → List ℕ → Option ℕ
-text_end escaped bytes = quote_end NextQuote escaped bytes
 
 -- a backslash that is dropped: it makes the quote behind it a part of the text, or begins a continuation
 abbrev pub is_dropped : ℕ → List ℕ → Bool
@@ -82,34 +78,22 @@ unfoldable pub word_length : ℕ → List ℕ → ℕ
 word_length opened [] = 0
 word_length opened (byte ∷ rest) = if goes_on opened byte rest then word_length (opened_behind opened byte) rest + 1 else 0
 
--- A `/*` with `inner` behind it, where the comment ends at this place: it is passed over, or it is open and takes all.
-abbrev pub comment_cut : List ℕ → Option ℕ → Cut Kind
-comment_cut inner None = Take (length inner + 2) OpenNote
-comment_cut inner (Some place) = Skip (place + 4)
-
 -- A backslash with `rest` behind it, of which so many bytes belong to a continuation.
 abbrev pub backslash_cut : List ℕ → ℕ → Cut Kind
 backslash_cut rest length_of = if nat_lt 0 length_of then Skip (length_of + 1) else Take (length rest + 1) Bad
-
--- A quote with `rest` behind it, in which the text ends at this place: a text, or an open one, which takes all.
-abbrev pub text_cut : List ℕ → Option ℕ → Cut Kind
-text_cut rest None = Take (length rest + 1) OpenQuoted
-text_cut rest (Some place) = Take (place + 2) Quoted
 
 abbrev pub mark_or_word : ℕ → List ℕ → Option Kind → Cut Kind
 mark_or_word first rest (Some kind) = Take 1 kind
 mark_or_word first rest None = if is_plain first then Take (word_length 0 (first ∷ rest)) Word else Take (length rest + 1) Bad
 
--- What stands at the front of `first ∷ rest`: bytes that are passed over, or a token. What no text of the grammar has is a token that takes
--- all.
+-- What stands at the front of `first ∷ rest`: bytes that are passed over, or a token. A quote right behind a backslash does not end a
+-- text. What no text of the grammar has is a token that takes all.
 unfoldable pub cut_at : ℕ → List ℕ → Cut Kind
 cut_at first rest =
     if is_blank first then Skip 1
-    else (if first == quote then text_cut rest (text_end false rest)
+    else (if first == quote then quoted_cut NextQuote Quoted OpenQuoted rest
     else (if first == backslash then backslash_cut rest (continuation rest)
-    else (if first == slash && begins_with slash rest then Skip (line_length rest)
-    else (if first == slash && begins_with star rest then comment_cut (drop 1 rest) (comment_end (drop 1 rest))
-    else mark_or_word first rest (mark_of first)))))
+    else unwrap_or (comment_at OpenNote first rest) (mark_or_word first rest (mark_of first))))
 
 -- what no text of the grammar has: a byte that begins no token, and a text and a comment that do not end
 abbrev pub is_broken : Kind → Bool

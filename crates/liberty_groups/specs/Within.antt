@@ -1,18 +1,19 @@
 -- What stands at the front of some bytes has a byte, and none past the end.
 use Rattle.std.proofs.Common.{◌≡◌, ℕ, suc, ◌+◌, ◌<◌, ◌≤◌, Bool, true, false, cond, ◌&&◌, ◌||◌, ◌==◌, List, [], ◌∷◌, length, drop, Option, Some, None, position, refl, sym, ap, subst, arith, nat_lt}
-use Rattle.std.specs.Prelude.{slice_index}
+use Rattle.std.specs.Prelude.{slice_index, unwrap_or}
 use Rattle.std.proofs.lemmas.List.Quantifiers.{position-Some}
 use Rattle.edge_io.specs.Bytes.{quote, left_paren, right_paren, star, comma, slash, colon, semicolon, backslash, left_brace, right_brace, begins_with}
 use Rattle.token_texts.specs.Blanks.{is_blank, is_line_end}
-use Rattle.token_texts.specs.Comments.{line_length, comment_end}
-use Rattle.token_texts.specs.CommentLemmas.{line_within, pair_within}
-use Rattle.token_texts.specs.QuotedLemmas.{quote_within}
+use Rattle.token_texts.specs.Comments.{line_length, comment_cut, comment_at}
+use Rattle.token_texts.specs.Quoted.{quoted_cut}
+use Rattle.token_texts.specs.CommentLemmas.{comment_or_within}
+use Rattle.token_texts.specs.QuotedLemmas.{quoted_within}
 use Rattle.token_texts.specs.declared.quoted.Escape.TheVariants.{NextQuote}
 use Rattle.token_texts.specs.Cuts.{IsWithin}
 use Rattle.liberty_groups.specs.Cuts.{word_cut}
-use Rattle.liberty_groups.specs.Tokens.{is_plain, is_mark, mark_of, begins_comment, goes_on, opened_behind, continuation, continued_to, ends_gap, text_end, text_cut, backslash_cut, comment_cut, mark_or_word, word_length, cut_at}
+use Rattle.liberty_groups.specs.Tokens.{is_plain, is_mark, mark_of, begins_comment, goes_on, opened_behind, continuation, continued_to, ends_gap, backslash_cut, mark_or_word, word_length, cut_at}
 use Rattle.liberty_groups.specs.declared.scan.Kind.{Kind}
-use Rattle.liberty_groups.specs.declared.scan.Kind.TheVariants.{Word, Bad, LeftParen, RightParen, LeftBrace, RightBrace, Colon, Semicolon, Comma}
+use Rattle.liberty_groups.specs.declared.scan.Kind.TheVariants.{Word, Quoted, Bad, OpenQuoted, OpenNote, LeftParen, RightParen, LeftBrace, RightBrace, Colon, Semicolon, Comma}
 use Rattle.token_texts.specs.declared.cuts.Cut.TheVariants.{Skip, Take}
 
 -- a word's first byte goes on with it
@@ -45,10 +46,6 @@ pub no_mark : (first : ℕ) → mark_of first ≡ None → is_mark first ≡ fal
 no_mark first e = none_of (first == left_paren) (first == right_paren) (first == left_brace) (first == right_brace) (first == colon)
     (first == semicolon) (first == comma) e
 
-text_within : (rest : List ℕ) (end : Option ℕ) → ((i : ℕ) → end ≡ Some i → i < length rest) → IsWithin (length rest + 1) (text_cut rest end)
-text_within rest None below = (omega arith, omega arith)
-text_within rest (Some place) below = let lt = below place refl in (omega arith, omega arith)
-
 continued_within : (rest : List ℕ) (end : Option ℕ) → ((i : ℕ) → end ≡ Some i → i < length rest) → continued_to rest end ≤ length rest
 continued_within rest None below = omega arith
 continued_within rest (Some place) below =
@@ -59,23 +56,6 @@ backslash_within : (rest : List ℕ) (n : ℕ) → n ≤ length rest → IsWithi
 backslash_within rest n le = elim (nat_lt 0 n) as
     (λ t. IsWithin (length rest + 1) (cond t (Skip (n + 1)) (Take (length rest + 1) Bad)))
     [ true ↦ (omega arith, omega arith) | false ↦ (omega arith, omega arith) ]
-
-comment_cut_within : (inner : List ℕ) (end : Option ℕ) → ((i : ℕ) → end ≡ Some i → i + 2 ≤ length inner)
-    → IsWithin (length inner + 2) (comment_cut inner end)
-comment_cut_within inner None below = (omega arith, omega arith)
-comment_cut_within inner (Some place) below = let le = below place refl in (omega arith, omega arith)
-
-second : (s t : Bool) → s && t ≡ true → t ≡ true
-second true t h = h
-second false t h = absurd (cc)
-
-comment_within : (rest : List ℕ) → begins_with star rest ≡ true
-    → IsWithin (length rest + 1) (comment_cut (drop 1 rest) (comment_end (drop 1 rest)))
-comment_within [] h = absurd (cc)
-comment_within (b ∷ rest) h =
-    let within = comment_cut_within rest (comment_end rest) (pair_within star slash rest) in
-    let e : length rest + 2 ≡ length (b ∷ rest) + 1 = omega arith in
-    subst (λ (n : ℕ). IsWithin n (comment_cut rest (comment_end rest))) e within
 
 word_within : (opened : ℕ) (bytes : List ℕ) → word_length opened bytes ≤ length bytes
 unfolding word_length
@@ -92,11 +72,16 @@ word_cut_within first rest =
     (cond t (Take (word_length (opened_behind 0 first) rest + 1) Word) (Take (length rest + 1) Bad)))
     [ true ↦ (omega arith, omega arith) | false ↦ (omega arith, omega arith) ]
 
-no_comment : (x a b : Bool) → (x && a) ≡ false → (x && b) ≡ false → (x && (b || a)) ≡ false
-no_comment true true b p q = absurd (cc)
-no_comment true false true p q = absurd (cc)
-no_comment true false false p q = refl
-no_comment false a b p q = refl
+pub no_comment : (first : ℕ) (rest : List ℕ) → comment_at OpenNote first rest ≡ None → begins_comment first rest ≡ false
+no_comment first rest none = by (first == slash) (begins_with slash rest) (begins_with star rest) none
+  where
+    by : (slanted line block : Bool)
+        → cond slanted (cond line (Some (Skip (line_length rest))) (cond block (Some (comment_cut slash OpenNote (drop 1 rest))) None)) None
+        ≡ None → (slanted && (block || line)) ≡ false
+    by false line block none = refl
+    by true true block none = absurd (cc)
+    by true false true none = absurd (cc)
+    by true false false none = refl
 
 other_within : (first : ℕ) (rest : List ℕ) (mark : Option Kind) → mark_of first ≡ mark → begins_comment first rest ≡ false
     → IsWithin (length rest + 1) (mark_or_word first rest mark)
@@ -108,32 +93,21 @@ other_within first rest None is no_begin =
 pub cut_within : (first : ℕ) (rest : List ℕ) → IsWithin (length rest + 1) (cut_at first rest)
 unfolding cut_at
 cut_within first rest =
-    by (is_blank first) (first == quote) (first == backslash) (first == slash && begins_with slash rest)
-    (first == slash && begins_with star rest)
-    (text_within rest (text_end false rest) (quote_within NextQuote false rest))
+    by (is_blank first) (first == quote) (first == backslash)
+    (quoted_within Quoted OpenQuoted NextQuote rest)
     (backslash_within rest (continuation rest)
     (continued_within rest (position ends_gap rest) (λ i e. (position-Some ends_gap rest i 0 e).0)))
-    (line_within rest)
-    (λ h. comment_within rest (second (first == slash) (begins_with star rest) h))
-    (λ p q. other_within first rest (mark_of first) refl (no_comment (first == slash) (begins_with slash rest) (begins_with star rest) p q))
-    refl refl
+    (comment_or_within OpenNote first rest (mark_or_word first rest (mark_of first))
+    (λ none. other_within first rest (mark_of first) refl (no_comment first rest none)))
   where
-    by : (blank text gap line comment : Bool)
-        → IsWithin (length rest + 1) (text_cut rest (text_end false rest))
+    by : (blank text gap : Bool)
+        → IsWithin (length rest + 1) (quoted_cut NextQuote Quoted OpenQuoted rest)
         → IsWithin (length rest + 1) (backslash_cut rest (continuation rest))
-        → IsWithin {K = Kind} (length rest + 1) (Skip (line_length rest))
-        → (comment ≡ true → IsWithin (length rest + 1) (comment_cut (drop 1 rest) (comment_end (drop 1 rest))))
-        → ((first == slash && begins_with slash rest) ≡ false → (first == slash && begins_with star rest) ≡ false
-        → IsWithin (length rest + 1) (mark_or_word first rest (mark_of first)))
-        → (first == slash && begins_with slash rest) ≡ line → (first == slash && begins_with star rest) ≡ comment
-        → IsWithin {K = Kind} (length rest + 1)
-        (cond blank (Skip 1) (cond text (text_cut rest (text_end false rest))
-        (cond gap (backslash_cut rest (continuation rest))
-        (cond line (Skip (line_length rest))
-        (cond comment (comment_cut (drop 1 rest) (comment_end (drop 1 rest))) (mark_or_word first rest (mark_of first)))))))
-    by true text gap line comment quoted goes whole inside other p q = (omega arith, omega arith)
-    by false true gap line comment quoted goes whole inside other p q = quoted
-    by false false true line comment quoted goes whole inside other p q = goes
-    by false false false true comment quoted goes whole inside other p q = whole
-    by false false false false true quoted goes whole inside other p q = inside refl
-    by false false false false false quoted goes whole inside other p q = other p q
+        → IsWithin (length rest + 1) (unwrap_or (comment_at OpenNote first rest) (mark_or_word first rest (mark_of first)))
+        → IsWithin (length rest + 1)
+        (cond blank (Skip 1) (cond text (quoted_cut NextQuote Quoted OpenQuoted rest) (cond gap (backslash_cut rest (continuation rest))
+        (unwrap_or (comment_at OpenNote first rest) (mark_or_word first rest (mark_of first))))))
+    by true text gap quoted goes other = (omega arith, omega arith)
+    by false true gap quoted goes other = quoted
+    by false false true quoted goes other = goes
+    by false false false quoted goes other = other

@@ -1,13 +1,12 @@
 //! Parts a file's bytes into tokens.
-ghost use Rattle.std.specs.Prelude.{◌≡◌, ◌+◌, ◌^◌, ◌<◌, ◌≤◌, false, length, position};
+ghost use Rattle.std.specs.Prelude.{◌≡◌, ◌+◌, ◌^◌, ◌<◌, ◌≤◌, length, position};
 ghost use Rattle.std.specs.List.{list_any};
 ghost use Rattle.token_texts.specs.Blanks.{is_line_end};
-ghost use Rattle.token_texts.specs.Comments.{comment_end};
-ghost use Rattle.liberty_groups.specs.Tokens.{ends_gap, continuation, text_end, mark_of, is_mark, is_plain, begins_comment, goes_on, opened_behind, word_length, comment_cut, backslash_cut, text_cut, cut_at, breaks};
+ghost use Rattle.liberty_groups.specs.Tokens.{ends_gap, continuation, mark_of, is_mark, is_plain, begins_comment, goes_on, opened_behind, word_length, backslash_cut, cut_at, breaks};
 ghost use Rattle.liberty_groups.specs.Cuts.{word_cut, is_simple};
 ghost use Rattle.token_texts.specs.Cuts.{IsWithin};
 
-use token_texts::{Cut, Escape, begins_with, comment_end, is_blank, line_length, quote_end};
+use token_texts::{Cut, Escape, begins_with, comment_at, is_blank, quoted_cut};
 
 /// What a token is.
 #[derive(Clone, Copy, PartialEq, Eq, Debug)]
@@ -155,31 +154,6 @@ fn word_length(opened: usize, bytes: &[u8]) -> usize
     place
 }
 
-/// Behind a quote: a text, or an open one.
-#[inline]
-fn text_cut(rest: &[u8]) -> Cut<Kind>
-    requires { length rest.now < 2 ^ 32 }
-    ensures value { result ≡ text_cut rest.now (text_end false rest.now) }
-    ensures within { IsWithin (length rest.now + 1) result }
-{
-    match quote_end(Escape::NextQuote, rest) {
-        Some(place) => Cut::Take(place + 2, Kind::Quoted),
-        None => Cut::Take(rest.len() + 1, Kind::OpenQuoted),
-    }
-}
-
-/// Behind the `/*` of a comment.
-fn comment_cut(inner: &[u8]) -> Cut<Kind>
-    requires { length inner.now < 2 ^ 32 }
-    ensures value { result ≡ comment_cut inner.now (comment_end inner.now) }
-    ensures within { IsWithin (length inner.now + 2) result }
-{
-    match comment_end(inner) {
-        Some(place) => Cut::Skip(place + 4),
-        None => Cut::Take(inner.len() + 2, Kind::OpenNote),
-    }
-}
-
 /// Behind a backslash outside texts: a continuation, or a byte that begins no token.
 fn backslash_cut(rest: &[u8]) -> Cut<Kind>
     requires { length rest.now < 2 ^ 32 }
@@ -209,21 +183,6 @@ fn word_cut(first: u8, rest: &[u8]) -> Cut<Kind>
     }
 }
 
-/// Behind a slash: a comment, or a word.
-fn slash_cut(rest: &[u8]) -> Cut<Kind>
-    requires { length rest.now < 2 ^ 32 }
-    ensures value { result ≡ cut_at 47 rest.now }
-    ensures within { IsWithin (length rest.now + 1) result }
-{
-    if begins_with(b'/', rest) {
-        Cut::Skip(line_length(rest))
-    } else if begins_with(b'*', rest) {
-        comment_cut(rest.split_at(1).1)
-    } else {
-        word_cut(b'/', rest)
-    }
-}
-
 /// What stands at the front of `first` and `rest`.
 #[inline]
 pub(crate) fn cut_at(first: u8, rest: &[u8]) -> Cut<Kind>
@@ -234,11 +193,11 @@ pub(crate) fn cut_at(first: u8, rest: &[u8]) -> Cut<Kind>
     if is_blank(first) {
         Cut::Skip(1)
     } else if first == b'"' {
-        text_cut(rest)
+        quoted_cut(Escape::NextQuote, Kind::Quoted, Kind::OpenQuoted, rest)
     } else if first == b'\\' {
         backslash_cut(rest)
-    } else if first == b'/' {
-        slash_cut(rest)
+    } else if let Some(comment) = comment_at(Kind::OpenNote, first, rest) {
+        comment
     } else if let Some(kind) = mark_of(first) {
         Cut::Take(1, kind)
     } else {

@@ -1,8 +1,8 @@
 -- What stands at the front, by the first byte.
-use Rattle.std.proofs.Common.{ℕ, sym, ap, ◌∙◌}
-use Rattle.liberty_groups.specs.Tokens.{cut_at}
-use Rattle.liberty_groups.proofs.Cutting.{cut_blank, cut_quote, cut_backslash, cut_mark, cut_word}
+use Rattle.std.proofs.Common.{ℕ, Some, sym, ap, ◌∙◌}
 use Rattle.token_texts.specs.ByteLemmas.{not_byte}
+use Rattle.liberty_groups.specs.Tokens.{cut_at}
+use Rattle.liberty_groups.proofs.Cutting.{cut_blank, cut_quote, cut_backslash, cut_other, cut_mark, cut_word}
 use Rattle.liberty_groups.proofs.scan.cut_at.Goals as goal
 
 pub returns-then-is_blank-clause-value : goal.returns-then-is_blank-clause-value
@@ -10,7 +10,7 @@ returns-then-is_blank-clause-value c = sym (cut_blank c.args.first c.args.rest.n
 
 pub returns-then-first-eq34-clause-value : goal.returns-then-first-eq34-clause-value
 returns-then-first-eq34-clause-value c =
-    c.text_cut.ensures.value ∙ sym (cut_quote c.args.rest.now) ∙ ap (λ (b : ℕ). cut_at b c.args.rest.now) (sym c.if-first-eq34.true)
+    c.quoted_cut.ensures.value ∙ sym (cut_quote c.args.rest.now) ∙ ap (λ (b : ℕ). cut_at b c.args.rest.now) (sym c.if-first-eq34.true)
 
 pub returns-then-first-eq92-clause-value : goal.returns-then-first-eq92-clause-value
 returns-then-first-eq92-clause-value c =
@@ -18,8 +18,12 @@ returns-then-first-eq92-clause-value c =
 
 pub returns-in-Some-clause-value : goal.returns-in-Some-clause-value
 returns-in-Some-clause-value c =
-    sym (cut_mark c.args.first c.args.rest.now c.in-Some.kind (sym c.is_blank.ensures ∙ c.if-is_blank.false) (not_byte _ 34 c.if-first-eq34.false) (not_byte _ 92 c.if-first-eq92.false) (not_byte _ 47 c.if-first-eq47.false) (sym c.in-Some.ensures))
+    sym (cut_other c.args.first c.args.rest.now (Some c.in-Some.comment) (sym c.is_blank.ensures ∙ c.if-is_blank.false) (not_byte _ 34 c.if-first-eq34.false) (not_byte _ 92 c.if-first-eq92.false) (sym c.in-Some.ensures.value))
 
-pub returns-in_default-clause-value : goal.returns-in_default-clause-value
-returns-in_default-clause-value c =
-    c.word_cut.ensures.value ∙ sym (cut_word c.args.first c.args.rest.now (sym c.is_blank.ensures ∙ c.if-is_blank.false) (not_byte _ 34 c.if-first-eq34.false) (not_byte _ 92 c.if-first-eq92.false) (not_byte _ 47 c.if-first-eq47.false) (sym c.mark_of.ensures ∙ c.in_default.is))
+pub returns-in-Some-mark_of-clause-value : goal.returns-in-Some-mark_of-clause-value
+returns-in-Some-mark_of-clause-value c =
+    sym (cut_mark c.args.first c.args.rest.now c.in-Some-mark_of.kind (sym c.is_blank.ensures ∙ c.if-is_blank.false) (not_byte _ 34 c.if-first-eq34.false) (not_byte _ 92 c.if-first-eq92.false) (sym c.in_default.ensures.value) (sym c.in-Some-mark_of.ensures))
+
+pub returns-in_default-mark_of-clause-value : goal.returns-in_default-mark_of-clause-value
+returns-in_default-mark_of-clause-value c =
+    c.word_cut.ensures.value ∙ sym (cut_word c.args.first c.args.rest.now (sym c.is_blank.ensures ∙ c.if-is_blank.false) (not_byte _ 34 c.if-first-eq34.false) (not_byte _ 92 c.if-first-eq92.false) (sym c.in_default.ensures.value) (sym c.in_default-mark_of.ensures))
