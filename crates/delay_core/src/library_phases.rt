@@ -21,7 +21,6 @@ pub fn parse_library(
 ) -> Result<GroupTree, NoFileEnd<Refusal>>
     requires { length bytes.now < 2 ^ 32 }
     ensures ok { IfOk result (λ tree. ParsesLibrary corner bytes.now (Ok (tree_of tree))) }
-    ensures root { IfOk result (λ tree. 0 < length tree.rows) }
     ensures refused { OnRefusal result (λ refusal. ParsesLibrary corner bytes.now (Err refusal)) }
 {
     match parse(alloc, bytes) {
@@ -44,7 +43,6 @@ pub fn model_cell(
     tree: &GroupTree,
     name: &Text,
 ) -> Result<Cell, NoFileEnd<Refusal>>
-    requires { 0 < length tree.now.rows }
     ensures follows { FollowsNoFile (ModelsCell corner (tree_of tree.now) name.now) result }
 {
     match build_cell(alloc, tree, name) {

@@ -1,5 +1,5 @@
 //! The libraries of a run, one for each corner.
-ghost use Rattle.std.specs.Prelude.{◌≡◌, ℕ, ◌+◌, ◌<◌, ◌≤◌, ◌⊎◌, [], ◌∷◌, ◌++◌, length, map, slice_get, Some, IfOk, OnOk};
+ghost use Rattle.std.specs.Prelude.{◌≡◌, ◌+◌, ◌<◌, ◌≤◌, ◌⊎◌, [], ◌∷◌, ◌++◌, length, map, slice_get, Some, IfOk, OnOk};
 ghost use Rattle.edge_io.specs.Counts.{Rose, RoseBy};
 ghost use Rattle.edge_io.specs.Holding.{TellsMissing};
 ghost use Rattle.liberty_groups.specs.Tables.{tree_of};
@@ -24,14 +24,12 @@ pub struct Libraries {
 }
 
 impl Model for Libraries {
-    ghost use Rattle.std.specs.Prelude.{List, All, ◌<◌, length};
+    ghost use Rattle.std.specs.Prelude.{List};
     ghost use Rattle.liberty_groups.specs.Tables.{Tables};
 
     ghost Value = { List Tables };
 
     ghost view = { λ libraries. libraries.trees.items };
-
-    ghost invariant = { λ libraries. All (λ tree. 0 < length tree.rows) libraries.trees.items };
 }
 
 impl Libraries {
@@ -46,7 +44,6 @@ impl Libraries {
 
     // Puts the library of the next corner at the end.
     fn push(&mut self, tree: GroupTree) -> Result<(), OutOfMemory>
-        requires { 0 < length tree.rows }
         ensures { OnOk result (self.new ≡ self.old ++ tree ∷ []) }
     {
         match self.trees.push(tree) {
@@ -58,8 +55,7 @@ impl Libraries {
     /// The library of a corner.
     pub fn get(&self, corner: usize) -> &GroupTree
         requires { corner < length self.now }
-        ensures tree { slice_get self.now corner ≡ Some result.now }
-        ensures root { 0 < length result.now.rows }
+        ensures { slice_get self.now corner ≡ Some result.now }
     {
         &self.trees[corner]
     }
@@ -90,7 +86,6 @@ pub fn read_library<H: Shelf>(
     corner: usize,
 ) -> Result<GroupTree, PhaseEnd<Refusal, FileKey>>
     ensures ok { IfOk result (λ tree. ReadsLibrary (H.held shelf.old) corners corner name.now (Go (tree_of tree))) }
-    ensures root { IfOk result (λ tree. 0 < length tree.rows) }
     ensures stops { OnStop result (λ why. ReadsLibrary (H.held shelf.old) corners corner name.now (Halt why)) }
     ensures fault { AtReadFault result (λ key. (key ≡ library_key corners corner)
         × (Rose (H.faults shelf.old) (H.faults shelf.new) ⊎ TellsMissing (H.held shelf.old) name.now)) }

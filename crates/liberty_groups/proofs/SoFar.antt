@@ -1,5 +1,5 @@
 -- What the reader makes of the parts, the bytes say.
-use Rattle.std.proofs.Common.{◌≡◌, ℕ, zero, suc, ◌+◌, ◌-◌, ◌<◌, ◌≤◌, false, ◌||◌, List, [], ◌∷◌, ◌++◌, length, Option, Some, None, Result, Ok, Err, refl, sym, ap, ◌∙◌, subst, arith, append-nil}
+use Rattle.std.proofs.Common.{◌≡◌, ℕ, zero, suc, ◌+◌, ◌-◌, ◌≤◌, false, ◌||◌, List, [], ◌∷◌, ◌++◌, length, Option, Some, None, Result, Ok, Err, refl, sym, ap, ◌∙◌, subst, arith, append-nil}
 use Rattle.std.specs.Prelude.{⊤}
 use Rattle.token_fronts.specs.Machine.{Stop, outcome}
 use Rattle.token_fronts.specs.ReadingLaw.{says_made, leaves_where_stopped, one_reading}
@@ -54,7 +54,7 @@ fault_of bytes tokens stop line parted e at =
 
 -- what the loop over the tokens answers
 pub says : {bytes : List ℕ} {tree : Tables} → MakesParts cut_at Makes bytes tree → SaysTree bytes (tree_of tree)
-says {bytes} {tree} h = says_tree bytes (tokens_of h.parts) (tree_of tree) (record { parts = h.parts; parted = h.parted; are = refl }) h.made.made
+says {bytes} {tree} h = says_tree bytes (tokens_of h.parts) (tree_of tree) (record { parts = h.parts; parted = h.parted; are = refl }) h.made
 
 is_fault : {bytes : List ℕ} {number start : ℕ} {cause : Cause} → StopsParts cut_at Stops bytes number start cause → IsFault bytes (record { token = number; line = line_at bytes start; cause = cause })
 is_fault {bytes} {number} {start} {cause} h =
@@ -135,8 +135,8 @@ stays_sound number text old now None steps few counted built =
 stays_sound number text old now (Some cause) steps few counted built = tt
 
 -- the end
-pub ends_well : (before : List (Part Kind)) (reader : Reader) (tree : Tables) → Leads before reader → finish (state_of reader) ≡ Ok (tree_of tree) → 0 < length tree.rows → Makes before tree
-ends_well before reader tree leads e root = record { made = leads_to_value (next 16) finish first_state (tokens_of before) (state_of reader) (tree_of tree) leads.state e; root = root }
+pub ends_well : (before : List (Part Kind)) (reader : Reader) (tree : Tables) → Leads before reader → finish (state_of reader) ≡ Ok (tree_of tree) → Makes before tree
+ends_well before reader tree leads e = leads_to_value (next 16) finish first_state (tokens_of before) (state_of reader) (tree_of tree) leads.state e
 
 pub ends_inside : (before : List (Part Kind)) (reader : Reader) (cause : Cause) → Leads before reader → finish (state_of reader) ≡ Err cause → Stops before (length (lexemes before) + 1) cause
 ends_inside before reader cause leads e =

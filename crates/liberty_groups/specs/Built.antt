@@ -3,7 +3,7 @@ use Rattle.std.specs.Prelude.{length}
 use Rattle.std.specs.List.{All}
 use Rattle.liberty_groups.specs.Building.{Built}
 use Rattle.liberty_groups.specs.Tables.{Tables, trees_of}
-use Rattle.liberty_groups.specs.TableRows.{tables_of, AreTables}
+use Rattle.liberty_groups.specs.TableRows.{tables_of, AreTables, AreWhole}
 use Rattle.liberty_groups.specs.Opened.{frames_of, IsOpenIn}
 use Rattle.liberty_groups.specs.declared.flat.FlatTree.{FlatTree}
 use Rattle.liberty_groups.specs.declared.builder.Builder.{Builder}
@@ -13,6 +13,9 @@ tables_in f = tables_of f.names.items f.texts.items f.attributes.items f.childre
 
 abbrev pub AreSound : FlatTree → Type 0
 AreSound f = AreTables f.names.items f.texts.items f.attributes.items f.children.items f.groups.items
+
+abbrev pub IsWhole : FlatTree → Type 0
+IsWhole f = AreWhole f.names.items f.texts.items f.attributes.items f.children.items f.groups.items
 
 abbrev pub built_of : Builder → Built
 built_of b = record {

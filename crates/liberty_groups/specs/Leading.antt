@@ -1,5 +1,5 @@
 -- What the reader is behind some parts of a file.
-use Rattle.std.specs.Prelude.{◌≡◌, ℕ, ◌<◌, ◌≤◌, Bool, false, ◌||◌, List, [], ◌∷◌, length}
+use Rattle.std.specs.Prelude.{◌≡◌, ℕ, ◌≤◌, Bool, false, ◌||◌, List, [], ◌∷◌, length}
 use Rattle.token_texts.specs.Cuts.{Part, gap, token}
 use Rattle.token_texts.specs.Leading as leading
 use Rattle.liberty_groups.specs.Tokens.{breaks, tokens_of}
@@ -27,10 +27,9 @@ pub record Leads (before : List (Part Kind)) (reader : Reader) : Type 0 where
 abbrev pub Stops : List (Part Kind) → ℕ → Cause → Type 0
 Stops parts number cause = leading.Stops (next 16) finish first_state (tokens_of parts) number cause
 
--- they say the tree, which has a root
-pub record Makes (parts : List (Part Kind)) (tree : Tables) : Type 0 where
-  pub made : leading.Makes (next 16) finish first_state (tokens_of parts) (tree_of tree)
-  pub root : 0 < length tree.rows
+-- they say the tree
+abbrev pub Makes : List (Part Kind) → Tables → Type 0
+Makes parts tree = leading.Makes (next 16) finish first_state (tokens_of parts) (tree_of tree)
 
 -- the reader counts the groups that have not ended, and they are few
 pub record IsSound (number : ℕ) (reader : Reader) : Type 0 where

@@ -1,5 +1,5 @@
 -- What the fields of the tables say.
-use Rattle.std.specs.Prelude.{ℕ, ◌≤◌, ◌^◌, List, length, map, slice_range}
+use Rattle.std.specs.Prelude.{ℕ, ◌<◌, ◌≤◌, ◌^◌, List, length, map, slice_range}
 use Rattle.std.specs.List.{All}
 use Rattle.liberty_groups.specs.Groups.{Attribute}
 use Rattle.liberty_groups.specs.Tables.{Row, Tables, AreBehind}
@@ -56,3 +56,9 @@ pub record AreTables (names : List ℕ) (texts : List (List ℕ)) (attributes : 
   pub spans : All (IsRowIn (length texts) (length attributes) (length children)) groups
   pub order : AreBehind (tables_of names texts attributes children groups).rows
   pub many : length groups ≤ 2 ^ 32
+
+-- tables in which all has ended: the library stands in them, too
+pub record AreWhole (names : List ℕ) (texts : List (List ℕ)) (attributes : List AttributeRow) (children : List GroupId)
+    (groups : List GroupRow) : Type 0 where
+  pub tables : AreTables names texts attributes children groups
+  pub root : 0 < length (tables_of names texts attributes children groups).rows

@@ -1,5 +1,5 @@
 //! Builds the tree, as tokens add to it.
-ghost use Rattle.std.specs.Prelude.{◌≡◌, ◌<◌, OnOk, IfOk, length};
+ghost use Rattle.std.specs.Prelude.{◌≡◌, OnOk, IfOk};
 ghost use Rattle.liberty_groups.specs.Building.{nothing_built, begun_as, behind};
 ghost use Rattle.liberty_groups.specs.Modes.{root_of};
 ghost use Rattle.liberty_groups.specs.Tables.{tree_of};
@@ -172,8 +172,7 @@ impl Builder {
     /// The tree, where nothing but the library is open.
     pub(crate) fn finish(self) -> Result<GroupTree, OutOfMemory>
         requires sound { IsBuilt self }
-        ensures tree { IfOk result (λ tree. tree_of tree ≡ root_of (built_of self).frames) }
-        ensures root { IfOk result (λ tree. 0 < length tree.rows) }
+        ensures { IfOk result (λ tree. tree_of tree ≡ root_of (built_of self).frames) }
     {
         let mut builder = self;
         let last = match builder.open_groups.pop() {

@@ -44,7 +44,6 @@ fn fault_at(bytes: &[u8], place: usize, token: u64, cause: Cause) -> ParseEnd
 pub fn parse(alloc: Global, bytes: &[u8]) -> Result<GroupTree, ParseEnd>
     requires { length bytes.now < 2 ^ 32 }
     ensures ok { IfOk result (λ tree. SaysTree bytes.now (tree_of tree)) }
-    ensures root { IfOk result (λ tree. 0 < length tree.rows) }
     ensures fault { IfSyntax result (IsFault bytes.now) }
     ensures only { (tree : Group) → SaysTree bytes.now tree → Gives tree_of tree result }
 {

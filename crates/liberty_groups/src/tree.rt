@@ -4,7 +4,7 @@ ghost use Rattle.std.specs.List.{All};
 ghost use Rattle.liberty_groups.specs.Groups.{name_of, args_of, attributes_of, groups_of};
 ghost use Rattle.liberty_groups.specs.Tables.{no_attribute, group_at, attribute_at, tree_of, IsGroup, IsAttribute, IsLastOf, HasNone};
 ghost use Rattle.liberty_groups.specs.TableRows.{attributes_in, IsSpanIn};
-ghost use Rattle.liberty_groups.specs.Built.{tables_in, AreSound};
+ghost use Rattle.liberty_groups.specs.Built.{tables_in, IsWhole};
 
 use crate::flat::FlatTree;
 use crate::rows::{AttrId, AttributeRow, GroupId, GroupRow};
@@ -12,7 +12,7 @@ use edge_io::Text;
 use std::marker::Model;
 
 /// What a Liberty file says, in flat tables: groups stand behind those in them, the library last. Contracts see the
-/// tables of rows, and `group_at` is the tree of a group.
+/// tables of rows, and `group_at` is the tree of a group. There is always a library.
 #[derive(Debug, Drop)]
 pub struct GroupTree {
     names: Vec<u8>,
@@ -24,19 +24,19 @@ pub struct GroupTree {
 
 impl Model for GroupTree {
     ghost use Rattle.liberty_groups.specs.Tables.{Tables};
-    ghost use Rattle.liberty_groups.specs.TableRows.{tables_of, AreTables};
+    ghost use Rattle.liberty_groups.specs.TableRows.{tables_of, AreWhole};
 
     ghost Value = { Tables };
 
     ghost view = { λ t. tables_of t.names.items t.texts.items t.attributes.items t.children.items t.groups.items };
 
-    ghost invariant = { λ t. AreTables t.names.items t.texts.items t.attributes.items t.children.items t.groups.items };
+    ghost invariant = { λ t. AreWhole t.names.items t.texts.items t.attributes.items t.children.items t.groups.items };
 }
 
 impl GroupTree {
     /// The tree of these tables.
     pub(crate) fn of(flat: FlatTree) -> GroupTree
-        requires { AreSound flat }
+        requires { IsWhole flat }
         ensures { result ≡ tables_in flat }
     {
         GroupTree {
@@ -51,7 +51,7 @@ impl GroupTree {
     /// The library.
     pub fn root(&self) -> GroupId
         ensures tree { group_at self.now result.0 ≡ tree_of self.now }
-        ensures within { 0 < length self.now.rows → IsGroup self.now result.0 }
+        ensures within { IsGroup self.now result.0 }
     {
         GroupId(self.groups.len().saturating_sub(1) as u32)
     }

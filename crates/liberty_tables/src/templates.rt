@@ -1,5 +1,5 @@
 //! The templates of a library (Liberty, `lu_table_template`).
-ghost use Rattle.std.specs.Prelude.{◌≡◌, ◌<◌, [], None, length, All, codes, IfOk, IfSome, IfNone, Contains};
+ghost use Rattle.std.specs.Prelude.{◌≡◌, [], None, length, All, codes, IfOk, IfSome, IfNone, Contains};
 ghost use Rattle.std.specs.Option.{option_copied};
 ghost use Rattle.std.specs.List.{AllZip};
 ghost use Rattle.liberty_groups.specs.Groups.{attributes_of};
@@ -247,7 +247,6 @@ impl Templates {
         called: &TableNames,
         units: &LibraryUnits,
     ) -> Result<Templates, OutOfMemory>
-        requires { 0 < length tree.now.rows }
         ensures { IfOk result (AreTemplates tree.now called.now units.now) }
     {
         let index = GroupIndex::new(alloc, tree, tree.root(), b"lu_table_template")?;

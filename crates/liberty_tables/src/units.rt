@@ -1,5 +1,5 @@
 //! The units of a library (Liberty, `time_unit` and `capacitive_load_unit`).
-ghost use Rattle.std.specs.Prelude.{◌≡◌, ◌≤◌, ◌<◌, unsigned_abs, length, IfSome, IfNone};
+ghost use Rattle.std.specs.Prelude.{◌≡◌, ◌≤◌, unsigned_abs, IfSome, IfNone};
 ghost use Rattle.delay_units.specs.declared.numbers.Unit.{Unit};
 ghost use Rattle.liberty_groups.specs.Tables.{tree_of};
 ghost use Rattle.liberty_tables.specs.LibraryUnits.{time_power, load_power, IsUnitOf, IsTimeUnit, IsLoadUnit};
@@ -28,7 +28,6 @@ fn time_power(text: &[u8]) -> Option<i32>
 
 /// The unit of times, a nanosecond where none is named.
 pub fn time_unit(tree: &GroupTree) -> Option<Unit>
-    requires { 0 < length tree.now.rows }
     ensures some { IfSome result (IsTimeUnit (tree_of tree.now)) }
     ensures none { IfNone result ((unit : Unit) → ¬ IsTimeUnit (tree_of tree.now) unit) }
 {
@@ -73,7 +72,6 @@ fn unit_of(number: &[u8], word: &[u8]) -> Option<Unit>
 
 /// The unit of loads, which every library names.
 pub fn load_unit(tree: &GroupTree) -> Option<Unit>
-    requires { 0 < length tree.now.rows }
     ensures some { IfSome result (IsLoadUnit (tree_of tree.now)) }
     ensures none { IfNone result ((unit : Unit) → ¬ IsLoadUnit (tree_of tree.now) unit) }
 {

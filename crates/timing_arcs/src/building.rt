@@ -1,5 +1,5 @@
 //! The timing model of a cell of a library.
-ghost use Rattle.std.specs.Prelude.{◌<◌, ◌≡◌, length, All, IfOk, IfErr, flat_map};
+ghost use Rattle.std.specs.Prelude.{◌≡◌, length, All, IfOk, IfErr, flat_map};
 ghost use Rattle.std.specs.List.{AllZip};
 ghost use Rattle.liberty_groups.specs.Tables.{tree_of, group_at, IsGroup};
 ghost use Rattle.timing_arcs.specs.PinModel.{IsPin};
@@ -57,7 +57,6 @@ pub(crate) fn build_group(
     basis: &LibraryBasis,
     group: GroupId,
 ) -> Result<Cell, CellFault>
-    requires library { 0 < length tree.now.rows }
     requires basis { IsBasis tree.now basis.now }
     requires group { IsGroup tree.now group.0 }
     ensures ok { IfOk result (IsModelOf (tree_of tree.now) (group_at tree.now group.0)) }

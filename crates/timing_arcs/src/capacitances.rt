@@ -1,5 +1,5 @@
 //! The capacitance of an input pin (Liberty, `capacitance`, `rise_capacitance`, `fall_capacitance`, `default_input_pin_cap`).
-ghost use Rattle.std.specs.Prelude.{◌≡◌, ℕ, ◌<◌, length, [], ◌∷◌, IfSome, IfNone};
+ghost use Rattle.std.specs.Prelude.{◌≡◌, ℕ, [], ◌∷◌, IfSome, IfNone};
 ghost use Rattle.delay_units.specs.declared.amounts.Amount.TheVariants.{Within, Past};
 ghost use Rattle.liberty_groups.specs.Tables.{tree_of, group_at, IsGroup};
 ghost use Rattle.timing_arcs.specs.PinModel.{capacitance_texts, default_texts, edges_texts, IsCapacitance};
@@ -74,7 +74,6 @@ fn larger(unit: &Unit, text: &[u8], other: &[u8]) -> Option<u64>
 /// nanofarad.
 #[tactic(auto, using(crate::proofs::SizeLemmas::nothing_given))]
 pub(crate) fn default_capacitance(tree: &GroupTree, unit: &Unit) -> Option<u64>
-    requires { 0 < length tree.now.rows }
     ensures some { IfSome result (IsCapacitance unit.now (default_texts (tree_of tree.now))) }
     ensures none { IfNone result ((grains : ℕ) → ¬ IsCapacitance unit.now (default_texts (tree_of tree.now)) grains) }
 {
@@ -91,7 +90,6 @@ fn edges_capacitance(
     default: Option<u64>,
     pin: GroupId,
 ) -> Option<u64>
-    requires library { 0 < length tree.now.rows }
     requires pin { IsGroup tree.now pin.0 }
     requires some { IfSome default (IsCapacitance unit.now (default_texts (tree_of tree.now))) }
     requires none { IfNone default ((grains : ℕ) → ¬ IsCapacitance unit.now (default_texts (tree_of tree.now)) grains) }
@@ -119,7 +117,6 @@ pub(crate) fn capacitance_of(
     default: Option<u64>,
     pin: GroupId,
 ) -> Option<u64>
-    requires library { 0 < length tree.now.rows }
     requires pin { IsGroup tree.now pin.0 }
     requires some { IfSome default (IsCapacitance unit.now (default_texts (tree_of tree.now))) }
     requires none { IfNone default ((grains : ℕ) → ¬ IsCapacitance unit.now (default_texts (tree_of tree.now)) grains) }

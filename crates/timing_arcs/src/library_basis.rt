@@ -1,5 +1,5 @@
 //! What the pins and the tables of all cells of a library stand on, read once.
-ghost use Rattle.std.specs.Prelude.{◌≡◌, ◌<◌, length, IfOk, IfErr};
+ghost use Rattle.std.specs.Prelude.{◌≡◌, IfOk, IfErr};
 ghost use Rattle.liberty_groups.specs.Tables.{tree_of, group_at, IsGroup};
 ghost use Rattle.liberty_tables.specs.LibraryUnits.{AreUnits};
 ghost use Rattle.liberty_tables.specs.TableModel.{TableMeans, TransitionMeans};
@@ -46,8 +46,7 @@ fn with_units(
     tree: &GroupTree,
     units: LibraryUnits,
 ) -> Result<LibraryBasis, OutOfMemory>
-    requires library { 0 < length tree.now.rows }
-    requires units { AreUnits (tree_of tree.now) units }
+    requires { AreUnits (tree_of tree.now) units }
     ensures { IfOk result (IsBasis tree.now) }
 {
     let called = delay_names(alloc)?;
@@ -66,7 +65,6 @@ pub(crate) fn library_basis(
     alloc: Global,
     tree: &GroupTree,
 ) -> Result<Result<LibraryBasis, CellFault>, OutOfMemory>
-    requires { 0 < length tree.now.rows }
     ensures ok { IfOk result (λ basis. IfOk basis (IsBasis tree.now)) }
     ensures refused { IfOk result (λ basis. IfErr basis (IsRefusal (tree_of tree.now) unit_questions)) }
 {

@@ -1,5 +1,5 @@
 //! An index of the cells of a library.
-ghost use Rattle.std.specs.Prelude.{◌<◌, length, IfOk, IfErr};
+ghost use Rattle.std.specs.Prelude.{IfOk, IfErr};
 ghost use Rattle.liberty_groups.specs.Tables.{tree_of};
 ghost use Rattle.timing_arcs.specs.CellModel.{IsModel};
 ghost use Rattle.timing_arcs.specs.CellFaults.{IsCellFault};
@@ -25,7 +25,6 @@ pub struct LibraryIndex {
 impl LibraryIndex {
     /// The index of the library that is the root of a tree.
     pub fn new(alloc: Global, tree: &GroupTree) -> Result<LibraryIndex, OutOfMemory>
-        requires { 0 < length tree.now.rows }
         ensures { IfOk result (IsLibraryIndex tree.now) }
     {
         let basis = library_basis(alloc, tree)?;
@@ -41,8 +40,7 @@ impl LibraryIndex {
         tree: &GroupTree,
         cell: &Text,
     ) -> Result<Cell, CellFault>
-        requires library { 0 < length tree.now.rows }
-        requires index { IsLibraryIndex tree.now self.now }
+        requires { IsLibraryIndex tree.now self.now }
         ensures ok { IfOk result (IsModel (tree_of tree.now) cell.now) }
         // Where no question has a fault, no fault but want of memory is answered.
         ensures refused { IfErr result (IsCellFault (tree_of tree.now) cell.now) }
@@ -60,7 +58,6 @@ impl LibraryIndex {
 /// The timing model of one cell of a library, of which no index is kept.
 #[tactic(auto, using(crate::specs::CellFaults::no_cell_memory))]
 pub fn build_cell(alloc: Global, tree: &GroupTree, cell: &Text) -> Result<Cell, CellFault>
-    requires { 0 < length tree.now.rows }
     ensures ok { IfOk result (IsModel (tree_of tree.now) cell.now) }
     // Where no question has a fault, no fault but want of memory is answered.
     ensures refused { IfErr result (IsCellFault (tree_of tree.now) cell.now) }

@@ -98,7 +98,6 @@ fn grains_of(
     direction: Direction,
     pin: GroupId,
 ) -> Option<u64>
-    requires library { 0 < length tree.now.rows }
     requires pin { IsGroup tree.now pin.0 }
     requires direction { direction_of (group_at tree.now pin.0) ≡ Some direction }
     requires unit { IsLoadUnit (tree_of tree.now) unit.now }
@@ -131,7 +130,6 @@ fn read_group(
     default: Option<u64>,
     group: GroupId,
 ) -> Result<PinReading, CellFault>
-    requires library { 0 < length tree.now.rows }
     requires group { IsGroup tree.now group.0 }
     requires unit { IsLoadUnit (tree_of tree.now) unit.now }
     requires some { IfSome default (IsCapacitance unit.now (default_texts (tree_of tree.now))) }
@@ -160,7 +158,6 @@ fn read_once(
     last: Option<PinReading>,
     group: GroupId,
 ) -> Result<PinReading, CellFault>
-    requires library { 0 < length tree.now.rows }
     requires group { IsGroup tree.now group.0 }
     requires unit { IsLoadUnit (tree_of tree.now) unit.now }
     requires some { IfSome default (IsCapacitance unit.now (default_texts (tree_of tree.now))) }
@@ -302,7 +299,6 @@ pub(crate) fn read_pins(
     default: Option<u64>,
     table: &PinTable,
 ) -> Result<Vec<Pin>, CellFault>
-    requires library { 0 < length tree.now.rows }
     requires unit { IsLoadUnit (tree_of tree.now) unit.now }
     requires some { IfSome default (IsCapacitance unit.now (default_texts (tree_of tree.now))) }
     requires none { IfNone default ((grains : ℕ) → ¬ IsCapacitance unit.now (default_texts (tree_of tree.now)) grains) }

@@ -1,6 +1,4 @@
 //! Models of cells that stand in small libraries.
-ghost use Rattle.std.specs.Prelude.{◌<◌, length};
-
 use edge_io::Text;
 use liberty_groups::{GroupTree, parse};
 use std::alloc::{AllocError, Global};
@@ -22,9 +20,7 @@ fn built_both(
     tree: &GroupTree,
     one: &Text,
     other: &Text,
-) -> Option<(Result<Cell, CellFault>, Result<Cell, CellFault>)>
-    requires { 0 < length tree.now.rows }
-{
+) -> Option<(Result<Cell, CellFault>, Result<Cell, CellFault>)> {
     let Ok(index) = LibraryIndex::new(alloc, tree) else {
         return None;
     };

@@ -1,5 +1,4 @@
 //! Groups of small files. The expected answers are another reader's of the same grammar.
-ghost use Rattle.std.specs.Prelude.{◌<◌, length};
 ghost use Rattle.liberty_groups.specs.Tables.{IsGroup};
 
 use super::refused_files::REFUSED;
@@ -59,9 +58,7 @@ fn tell_group(text: &mut Vec<u8>, tree: &GroupTree, g: GroupId) -> Result<(), Al
 }
 
 /// The lines of all groups, in the order of their numbers.
-fn tell_tree(text: &mut Vec<u8>, tree: &GroupTree) -> Result<(), AllocError>
-    requires { 0 < length tree.now.rows }
-{
+fn tell_tree(text: &mut Vec<u8>, tree: &GroupTree) -> Result<(), AllocError> {
     let last = tree.root().0;
     for number in 0..last {
         tell_group(text, tree, GroupId(number))?;

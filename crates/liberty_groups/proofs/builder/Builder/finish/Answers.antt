@@ -26,8 +26,8 @@ add_group-requires-clause-group c =
           })
     ]
 
-pub returns-clause-tree : goal.returns-clause-tree
-returns-clause-tree c =
+pub returns : goal.returns
+returns c =
     let f : FlatTree = c.args.self.flat in
     let names : List ℕ = f.names.items in
     let texts : List (List ℕ) = f.texts.items in

@@ -15,7 +15,7 @@ inside _ frames ended = refl
 pub returns-in_ok-tree-in-End : goal.returns-in_ok-tree-in-End
 returns-in_ok-tree-in-End c = record {
   state = λ before leads.
-      ends_well before c.args.self c.in_ok-tree-in-End.tree leads (ap (λ mode. finish_in mode (state_of c.args.self).frames) c.in-End.is ∙ ap Ok (sym c.in_ok-tree-in-End.ensures.tree)) c.in_ok-tree-in-End.ensures.root;
+      ends_well before c.args.self c.in_ok-tree-in-End.tree leads (ap (λ mode. finish_in mode (state_of c.args.self).frames) c.in-End.is ∙ ap Ok (sym c.in_ok-tree-in-End.ensures));
 }
 
 pub returns-in_default : goal.returns-in_default

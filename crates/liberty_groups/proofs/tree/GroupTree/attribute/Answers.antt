@@ -18,8 +18,8 @@ returns-in_err-place-clause-absent c =
     let same_names = c.as_slice-2.ensures.value in
     let texts : List (List ℕ) = c.self.inside.texts.items in
     let rows : List AttributeRow = c.self.inside.attributes.items in
-    let own : c.split_at-2.result.1.now ≡ part_of rows span = c.split_at-2.ensures.back ∙ ap (drop span.from) (c.split_at.ensures.front ∙ ap (take span.end) c.as_slice.ensures.value) ∙ cut_out rows span (row_in c.self.inside.names.items c.self.inside.texts.items c.self.inside.attributes.items c.self.inside.children.items c.self.inside.groups.items c.self.invariant c.args.self.now c.self.view_is c.args.g.0 c.requires c.index.result.now c.index.ensures).own.0 in
-    let all : map (attribute_of names texts) c.split_at-2.result.1.now ≡ attributes_of (group_at c.args.self.now c.args.g.0) = ap (map (attribute_of names texts)) own ∙ sym (part_of_map (attribute_of names texts) rows span) ∙ sym (attributes_are c.self.inside.names.items c.self.inside.texts.items c.self.inside.attributes.items c.self.inside.children.items c.self.inside.groups.items c.self.invariant c.args.self.now c.self.view_is c.args.g.0 c.requires c.index.result.now c.index.ensures) in
+    let own : c.split_at-2.result.1.now ≡ part_of rows span = c.split_at-2.ensures.back ∙ ap (drop span.from) (c.split_at.ensures.front ∙ ap (take span.end) c.as_slice.ensures.value) ∙ cut_out rows span (row_in c.self.inside.names.items c.self.inside.texts.items c.self.inside.attributes.items c.self.inside.children.items c.self.inside.groups.items c.self.invariant.tables c.args.self.now c.self.view_is c.args.g.0 c.requires c.index.result.now c.index.ensures).own.0 in
+    let all : map (attribute_of names texts) c.split_at-2.result.1.now ≡ attributes_of (group_at c.args.self.now c.args.g.0) = ap (map (attribute_of names texts)) own ∙ sym (part_of_map (attribute_of names texts) rows span) ∙ sym (attributes_are c.self.inside.names.items c.self.inside.texts.items c.self.inside.attributes.items c.self.inside.children.items c.self.inside.groups.items c.self.invariant.tables c.args.self.now c.self.view_is c.args.g.0 c.requires c.index.result.now c.index.ensures) in
     subst (λ (r : Option AttrId). IfNone r (HasNone c.args.key.now (attributes_of (group_at c.args.self.now c.args.g.0)))) (sym c.from_residual.ensures)
     (subst (HasNone c.args.key.now) all (subst (λ (l : List ℕ). HasNone c.args.key.now (attributes_in l texts c.split_at-2.result.1.now)) same_names (c.in_err-place.ensures.absent texts)))
 
@@ -30,12 +30,12 @@ returns-clause-last c =
     let same_names = c.as_slice-2.ensures.value in
     let texts : List (List ℕ) = c.self.inside.texts.items in
     let rows : List AttributeRow = c.self.inside.attributes.items in
-    let own : c.split_at-2.result.1.now ≡ part_of rows span = c.split_at-2.ensures.back ∙ ap (drop span.from) (c.split_at.ensures.front ∙ ap (take span.end) c.as_slice.ensures.value) ∙ cut_out rows span (row_in c.self.inside.names.items c.self.inside.texts.items c.self.inside.attributes.items c.self.inside.children.items c.self.inside.groups.items c.self.invariant c.args.self.now c.self.view_is c.args.g.0 c.requires c.index.result.now c.index.ensures).own.0 in
-    let all : map (attribute_of names texts) c.split_at-2.result.1.now ≡ attributes_of (group_at c.args.self.now c.args.g.0) = ap (map (attribute_of names texts)) own ∙ sym (part_of_map (attribute_of names texts) rows span) ∙ sym (attributes_are c.self.inside.names.items c.self.inside.texts.items c.self.inside.attributes.items c.self.inside.children.items c.self.inside.groups.items c.self.invariant c.args.self.now c.self.view_is c.args.g.0 c.requires c.index.result.now c.index.ensures) in
+    let own : c.split_at-2.result.1.now ≡ part_of rows span = c.split_at-2.ensures.back ∙ ap (drop span.from) (c.split_at.ensures.front ∙ ap (take span.end) c.as_slice.ensures.value) ∙ cut_out rows span (row_in c.self.inside.names.items c.self.inside.texts.items c.self.inside.attributes.items c.self.inside.children.items c.self.inside.groups.items c.self.invariant.tables c.args.self.now c.self.view_is c.args.g.0 c.requires c.index.result.now c.index.ensures).own.0 in
+    let all : map (attribute_of names texts) c.split_at-2.result.1.now ≡ attributes_of (group_at c.args.self.now c.args.g.0) = ap (map (attribute_of names texts)) own ∙ sym (part_of_map (attribute_of names texts) rows span) ∙ sym (attributes_are c.self.inside.names.items c.self.inside.texts.items c.self.inside.attributes.items c.self.inside.children.items c.self.inside.groups.items c.self.invariant.tables c.args.self.now c.self.view_is c.args.g.0 c.requires c.index.result.now c.index.ensures) in
     let place : ℕ = c.in_ok-place.place in
     let every : List Attribute = map (attribute_of names texts) rows in
-    let inside = subst (λ (n : ℕ). IsSpanIn n span) (sym (length-map rows (attribute_of names texts))) (row_in c.self.inside.names.items c.self.inside.texts.items c.self.inside.attributes.items c.self.inside.children.items c.self.inside.groups.items c.self.invariant c.args.self.now c.self.view_is c.args.g.0 c.requires c.index.result.now c.index.ensures).own in
-    let own_all = all ∙ attributes_are c.self.inside.names.items c.self.inside.texts.items c.self.inside.attributes.items c.self.inside.children.items c.self.inside.groups.items c.self.invariant c.args.self.now c.self.view_is c.args.g.0 c.requires c.index.result.now c.index.ensures in
+    let inside = subst (λ (n : ℕ). IsSpanIn n span) (sym (length-map rows (attribute_of names texts))) (row_in c.self.inside.names.items c.self.inside.texts.items c.self.inside.attributes.items c.self.inside.children.items c.self.inside.groups.items c.self.invariant.tables c.args.self.now c.self.view_is c.args.g.0 c.requires c.index.result.now c.index.ensures).own in
+    let own_all = all ∙ attributes_are c.self.inside.names.items c.self.inside.texts.items c.self.inside.attributes.items c.self.inside.children.items c.self.inside.groups.items c.self.invariant.tables c.args.self.now c.self.view_is c.args.g.0 c.requires c.index.result.now c.index.ensures in
     let below : place < length (part_of every span) = let w = c.in_ok-place.ensures.within in let l = length-map c.split_at-2.result.1.now (attribute_of names texts) in let m = ap length own_all in omega arith in
     let here : get_or (map (attribute_of names texts) c.split_at-2.result.1.now) place no_attribute ≡ attribute_at c.args.self.now (span.from + place) =
     ap (λ (l : List Attribute). get_or l place no_attribute) own_all ∙ part_entry every span place no_attribute inside below ∙ ap (λ (t : Tables). attribute_at t (span.from + place)) c.self.view_is in
