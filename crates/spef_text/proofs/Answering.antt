@@ -5,28 +5,32 @@ use Rattle.std.proofs.lemmas.List.{length-drop}
 use Rattle.token_fronts.specs.Machine.{Stop, outcome}
 use Rattle.token_fronts.specs.Stopping.{stopped}
 use Rattle.token_fronts.specs.ReadingLaw.{makes_said, leaves_where_stopped, one_reading, one_leaving}
-use Rattle.spef_text.specs.Tokens.{AreTokens, end, skip, take_one, broken, IsToken}
-use Rattle.spef_text.specs.Cuts.{IsWithin}
+use Rattle.token_texts.specs.Cuts.{Part, AreParts, no_part, and_gap, and_token, IsWithin}
+use Rattle.spef_text.specs.Tokens.{cut_at, texts_of, AreTokens, IsToken}
 use Rattle.spef_text.specs.Grammar.{IsSpef}
 use Rattle.spef_text.specs.Entries.{Reading}
 use Rattle.spef_text.specs.Modes.{State, first_state, next, finish}
 use Rattle.spef_text.specs.SpefFiles.{SaysSpef, LeavesSpef, Reads, IsDead, IsRefusalAt, HasForm}
 use Rattle.spef_text.specs.declared.parsing.SpefEnd.{SpefEnd}
 use Rattle.spef_text.specs.declared.parsing.SpefEnd.TheVariants.{Syntax, Form, OutOfMemory}
-use Rattle.spef_text.specs.declared.scan.Cut.{Cut}
-use Rattle.spef_text.specs.declared.scan.Cut.TheVariants.{Take}
+use Rattle.token_texts.specs.declared.cuts.Cut.{Cut}
+use Rattle.token_texts.specs.declared.cuts.Cut.TheVariants.{Take}
+use Rattle.spef_text.specs.declared.scan.Kind.{Kind}
 use Rattle.spef_text.proofs.Cutting.{cut_within}
 use Rattle.spef_text.proofs.Scanning.{one_tokens}
 use Rattle.spef_text.proofs.Fitting.{fits}
 
+few_parts : {bytes : List ℕ} {parts : List (Part Kind)} → AreParts cut_at bytes parts → length (texts_of parts) ≤ length bytes
+few_parts no_part = omega arith
+few_parts (and_gap {first = first} {rest = rest} n e later) = omega (arith, few_parts later, length-drop n (first ∷ rest))
+few_parts (and_token {first = first} {rest = rest} n kind e later) =
+    let within : IsWithin (length rest + 1) (Take n kind) =
+    subst (λ (cut : Cut Kind). IsWithin (length rest + 1) cut) e (cut_within first rest) in
+    omega (arith, few_parts later, length-drop n (first ∷ rest), within.0)
+
 -- there are no more tokens than bytes
 pub few_tokens : {bytes : List ℕ} {texts : List (List ℕ)} → AreTokens bytes texts → length texts ≤ length bytes
-few_tokens end = omega arith
-few_tokens (skip {first = first} {rest = rest} n e later) = omega (arith, few_tokens later, length-drop n (first ∷ rest))
-few_tokens (take_one {first = first} {rest = rest} n e later) =
-    let within : IsWithin (length rest + 1) (Take n) = subst (λ (cut : Cut). IsWithin (length rest + 1) cut) e (cut_within first rest) in
-    omega (arith, few_tokens later, length-drop n (first ∷ rest), within.0)
-few_tokens (broken e) = omega arith
+few_tokens are = rw are.are (few_parts are.parted)
 
 one_parting : (bytes : List ℕ) (one other : List (List ℕ)) → AreTokens bytes one → AreTokens bytes other → one ≡ other
 one_parting bytes one other is is' = one_tokens is is'

@@ -4,7 +4,8 @@ use Rattle.edge_io.specs.Bytes.{quote, slash, backslash}
 use Rattle.token_texts.specs.Blanks.{is_blank}
 use Rattle.token_texts.specs.ByteLemmas.{not_byte}
 use Rattle.spef_text.specs.Tokens.{run_length, cut_at, is_broken, is_broken_cut}
-use Rattle.spef_text.specs.declared.scan.Cut.TheVariants.{Skip, Take}
+use Rattle.token_texts.specs.declared.cuts.Cut.TheVariants.{Skip, Take}
+use Rattle.spef_text.specs.declared.scan.Kind.TheVariants.{Whole}
 use Rattle.spef_text.proofs.Cutting.{cut_backslash, cut_backslash_last}
 
 pub by_first : (text : List ℕ) (first : ℕ) (rest : List ℕ) → text ≡ first ∷ rest → is_broken text ≡ is_broken_cut (cut_at first rest)
@@ -20,7 +21,7 @@ pub backslash_broken : (rest : List ℕ) → is_broken_cut (cut_at backslash res
 backslash_broken [] = ap is_broken_cut (cut_backslash_last [] refl)
 backslash_broken (b ∷ rest) = ap is_broken_cut (cut_backslash (b ∷ rest) (omega arith)) ∙ sym (not_byte (length (b ∷ rest)) 0 (λ e. omega arith))
 
-neither : (blank : Bool) (n : ℕ) → is_broken_cut (cond blank (Skip 1) (Take n)) ≡ false
+neither : (blank : Bool) (n : ℕ) → is_broken_cut (cond blank (Skip 1) (Take n Whole)) ≡ false
 neither true n = refl
 neither false n = refl
 

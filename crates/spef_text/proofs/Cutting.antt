@@ -7,9 +7,12 @@ use Rattle.token_texts.specs.Blanks.{is_blank}
 use Rattle.token_texts.specs.Comments.{line_length, comment_end}
 use Rattle.token_texts.specs.CommentLemmas.{line_within, pair_within}
 use Rattle.token_texts.specs.RunLemmas.{escaped_within}
-use Rattle.spef_text.specs.Cuts.{IsWithin}
+use Rattle.token_texts.specs.Cuts.{IsWithin}
 use Rattle.spef_text.specs.Tokens.{is_quote, is_backslash, ends_text, is_nothing, is_solid, text_cut, comment_cut, run_length, cut_at}
-use Rattle.spef_text.specs.declared.scan.Cut.TheVariants.{Skip, Take, Broken}
+use Rattle.token_texts.specs.declared.cuts.Cut.{Cut}
+use Rattle.token_texts.specs.declared.cuts.Cut.TheVariants.{Skip, Take}
+use Rattle.spef_text.specs.declared.scan.Kind.{Kind}
+use Rattle.spef_text.specs.declared.scan.Kind.TheVariants.{Whole, Broken}
 use Rattle.spef_text.proofs.Runs.{run_plain, run_taking, run_from}
 
 pub cut_blank : (first : ℕ) (rest : List ℕ) → is_blank first ≡ true → cut_at first rest ≡ Skip 1
@@ -24,52 +27,58 @@ pub cut_line : (rest : List ℕ) → begins_with slash rest ≡ true → cut_at 
 unfolding cut_at
 cut_line rest p = simp p
 
-pub cut_comment : (rest : List ℕ) → begins_with slash rest ≡ false → begins_with star rest ≡ true → cut_at slash rest ≡ comment_cut (comment_end (drop 1 rest))
+pub cut_comment : (rest : List ℕ) → begins_with slash rest ≡ false → begins_with star rest ≡ true → cut_at slash rest ≡ comment_cut (drop 1 rest) (comment_end (drop 1 rest))
 unfolding cut_at
 cut_comment rest p q = simp (p, q)
 
-pub cut_slash : (rest : List ℕ) → begins_with slash rest ≡ false → begins_with star rest ≡ false → cut_at slash rest ≡ Take (run_length rest + 1)
+pub cut_slash : (rest : List ℕ) → begins_with slash rest ≡ false → begins_with star rest ≡ false → cut_at slash rest ≡ Take (run_length rest + 1) Whole
 unfolding cut_at
-cut_slash rest p q = simp (p, q) (ap (λ n. Take n) (run_plain slash rest refl refl))
+cut_slash rest p q = simp (p, q) (ap (λ n. Take n Whole) (run_plain slash rest refl refl))
 
-pub cut_backslash_last : (rest : List ℕ) → length rest ≡ 0 → cut_at backslash rest ≡ Broken
+pub cut_backslash_last : (rest : List ℕ) → length rest ≡ 0 → cut_at backslash rest ≡ Take (length rest + 1) Broken
 unfolding cut_at
 cut_backslash_last [] p = refl
 cut_backslash_last (b ∷ rest) p = absurd (omega arith)
 
-pub cut_backslash : (rest : List ℕ) → 0 < length rest → cut_at backslash rest ≡ Take (run_length (drop 1 rest) + 2)
+pub cut_backslash : (rest : List ℕ) → 0 < length rest → cut_at backslash rest ≡ Take (run_length (drop 1 rest) + 2) Whole
 unfolding cut_at
 cut_backslash [] p = absurd (omega arith)
-cut_backslash (b ∷ rest) p = ap (λ n. Take n) (run_taking backslash b rest refl)
+cut_backslash (b ∷ rest) p = ap (λ n. Take n Whole) (run_taking backslash b rest refl)
 
-pub cut_run : (first : ℕ) (rest : List ℕ) → is_blank first ≡ false → (first == quote) ≡ false → (first == slash) ≡ false → (first == backslash) ≡ false → cut_at first rest ≡ Take (run_length rest + 1)
+pub cut_run : (first : ℕ) (rest : List ℕ) → is_blank first ≡ false → (first == quote) ≡ false → (first == slash) ≡ false → (first == backslash) ≡ false → cut_at first rest ≡ Take (run_length rest + 1) Whole
 unfolding cut_at
-cut_run first rest p q r s = simp (p, q, r, s) (ap (λ n. Take n) (run_plain first rest s p))
+cut_run first rest p q r s = simp (p, q, r, s) (ap (λ n. Take n Whole) (run_plain first rest s p))
 
-text_within : (rest : List ℕ) (end : Option ℕ) → ((i : ℕ) → end ≡ Some i → i < length rest) → IsWithin (length rest + 1) (text_cut rest end)
-text_within rest None below = tt
+text_within : (rest : List ℕ) (end : Option ℕ) → ((i : ℕ) → end ≡ Some i → i < length rest)
+    → IsWithin (length rest + 1) (text_cut rest end)
+text_within rest None below = (omega arith, omega arith)
 text_within rest (Some place) below =
     let lt = below place refl in
-    elim (is_quote (slice_index rest place)) as (λ t. IsWithin (length rest + 1) (cond t (Take (place + 2)) Broken)) [ true ↦ (omega arith, omega arith) | false ↦ tt ]
+    elim (is_quote (slice_index rest place))
+    as (λ t. IsWithin (length rest + 1) (cond t (Take (place + 2) Whole) (Take (length rest + 1) Broken)))
+    [ true ↦ (omega arith, omega arith) | false ↦ (omega arith, omega arith) ]
 
-comment_cut_within : (rest : List ℕ) (end : Option ℕ) → ((i : ℕ) → end ≡ Some i → i + 2 ≤ length rest) → IsWithin (length rest + 2) (comment_cut end)
-comment_cut_within rest None below = tt
-comment_cut_within rest (Some place) below = let le = below place refl in (omega arith, omega arith)
-
-take_within : (n : ℕ) (bytes : List ℕ) → 0 < n → n ≤ length bytes → IsWithin (length bytes) (Take n)
-take_within n bytes some le = (some, le)
+comment_cut_within : (inner : List ℕ) (end : Option ℕ) → ((i : ℕ) → end ≡ Some i → i + 2 ≤ length inner)
+    → IsWithin (length inner + 2) (comment_cut inner end)
+comment_cut_within inner None below = (omega arith, omega arith)
+comment_cut_within inner (Some place) below = let le = below place refl in (omega arith, omega arith)
 
 -- behind a slash with a star the end of a comment leaves room
-comment_all_within : (rest : List ℕ) → begins_with star rest ≡ true → IsWithin (length rest + 1) (comment_cut (comment_end (drop 1 rest)))
+comment_all_within : (rest : List ℕ) → begins_with star rest ≡ true
+    → IsWithin (length rest + 1) (comment_cut (drop 1 rest) (comment_end (drop 1 rest)))
 comment_all_within [] h = absurd (cc)
 comment_all_within (b ∷ rest) h =
     let within = comment_cut_within rest (comment_end rest) (pair_within star slash rest) in
     let e : length rest + 2 ≡ length (b ∷ rest) + 1 = omega arith in
-    subst (λ (n : ℕ). IsWithin n (comment_cut (comment_end rest))) e within
+    subst (λ (n : ℕ). IsWithin n (comment_cut rest (comment_end rest))) e within
 
 second : (s t : Bool) → s && t ≡ true → t ≡ true
 second true t h = h
 second false t h = absurd (cc)
+
+-- a cut of a first byte and those behind it
+abbrev Fits : List ℕ → Cut Kind → Type 0
+Fits rest cut = IsWithin (length rest + 1) cut
 
 -- what stands at the front has a byte, and none past the end
 pub cut_within : (first : ℕ) (rest : List ℕ) → IsWithin (length rest + 1) (cut_at first rest)
@@ -81,15 +90,17 @@ cut_within first rest =
     (λ h. comment_all_within rest (second (first == slash) (begins_with star rest) h))
     (λ p q. let all = escaped_within is_solid (first ∷ rest) in (run_from first rest p q, omega arith))
   where
-    by : (blank quote line comment last : Bool)
-        → IsWithin (length rest + 1) (text_cut rest (position ends_text rest))
-        → IsWithin (length rest + 1) (Skip (line_length rest))
-        → (comment ≡ true → IsWithin (length rest + 1) (comment_cut (comment_end (drop 1 rest))))
-        → (blank ≡ false → last ≡ false → IsWithin (length rest + 1) (Take (run_length (first ∷ rest))))
-        → IsWithin (length rest + 1) (cond blank (Skip 1) (cond quote (text_cut rest (position ends_text rest)) (cond line (Skip (line_length rest)) (cond comment (comment_cut (comment_end (drop 1 rest))) (cond last Broken (Take (run_length (first ∷ rest))))))))
-    by true quote line comment last text whole inside run = (omega arith, omega arith)
+    by : (blank quoted line comment last : Bool)
+        → Fits rest (text_cut rest (position ends_text rest))
+        → Fits rest (Skip (line_length rest))
+        → (comment ≡ true → Fits rest (comment_cut (drop 1 rest) (comment_end (drop 1 rest))))
+        → (blank ≡ false → last ≡ false → Fits rest (Take (run_length (first ∷ rest)) Whole))
+        → Fits rest (cond blank (Skip 1) (cond quoted (text_cut rest (position ends_text rest)) (cond line (Skip (line_length rest))
+        (cond comment (comment_cut (drop 1 rest) (comment_end (drop 1 rest)))
+        (cond last (Take (length rest + 1) Broken) (Take (run_length (first ∷ rest)) Whole))))))
+    by true quoted line comment last text whole inside run = (omega arith, omega arith)
     by false true line comment last text whole inside run = text
     by false false true comment last text whole inside run = whole
     by false false false true last text whole inside run = inside refl
-    by false false false false true text whole inside run = tt
+    by false false false false true text whole inside run = (omega arith, omega arith)
     by false false false false false text whole inside run = run refl refl

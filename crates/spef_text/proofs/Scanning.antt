@@ -1,11 +1,34 @@
 -- The tokens so far, and that given bytes have only one list of tokens.
-use Rattle.std.proofs.Common.{◌≡◌, ℕ, ◌+◌, ◌-◌, ◌<◌, ◌≤◌, List, [], ◌∷◌, ◌++◌, length, suc, get_or, take, drop, length-drop, sym, refl, ap, ◌∙◌, subst, arith, append-nil}
-use Rattle.std.proofs.lemmas.List.{drop-drop, drop_all, take_all}
+use Rattle.std.proofs.Common.{◌≡◌, ℕ, ◌+◌, ◌-◌, ◌≤◌, List, [], ◌∷◌, ◌++◌, length, suc, take, drop, length-drop, sym, refl, ap, ◌∙◌, subst, arith, append-nil}
+use Rattle.std.proofs.lemmas.List.{drop-drop}
+use Rattle.token_texts.specs.Cuts.{gap, token, no_part, and_gap, and_token}
+use Rattle.token_texts.specs.CutLemmas.{one_parting}
 use Rattle.token_texts.specs.Spans.{text_at}
+use Rattle.token_texts.specs.declared.cuts.Cut.TheVariants.{Skip, Take}
 use Rattle.spef_text.specs.Spans.{texts}
-use Rattle.spef_text.specs.Tokens.{cut_at, AreTokens, end, skip, take_one, broken}
-use Rattle.spef_text.specs.declared.scan.Cut.TheVariants.{Skip, Take, Broken}
+use Rattle.spef_text.specs.Tokens.{cut_at, texts_of, AreTokens}
+use Rattle.spef_text.specs.declared.scan.Kind.{Kind}
 use Rattle.token_texts.specs.declared.spans.Span.{Span}
+
+-- ---- tokens one after another
+
+end : AreTokens [] []
+end = record { parts = []; parted = no_part; are = refl }
+
+skip : {first : ℕ} {rest : List ℕ} {texts : List (List ℕ)} (n : ℕ) → cut_at first rest ≡ Skip n
+    → AreTokens (drop n (first ∷ rest)) texts → AreTokens (first ∷ rest) texts
+skip {first} {rest} n cut more =
+    record { parts = gap (take n (first ∷ rest)) ∷ more.parts; parted = and_gap n cut more.parted; are = more.are }
+
+take_one : {first : ℕ} {rest : List ℕ} {texts : List (List ℕ)} (n : ℕ) (kind : Kind) → cut_at first rest ≡ Take n kind
+    → AreTokens (drop n (first ∷ rest)) texts → AreTokens (first ∷ rest) (take n (first ∷ rest) ∷ texts)
+take_one {first} {rest} n kind cut more = record {
+  parts = token (record { kind = kind; bytes = take n (first ∷ rest) }) ∷ more.parts;
+  parted = and_token n kind cut more.parted;
+  are = ap (λ l. take n (first ∷ rest) ∷ l) more.are;
+}
+
+-- ---- the tokens so far
 
 -- up to `start` the bytes have the tokens of these spans: whatever tokens the rest has, the whole has them behind these
 pub record ScannedTo (bytes : List ℕ) (start : ℕ) (spans : List Span) : Type 0 where
@@ -37,30 +60,14 @@ one_more : (bytes : List ℕ) (spans : List Span) (span : Span) (rest : List (Li
 one_more bytes [] span rest = refl
 one_more bytes (s ∷ spans) span rest = ap (λ l. text_at bytes s ∷ l) (one_more bytes spans span rest)
 
-pub taken : (bytes : List ℕ) (start : ℕ) (spans : List Span) (first : ℕ) (after : List ℕ) (n : ℕ) → ScannedTo bytes start spans → drop start bytes ≡ first ∷ after → cut_at first after ≡ Take n → n ≤ length after + 1 → ScannedTo bytes (start + n) (spans ++ record { start = start; len = n } ∷ [])
-taken bytes start spans first after n h split cut le =
+pub taken : (bytes : List ℕ) (start : ℕ) (spans : List Span) (first : ℕ) (after : List ℕ) (n : ℕ) (kind : Kind) → ScannedTo bytes start spans → drop start bytes ≡ first ∷ after → cut_at first after ≡ Take n kind → n ≤ length after + 1 → ScannedTo bytes (start + n) (spans ++ record { start = start; len = n } ∷ [])
+taken bytes start spans first after n kind h split cut le =
     let size = room bytes start first after split in
     record {
       within = omega arith;
       so_far = λ rest are.
           subst (AreTokens bytes) (sym (one_more bytes spans (record { start = start; len = n }) rest))
-          (h.so_far _ (subst (λ (l : List ℕ). AreTokens l (take n l ∷ rest)) (sym split) (take_one n cut (behind bytes start n first after rest split are))));
-    }
-
-no_tokens : {rest : List (List ℕ)} → AreTokens [] rest → rest ≡ []
-no_tokens end = refl
-
-pub ended_broken : (bytes : List ℕ) (start : ℕ) (spans : List Span) (first : ℕ) (after : List ℕ) → ScannedTo bytes start spans → drop start bytes ≡ first ∷ after → cut_at first after ≡ Broken → ScannedTo bytes (length bytes) (spans ++ record { start = start; len = length bytes - start } ∷ [])
-ended_broken bytes start spans first after h split cut =
-    let size = room bytes start first after split in
-    let all : take (length bytes - start) (drop start bytes) ≡ first ∷ after = ap (take (length bytes - start)) split ∙ take_all (length bytes - start) (first ∷ after) (omega arith) in
-    record {
-      within = omega arith;
-      so_far = λ rest are.
-          let none : rest ≡ [] = no_tokens (subst (λ (l : List ℕ). AreTokens l rest) (drop_all (length bytes) bytes (omega arith)) are) in
-          subst (AreTokens bytes) (sym (one_more bytes spans (record { start = start; len = length bytes - start }) rest ∙ ap (λ l. texts bytes spans ++ take (length bytes - start) (drop start bytes) ∷ l) none))
-          (h.so_far _ (subst (λ (l : List ℕ). AreTokens l (take (length bytes - start) (drop start bytes) ∷ [])) (sym split)
-          (subst (λ (t : List ℕ). AreTokens (first ∷ after) (t ∷ [])) (sym all) (broken cut))));
+          (h.so_far _ (subst (λ (l : List ℕ). AreTokens l (take n l ∷ rest)) (sym split) (take_one n kind cut (behind bytes start n first after rest split are))));
     }
 
 pub all_scanned : (bytes : List ℕ) (start : ℕ) (spans : List Span) → ScannedTo bytes start spans → drop start bytes ≡ [] → AreTokens bytes (texts bytes spans)
@@ -69,27 +76,4 @@ all_scanned bytes start spans h split =
 
 -- the tokens of given bytes are one list
 pub one_tokens : {bytes : List ℕ} {some other : List (List ℕ)} → AreTokens bytes some → AreTokens bytes other → some ≡ other
-one_tokens end end = refl
-one_tokens (skip {first = f} {rest = r} n cut are) (skip {texts = other} k same others) =
-    let e : k ≡ n = cc in
-    one_tokens are (subst (λ (m : ℕ). AreTokens (drop m (f ∷ r)) other) e others)
-one_tokens (skip n cut are) (take_one k same others) = absurd (cc)
-one_tokens (skip n cut are) (broken same) = absurd (cc)
-one_tokens (take_one n cut are) (skip k same others) = absurd (cc)
-one_tokens (take_one {first = f} {rest = r} {texts = some} n cut are) (take_one {texts = other} k same others) =
-    let e : k ≡ n = cc in
-    let rest : some ≡ other = one_tokens are (subst (λ (m : ℕ). AreTokens (drop m (f ∷ r)) other) e others) in
-    ap (λ l. take n (f ∷ r) ∷ l) rest ∙ ap (λ (m : ℕ). take m (f ∷ r) ∷ other) (sym e)
-one_tokens (take_one n cut are) (broken same) = absurd (cc)
-one_tokens (broken cut) (skip k same others) = absurd (cc)
-one_tokens (broken cut) (take_one k same others) = absurd (cc)
-one_tokens (broken cut) (broken same) = refl
-
--- a list with a first element, as a pattern takes it apart
-pub first_and_rest : (l : List ℕ) → 1 ≤ length l → l ≡ get_or l 0 0 ∷ take (length l - 1) (drop 1 l)
-first_and_rest [] some = absurd (omega arith)
-first_and_rest (x ∷ xs) some = ap (λ r. x ∷ r) (sym (take_all (length (x ∷ xs) - 1) xs (omega arith)))
-
-pub no_bytes : (l : List ℕ) → length l < 1 → l ≡ []
-no_bytes [] none = refl
-no_bytes (x ∷ xs) none = absurd (omega arith)
+one_tokens {bytes} {some} {other} are others = one_parting cut_at texts_of bytes some other are others

@@ -1,5 +1,4 @@
 pub mod Classes
-pub mod Cuts
 pub mod Spans
 pub mod Tokens
 pub mod Entries

@@ -8,7 +8,6 @@ ghost use Rattle.spef_text.specs.TokenOrder.{AreInFileOrder};
 
 /// The law of tokens, which its contract states: given bytes have only one list of them. It does nothing when it is
 /// called.
-#[tactic(auto, using(crate::proofs::Scanning::one_tokens))]
 pub fn one_tokens()
     ensures law { (bytes : List ℕ) (some other : List (List ℕ)) → AreTokens bytes some → AreTokens bytes other → some ≡ other }
 {}

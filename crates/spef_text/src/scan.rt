@@ -3,42 +3,40 @@ ghost use Rattle.std.specs.Prelude.{◌≡◌, ◌+◌, ◌^◌, ◌<◌, ◌≤
 ghost use Rattle.spef_text.specs.Spans.{texts};
 ghost use Rattle.token_texts.specs.Comments.{comment_end};
 ghost use Rattle.spef_text.specs.Tokens.{ends_text, text_cut, comment_cut, run_length, cut_at, AreTokens};
-ghost use Rattle.spef_text.specs.Cuts.{IsWithin};
+ghost use Rattle.token_texts.specs.Cuts.{IsWithin};
 
 use crate::lanes::plain_length;
 use edge_io::OutOfMemory;
 use memchr::memchr2;
 use std::alloc::Global;
-use token_texts::{Span, begins_with, comment_end, is_blank, line_length};
+use token_texts::{Cut, Span, begins_with, comment_end, is_blank, line_length};
 
-/// What stands at the front of some bytes: so many that are passed over, a token of so many, or a token that is broken,
-/// which takes them all.
+/// What a token is: one that can stand in a text, or one that is broken, which takes all the bytes that are left.
 #[derive(Clone, Copy, PartialEq, Eq, Debug)]
-pub enum Cut {
-    Skip(usize),
-    Take(usize),
+pub enum Kind {
+    Whole,
     Broken,
 }
 
 /// Behind a quote: a text to the next quote of the line, or an open one.
-fn text_cut(rest: &[u8]) -> Cut
+fn text_cut(rest: &[u8]) -> Cut<Kind>
     requires { length rest.now < 2 ^ 32 }
     ensures { result ≡ text_cut rest.now (position ends_text rest.now) }
 {
     match memchr2(b'"', b'\n', rest) {
-        Some(place) if rest[place] == b'"' => Cut::Take(place + 2),
-        _ => Cut::Broken,
+        Some(place) if rest[place] == b'"' => Cut::Take(place + 2, Kind::Whole),
+        _ => Cut::Take(rest.len() + 1, Kind::Broken),
     }
 }
 
 /// Behind the `/*` of a comment.
-fn comment_cut(rest: &[u8]) -> Cut
-    requires { length rest.now < 2 ^ 32 }
-    ensures { result ≡ comment_cut (comment_end rest.now) }
+fn comment_cut(inner: &[u8]) -> Cut<Kind>
+    requires { length inner.now < 2 ^ 32 }
+    ensures { result ≡ comment_cut inner.now (comment_end inner.now) }
 {
-    match comment_end(rest) {
+    match comment_end(inner) {
         Some(place) => Cut::Skip(place + 4),
-        None => Cut::Broken,
+        None => Cut::Take(inner.len() + 2, Kind::Broken),
     }
 }
 
@@ -70,7 +68,7 @@ fn run_length(bytes: &[u8]) -> usize
 }
 
 /// Behind a slash: a comment, or a run of bytes.
-fn slash_cut(rest: &[u8]) -> Cut
+fn slash_cut(rest: &[u8]) -> Cut<Kind>
     requires { length rest.now < 2 ^ 32 }
     ensures { result ≡ cut_at 47 rest.now }
 {
@@ -79,25 +77,25 @@ fn slash_cut(rest: &[u8]) -> Cut
     } else if begins_with(b'*', rest) {
         comment_cut(rest.split_at(1).1)
     } else {
-        Cut::Take(run_length(rest) + 1)
+        Cut::Take(run_length(rest) + 1, Kind::Whole)
     }
 }
 
 /// Behind a backslash: a run of bytes, the first of which it takes with it.
-fn backslash_cut(rest: &[u8]) -> Cut
+fn backslash_cut(rest: &[u8]) -> Cut<Kind>
     requires { length rest.now < 2 ^ 32 }
     ensures { result ≡ cut_at 92 rest.now }
 {
     if rest.is_empty() {
-        Cut::Broken
+        Cut::Take(rest.len() + 1, Kind::Broken)
     } else {
-        Cut::Take(run_length(rest.split_at(1).1) + 2)
+        Cut::Take(run_length(rest.split_at(1).1) + 2, Kind::Whole)
     }
 }
 
 /// What stands at the front of `first` and `rest`.
 #[inline]
-fn cut_at(first: u8, rest: &[u8]) -> Cut
+fn cut_at(first: u8, rest: &[u8]) -> Cut<Kind>
     requires { length rest.now < 2 ^ 32 }
     ensures value { result ≡ cut_at first rest.now }
     ensures within { IsWithin (length rest.now + 1) result }
@@ -111,7 +109,7 @@ fn cut_at(first: u8, rest: &[u8]) -> Cut
     } else if first == b'\\' {
         backslash_cut(rest)
     } else {
-        Cut::Take(run_length(rest) + 1)
+        Cut::Take(run_length(rest) + 1, Kind::Whole)
     }
 }
 
@@ -142,13 +140,9 @@ pub fn scan(alloc: Global, bytes: &[u8]) -> Result<Vec<Span>, OutOfMemory>
     while let [first, rest @ ..] = bytes.split_at(start).1 {
         match cut_at(*first, rest) {
             Cut::Skip(n) => start += n,
-            Cut::Take(n) => {
+            Cut::Take(n, _) => {
                 push_token(&mut spans, start, n)?;
                 start += n;
-            }
-            Cut::Broken => {
-                push_token(&mut spans, start, bytes.len() - start)?;
-                start = bytes.len();
             }
         }
     }

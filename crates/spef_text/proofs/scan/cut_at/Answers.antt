@@ -1,14 +1,16 @@
 -- What stands at the front, by the first byte.
 use Rattle.std.proofs.Common.{◌≡◌, ℕ, ◌+◌, List, length, sym, ap, ◌∙◌, subst}
-use Rattle.spef_text.specs.Cuts.{IsWithin}
+use Rattle.token_texts.specs.Cuts.{IsWithin}
 use Rattle.spef_text.specs.Tokens.{cut_at}
-use Rattle.spef_text.specs.declared.scan.Cut.{Cut}
-use Rattle.spef_text.specs.declared.scan.Cut.TheVariants.{Take}
+use Rattle.token_texts.specs.declared.cuts.Cut.{Cut}
+use Rattle.token_texts.specs.declared.cuts.Cut.TheVariants.{Take}
+use Rattle.spef_text.specs.declared.scan.Kind.{Kind}
+use Rattle.spef_text.specs.declared.scan.Kind.TheVariants.{Whole}
 use Rattle.spef_text.proofs.Cutting.{cut_blank, cut_quote, cut_run, cut_within}
 use Rattle.token_texts.specs.ByteLemmas.{not_byte}
 use Rattle.spef_text.proofs.scan.cut_at.Goals as goal
 
-within_of : (first : ℕ) (rest : List ℕ) (cut : Cut) → cut ≡ cut_at first rest → IsWithin (length rest + 1) cut
+within_of : (first : ℕ) (rest : List ℕ) (cut : Cut Kind) → cut ≡ cut_at first rest → IsWithin (length rest + 1) cut
 within_of first rest cut e = subst (IsWithin (length rest + 1)) (sym e) (cut_within first rest)
 
 pub returns-then-is_blank-clause-value : goal.returns-then-is_blank-clause-value
@@ -32,4 +34,4 @@ returns-then-first-eq92-clause-within c = within_of 92 c.args.rest.now _ c.backs
 pub returns-else-first-eq92-clause-value : goal.returns-else-first-eq92-clause-value
 returns-else-first-eq92-clause-value c =
     sym (cut_run c.args.first c.args.rest.now (sym c.is_blank.ensures ∙ c.if-is_blank.false) (not_byte _ 34 c.if-first-eq34.false) (not_byte _ 47 c.if-first-eq47.false) (not_byte _ 92 c.if-first-eq92.false)
-    ∙ sym (ap (λ (n : ℕ). Take (n + 1)) c.run_length.ensures.value))
+    ∙ sym (ap (λ (n : ℕ). Take (n + 1) Whole) c.run_length.ensures.value))

@@ -2,7 +2,8 @@
 use Rattle.std.proofs.Common.{ℕ, ◌+◌, sym, ap, ◌∙◌}
 use Rattle.token_texts.specs.Comments.{comment_end}
 use Rattle.spef_text.specs.Tokens.{comment_cut}
-use Rattle.spef_text.specs.declared.scan.Cut.TheVariants.{Skip, Take}
+use Rattle.token_texts.specs.declared.cuts.Cut.TheVariants.{Skip, Take}
+use Rattle.spef_text.specs.declared.scan.Kind.TheVariants.{Whole}
 use Rattle.spef_text.proofs.Cutting.{cut_line, cut_comment, cut_slash}
 use Rattle.spef_text.proofs.scan.slash_cut.Goals as goal
 
@@ -13,9 +14,9 @@ returns-then-begins_with c =
 pub returns-then-begins_with-2 : goal.returns-then-begins_with-2
 returns-then-begins_with-2 c =
     sym (cut_comment c.args.rest.now (sym c.begins_with.ensures ∙ c.if-begins_with.false) (sym c.begins_with-else-begins_with.ensures ∙ c.if-begins_with-2.true)
-    ∙ sym (c.comment_cut.ensures ∙ ap (λ l. comment_cut (comment_end l)) c.split_at.ensures.back))
+    ∙ sym (c.comment_cut.ensures ∙ ap (λ l. comment_cut l (comment_end l)) c.split_at.ensures.back))
 
 pub returns-else-begins_with-2 : goal.returns-else-begins_with-2
 returns-else-begins_with-2 c =
     sym (cut_slash c.args.rest.now (sym c.begins_with.ensures ∙ c.if-begins_with.false) (sym c.begins_with-else-begins_with.ensures ∙ c.if-begins_with-2.false)
-    ∙ sym (ap (λ (n : ℕ). Take (n + 1)) c.run_length.ensures.value))
+    ∙ sym (ap (λ (n : ℕ). Take (n + 1) Whole) c.run_length.ensures.value))
