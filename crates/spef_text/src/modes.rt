@@ -474,10 +474,10 @@ fn res_id_step(text: &[u8]) -> Step
 
 impl Mode {
     /// What the token of this number and text does, where `mark` is the delimiter.
-    pub fn next(self, mark: u8, number: u32, text: &[u8]) -> Step
-        ensures { result ≡ next_mode self mark number text.now }
+    pub fn next(&self, mark: u8, number: u32, text: &[u8]) -> Step
+        ensures { result ≡ next_mode self.now mark number text.now }
     {
-        match self {
+        match *self {
             Mode::Start => start_step(word_of(text)),
             Mode::Others => others_step(text),
             Mode::DesignName => design_step(number, text),
@@ -516,11 +516,11 @@ impl Mode {
     }
 
     /// Whether the file may end here.
-    pub fn may_end(self) -> bool
-        ensures { result ≡ may_end self }
+    pub fn may_end(&self) -> bool
+        ensures { result ≡ may_end self.now }
     {
         matches!(
-            self,
+            *self,
             Mode::Others | Mode::DesignName | Mode::Items | Mode::NameMap | Mode::Sections
         )
     }

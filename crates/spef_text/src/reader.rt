@@ -40,10 +40,10 @@ impl Reader {
     }
 
     /// Does what the step says, if it is no refusal.
-    fn step(&mut self, step: Step) -> Result<bool, OutOfMemory>
-        ensures { IfOk result (Steps (state_of self.old) (state_of self.new) step) }
+    fn step(&mut self, step: &Step) -> Result<bool, OutOfMemory>
+        ensures { IfOk result (Steps (state_of self.old) (state_of self.new) step.now) }
     {
-        match step {
+        match *step {
             Step::Refuse => return Ok(false),
             Step::Go(mode) => self.mode = mode,
             Step::Put(mode, item) => {
@@ -83,7 +83,7 @@ impl Reader {
             (next_mode self.old.mode self.old.head.marks.delimiter number text.now)) }
     {
         let step = self.mode.next(self.head.delimiter(), number, text);
-        self.step(step)
+        self.step(&step)
     }
 }
 
