@@ -63,6 +63,10 @@ no_colon text clean =
     ap (λ n. cond (nat_lt n (length text)) (Some n) None) clean
     ∙ ap (λ t. cond t (Some (length text)) None) (lt-leb (suc (length text)) (length text) (omega arith))
 
+pub literal_without_colon : (text : List ℕ) → is_literal text ≡ true → position is_colon text ≡ None
+unfolding is_literal
+literal_without_colon text is = no_colon text (clean_from at_start text is)
+
 pub one_literal_is_value : (text : List ℕ) → is_literal text ≡ true → is_value text ≡ true
-unfolding is_value is_literal
-one_literal_is_value text is = ap (is_value_parted text) (no_colon text (clean_from at_start text is)) ∙ is
+unfolding is_value
+one_literal_is_value text is = ap (is_value_parted text) (literal_without_colon text is) ∙ is
