@@ -1,14 +1,14 @@
 -- What stands at the front of some bytes, by their first byte.
-use Rattle.std.proofs.Common.{◌≡◌, ℕ, ◌+◌, ◌<◌, ◌≤◌, Bool, true, false, cond, ◌&&◌, ◌==◌, List, [], ◌∷◌, length, drop, Option, Some, None, position, refl, ap, subst, arith}
+use Rattle.std.proofs.Common.{◌≡◌, ℕ, ◌+◌, ◌<◌, Bool, true, false, cond, ◌&&◌, ◌==◌, List, [], ◌∷◌, length, drop, Option, Some, None, position, refl, ap, arith}
 use Rattle.std.specs.Prelude.{slice_index}
 use Rattle.std.proofs.lemmas.List.Quantifiers.{position-Some}
 use Rattle.edge_io.specs.Bytes.{quote, star, slash, backslash, begins_with}
 use Rattle.token_texts.specs.Blanks.{is_blank}
-use Rattle.token_texts.specs.Comments.{line_length, comment_end}
-use Rattle.token_texts.specs.CommentLemmas.{line_within, pair_within}
+use Rattle.token_texts.specs.Comments.{line_length, comment_cut}
+use Rattle.token_texts.specs.CommentLemmas.{line_within, comment_within}
 use Rattle.token_texts.specs.RunLemmas.{escaped_within}
 use Rattle.token_texts.specs.Cuts.{IsWithin}
-use Rattle.spef_text.specs.Tokens.{is_quote, is_backslash, ends_text, is_nothing, is_solid, text_cut, comment_cut, run_length, cut_at}
+use Rattle.spef_text.specs.Tokens.{is_quote, is_backslash, ends_text, is_nothing, is_solid, text_cut, run_length, cut_at}
 use Rattle.token_texts.specs.declared.cuts.Cut.{Cut}
 use Rattle.token_texts.specs.declared.cuts.Cut.TheVariants.{Skip, Take}
 use Rattle.spef_text.specs.declared.scan.Kind.{Kind}
@@ -27,7 +27,7 @@ pub cut_line : (rest : List ℕ) → begins_with slash rest ≡ true → cut_at 
 unfolding cut_at
 cut_line rest p = simp p
 
-pub cut_comment : (rest : List ℕ) → begins_with slash rest ≡ false → begins_with star rest ≡ true → cut_at slash rest ≡ comment_cut (drop 1 rest) (comment_end (drop 1 rest))
+pub cut_comment : (rest : List ℕ) → begins_with slash rest ≡ false → begins_with star rest ≡ true → cut_at slash rest ≡ comment_cut slash Broken (drop 1 rest)
 unfolding cut_at
 cut_comment rest p q = simp (p, q)
 
@@ -58,20 +58,6 @@ text_within rest (Some place) below =
     as (λ t. IsWithin (length rest + 1) (cond t (Take (place + 2) Whole) (Take (length rest + 1) Broken)))
     [ true ↦ (omega arith, omega arith) | false ↦ (omega arith, omega arith) ]
 
-comment_cut_within : (inner : List ℕ) (end : Option ℕ) → ((i : ℕ) → end ≡ Some i → i + 2 ≤ length inner)
-    → IsWithin (length inner + 2) (comment_cut inner end)
-comment_cut_within inner None below = (omega arith, omega arith)
-comment_cut_within inner (Some place) below = let le = below place refl in (omega arith, omega arith)
-
--- behind a slash with a star the end of a comment leaves room
-comment_all_within : (rest : List ℕ) → begins_with star rest ≡ true
-    → IsWithin (length rest + 1) (comment_cut (drop 1 rest) (comment_end (drop 1 rest)))
-comment_all_within [] h = absurd (cc)
-comment_all_within (b ∷ rest) h =
-    let within = comment_cut_within rest (comment_end rest) (pair_within star slash rest) in
-    let e : length rest + 2 ≡ length (b ∷ rest) + 1 = omega arith in
-    subst (λ (n : ℕ). IsWithin n (comment_cut rest (comment_end rest))) e within
-
 second : (s t : Bool) → s && t ≡ true → t ≡ true
 second true t h = h
 second false t h = absurd (cc)
@@ -87,16 +73,16 @@ cut_within first rest =
     by (is_blank first) (is_quote first) (first == slash && begins_with slash rest) (first == slash && begins_with star rest) (is_backslash first && is_nothing rest)
     (text_within rest (position ends_text rest) (λ i e. (position-Some ends_text rest i 0 e).0))
     (line_within rest)
-    (λ h. comment_all_within rest (second (first == slash) (begins_with star rest) h))
+    (λ h. comment_within Broken slash rest (second (first == slash) (begins_with star rest) h))
     (λ p q. let all = escaped_within is_solid (first ∷ rest) in (run_from first rest p q, omega arith))
   where
     by : (blank quoted line comment last : Bool)
         → Fits rest (text_cut rest (position ends_text rest))
         → Fits rest (Skip (line_length rest))
-        → (comment ≡ true → Fits rest (comment_cut (drop 1 rest) (comment_end (drop 1 rest))))
+        → (comment ≡ true → Fits rest (comment_cut slash Broken (drop 1 rest)))
         → (blank ≡ false → last ≡ false → Fits rest (Take (run_length (first ∷ rest)) Whole))
         → Fits rest (cond blank (Skip 1) (cond quoted (text_cut rest (position ends_text rest)) (cond line (Skip (line_length rest))
-        (cond comment (comment_cut (drop 1 rest) (comment_end (drop 1 rest)))
+        (cond comment (comment_cut slash Broken (drop 1 rest))
         (cond last (Take (length rest + 1) Broken) (Take (run_length (first ∷ rest)) Whole))))))
     by true quoted line comment last text whole inside run = (omega arith, omega arith)
     by false true line comment last text whole inside run = text

@@ -6,9 +6,9 @@ use Rattle.std.proofs.lemmas.List.Sums.{position_or_len_is}
 use Rattle.std.proofs.lemmas.List.Quantifiers.{position-Some}
 use Rattle.edge_io.specs.Bytes.{star, slash, begins_with}
 use Rattle.token_texts.specs.Blanks.{is_blank}
-use Rattle.token_texts.specs.Comments.{line_length, comment_end}
+use Rattle.token_texts.specs.Comments.{line_length, comment_end, comment_to, comment_cut}
 use Rattle.token_texts.specs.RunLemmas.{escaped_within, escaped_whole}
-use Rattle.spef_text.specs.Tokens.{is_quote, is_backslash, ends_text, is_nothing, is_solid, text_cut, comment_cut, run_length, cut_at, IsToken, is_broken, is_broken_cut, texts_of, AreTokens}
+use Rattle.spef_text.specs.Tokens.{is_quote, is_backslash, ends_text, is_nothing, is_solid, text_cut, run_length, cut_at, IsToken, is_broken, is_broken_cut, texts_of, AreTokens}
 use Rattle.spef_text.specs.TokenTexts.{StandAlone}
 use Rattle.token_texts.specs.Cuts.{Part, AreParts, no_part, and_gap, and_token}
 use Rattle.token_texts.specs.declared.cuts.Cut.{Cut}
@@ -73,7 +73,7 @@ text_token first rest n (Some place) blank quote found h = by (is_quote (get_or 
         subst (λ (m : ℕ). IsToken (take m (first ∷ rest))) (sym size) (text_alone first rest place blank quote found closes)
     by false closes e = absurd (cc)
 
-no_comment_token : (inner : List ℕ) (end : Option ℕ) (n : ℕ) → comment_cut inner end ≡ Take n Whole → ⊥
+no_comment_token : (inner : List ℕ) (end : Option ℕ) (n : ℕ) → comment_to Broken inner end ≡ Take n Whole → ⊥
 no_comment_token inner None n h = cc
 no_comment_token inner (Some place) n h = cc
 
@@ -86,7 +86,7 @@ run_token first rest (suc k) blank quote line comment last size = run_alone firs
 abbrev by_tests : ℕ → List ℕ → (blank quote line comment last : Bool) → Cut Kind
 by_tests first rest blank quote line comment last =
     cond blank (Skip 1) (cond quote (text_cut rest (position ends_text rest)) (cond line (Skip (line_length rest))
-    (cond comment (comment_cut (drop 1 rest) (comment_end (drop 1 rest)))
+    (cond comment (comment_cut slash Broken (drop 1 rest))
     (cond last (Take (length rest + 1) Broken) (Take (run_length (first ∷ rest)) Whole)))))
 
 token_text : (first : ℕ) (rest : List ℕ) (n : ℕ) → cut_at first rest ≡ Take n Whole → IsToken (take n (first ∷ rest))
@@ -114,7 +114,7 @@ open_text rest (Some place) n h = by (is_quote (get_or rest place 0)) h
     by true e = absurd (cc)
     by false e = let same : length rest + 1 ≡ n = cc in sym same
 
-open_comment : (rest : List ℕ) (end : Option ℕ) (n : ℕ) → begins_with star rest ≡ true → comment_cut (drop 1 rest) end ≡ Take n Broken
+open_comment : (rest : List ℕ) (end : Option ℕ) (n : ℕ) → begins_with star rest ≡ true → comment_to Broken (drop 1 rest) end ≡ Take n Broken
     → n ≡ length rest + 1
 open_comment [] end n star h = absurd (cc)
 open_comment (b ∷ rest) None n star h = let same : length rest + 2 ≡ n = cc in omega arith

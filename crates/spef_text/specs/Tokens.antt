@@ -2,7 +2,7 @@
 use Rattle.std.specs.Prelude.{◌≡◌, ℕ, ◌+◌, Bool, true, false, not, ◌&&◌, ◌||◌, ◌==◌, if◌then◌else◌, List, [], ◌∷◌, length, drop, slice_index, position, Option, Some, None}
 use Rattle.edge_io.specs.Bytes.{quote, star, slash, backslash, begins_with}
 use Rattle.token_texts.specs.Blanks.{is_blank, is_line_end}
-use Rattle.token_texts.specs.Comments.{line_length, comment_end}
+use Rattle.token_texts.specs.Comments.{line_length, comment_cut}
 use Rattle.token_texts.specs.Runs.{escaped_run_length}
 use Rattle.token_texts.specs.Cuts.{Part, gap, token, AreTokensOf}
 use Rattle.token_texts.specs.declared.cuts.Cut.{Cut}
@@ -31,11 +31,6 @@ abbrev pub text_cut : List ℕ → Option ℕ → Cut Kind
 text_cut rest None = Take (length rest + 1) Broken
 text_cut rest (Some place) = if is_quote (slice_index rest place) then Take (place + 2) Whole else Take (length rest + 1) Broken
 
--- A `/*` with `inner` behind it, where the comment ends at this place: it is passed over, or it is open and takes all.
-abbrev pub comment_cut : List ℕ → Option ℕ → Cut Kind
-comment_cut inner None = Take (length inner + 2) Broken
-comment_cut inner (Some place) = Skip (place + 4)
-
 -- a byte that a run goes on with
 abbrev pub is_solid : ℕ → Bool
 is_solid byte = not (is_blank byte)
@@ -51,7 +46,7 @@ cut_at first rest =
     if is_blank first then Skip 1
     else (if is_quote first then text_cut rest (position ends_text rest)
     else (if first == slash && begins_with slash rest then Skip (line_length rest)
-    else (if first == slash && begins_with star rest then comment_cut (drop 1 rest) (comment_end (drop 1 rest))
+    else (if first == slash && begins_with star rest then comment_cut slash Broken (drop 1 rest)
     else (if is_backslash first && is_nothing rest then Take (length rest + 1) Broken
     else Take (run_length (first ∷ rest)) Whole))))
 

@@ -1,15 +1,14 @@
 //! Parts a file's bytes into tokens.
 ghost use Rattle.std.specs.Prelude.{◌≡◌, ◌+◌, ◌^◌, ◌<◌, ◌≤◌, [], ◌∷◌, ◌++◌, length, position, IfOk, OnOk};
 ghost use Rattle.spef_text.specs.Spans.{texts};
-ghost use Rattle.token_texts.specs.Comments.{comment_end};
-ghost use Rattle.spef_text.specs.Tokens.{ends_text, text_cut, comment_cut, run_length, cut_at, AreTokens};
+ghost use Rattle.spef_text.specs.Tokens.{ends_text, text_cut, run_length, cut_at, AreTokens};
 ghost use Rattle.token_texts.specs.Cuts.{IsWithin};
 
 use crate::lanes::plain_length;
 use edge_io::OutOfMemory;
 use memchr::memchr2;
 use std::alloc::Global;
-use token_texts::{Cut, Span, begins_with, comment_end, is_blank, line_length};
+use token_texts::{Cut, Span, begins_with, comment_cut, is_blank, line_length};
 
 /// What a token is: one that can stand in a text, or one that is broken, which takes all the bytes that are left.
 #[derive(Clone, Copy, PartialEq, Eq, Debug)]
@@ -26,17 +25,6 @@ fn text_cut(rest: &[u8]) -> Cut<Kind>
     match memchr2(b'"', b'\n', rest) {
         Some(place) if rest[place] == b'"' => Cut::Take(place + 2, Kind::Whole),
         _ => Cut::Take(rest.len() + 1, Kind::Broken),
-    }
-}
-
-/// Behind the `/*` of a comment.
-fn comment_cut(inner: &[u8]) -> Cut<Kind>
-    requires { length inner.now < 2 ^ 32 }
-    ensures { result ≡ comment_cut inner.now (comment_end inner.now) }
-{
-    match comment_end(inner) {
-        Some(place) => Cut::Skip(place + 4),
-        None => Cut::Take(inner.len() + 2, Kind::Broken),
     }
 }
 
@@ -75,7 +63,7 @@ fn slash_cut(rest: &[u8]) -> Cut<Kind>
     if begins_with(b'/', rest) {
         Cut::Skip(line_length(rest))
     } else if begins_with(b'*', rest) {
-        comment_cut(rest.split_at(1).1)
+        comment_cut(b'/', Kind::Broken, rest.split_at(1).1)
     } else {
         Cut::Take(run_length(rest) + 1, Kind::Whole)
     }

@@ -1,9 +1,9 @@
 -- A slash begins a comment, or a run.
 use Rattle.std.proofs.Common.{ℕ, ◌+◌, sym, ap, ◌∙◌}
-use Rattle.token_texts.specs.Comments.{comment_end}
-use Rattle.spef_text.specs.Tokens.{comment_cut}
+use Rattle.edge_io.specs.Bytes.{slash}
+use Rattle.token_texts.specs.Comments.{comment_cut}
 use Rattle.token_texts.specs.declared.cuts.Cut.TheVariants.{Skip, Take}
-use Rattle.spef_text.specs.declared.scan.Kind.TheVariants.{Whole}
+use Rattle.spef_text.specs.declared.scan.Kind.TheVariants.{Whole, Broken}
 use Rattle.spef_text.proofs.Cutting.{cut_line, cut_comment, cut_slash}
 use Rattle.spef_text.proofs.scan.slash_cut.Goals as goal
 
@@ -14,7 +14,7 @@ returns-then-begins_with c =
 pub returns-then-begins_with-2 : goal.returns-then-begins_with-2
 returns-then-begins_with-2 c =
     sym (cut_comment c.args.rest.now (sym c.begins_with.ensures ∙ c.if-begins_with.false) (sym c.begins_with-else-begins_with.ensures ∙ c.if-begins_with-2.true)
-    ∙ sym (c.comment_cut.ensures ∙ ap (λ l. comment_cut l (comment_end l)) c.split_at.ensures.back))
+    ∙ sym (c.comment_cut.ensures.value ∙ ap (comment_cut slash Broken) c.split_at.ensures.back))
 
 pub returns-else-begins_with-2 : goal.returns-else-begins_with-2
 returns-else-begins_with-2 c =
