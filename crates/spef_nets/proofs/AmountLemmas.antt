@@ -1,5 +1,5 @@
 -- The sign of a rounded reading, and what the reading of a member says.
-use Rattle.std.proofs.Common.{◌≡◌, ◌↔◌, ℕ, true, false, true≢false, List, length, take, drop, position, None, ◌-◌, ℤ, pos, ◌≤ℤ◌, Result, Ok, Err, IfOk, IfErr, sym, ap, ◌∙◌, refl, arith, subst}
+use Rattle.std.proofs.Common.{◌≡◌, ◌↔◌, ℕ, true, false, true≢false, List, length, take, drop, ◌-◌, ℤ, pos, ◌≤ℤ◌, Result, Ok, Err, IfOk, IfErr, sym, ap, ◌∙◌, refl, arith, subst}
 use Rattle.std.proofs.Math.Seq.{take-length}
 use Rattle.std.proofs.lemmas.Int.{ints}
 use Rattle.std.proofs.lemmas.List.{length-drop}
@@ -12,7 +12,6 @@ use Rattle.delay_units.specs.declared.numbers.Unit.{Unit}
 use Rattle.delay_units.specs.Places.{is_literal}
 use Rattle.delay_units.proofs.ReadingLemmas.{one_text_reading}
 use Rattle.delay_units.proofs.LiteralReading.{tells_shape}
-use Rattle.spef_text.specs.Classes.{is_colon}
 use Rattle.spef_text.proofs.Parting.{literal_without_colon}
 use Rattle.spef_nets.specs.Values.{Triple, single, triple_at, triple_of, picked, IsAmount, IsBad, unread, below, IsAmountFault, is_bad, HasBad, IsTripleFault, IsValueFault, AreGrains, grains_at}
 use Rattle.spef_nets.specs.declared.amounts.Grains.{Grains}
@@ -98,12 +97,6 @@ pub one_number_large : (unit : Unit) (most : ℕ) (text : List ℕ) → IsAmount
 one_number_large unit most text is =
     subst (λ (t : Triple). IsTripleFault unit most t ValueTooLarge) (sym (one_number unit text is.grains is.reads))
     (single_fault unit most text ValueTooLarge is)
-
--- a bad text with no colon is a bad value
-pub bad_single : (unit : Unit) (most : ℕ) (text : List ℕ) → position is_colon text ≡ None → IsBad unit text
-    → IsValueFault unit most text BadNumber
-bad_single unit most text none bad =
-    subst (λ (t : Triple). IsTripleFault unit most t BadNumber) (sym (ap (triple_at text) none)) (single_fault unit most text BadNumber bad)
 
 -- three readings, none of them bad, and one of them refused
 pub past_among : (unit : Unit) (most : ℕ) (triple whole : Triple) (pick : Pick) (a b c r : Result ℕ AmountFault) (fault : AmountFault) → triple ≡ whole

@@ -2,11 +2,14 @@
 ghost use Rattle.std.specs.Prelude.{◌≡◌, ◌+◌, ℕ, ◌<◌, length, position, IfOk, IfErr, IfSome};
 ghost use Rattle.spef_text.specs.Classes.{is_colon};
 ghost use Rattle.delay_units.specs.declared.numbers.Unit.{Unit};
-ghost use Rattle.spef_nets.specs.Values.{Triple, triple_of, triple_behind, triple_at, picked, IsAmount, IsAmountFault, is_bad, IsTripleFault, IsValueFault, AreGrains, grains_at};
+ghost use Rattle.spef_nets.specs.Values.{Triple, single, triple_of, triple_behind, triple_at, picked, IsAmount, IsAmountFault, is_bad, IsTripleFault, IsValueFault, AreGrains, grains_at};
 
 use corner_set::Pick;
 use delay_units::{Amount, Unit, read_amount};
 use std::marker::Model;
+
+/// Hardly a number has more bytes, and most values of three numbers do.
+const LONG: usize = 18;
 
 /// Why a member of a value is refused.
 #[derive(Clone, Copy, PartialEq, Eq, Debug)]
@@ -124,12 +127,11 @@ fn read_members(unit: &Unit, most: u64, members: &Members<'_>) -> Result<Grains,
     Ok(Grains { min, typ, max })
 }
 
-/// Reads a value. All its members are examined, and a bad one anywhere comes before one past the bound. One number stands for all
-/// three members, and is looked at once: what reads as a number has no colon.
-#[tactic(auto, using(crate::proofs::AmountLemmas::one_number_large))]
-pub fn grains_of(unit: &Unit, most: u64, text: &[u8]) -> Result<Grains, AmountFault>
-    ensures ok { IfOk result (AreGrains unit.now most (triple_of text.now)) }
-    ensures err { IfErr result (IsValueFault unit.now most text.now) }
+// One number stands for all three members, and is read once.
+#[tactic(auto, using(crate::proofs::AmountLemmas::single_fault))]
+fn read_single(unit: &Unit, most: u64, text: &[u8]) -> Result<Grains, AmountFault>
+    ensures ok { IfOk result (AreGrains unit.now most (single text.now)) }
+    ensures err { IfErr result (IsTripleFault unit.now most (single text.now)) }
 {
     match amount(unit, most, text) {
         Ok(grains) => Ok(Grains {
@@ -137,14 +139,42 @@ pub fn grains_of(unit: &Unit, most: u64, text: &[u8]) -> Result<Grains, AmountFa
             typ: grains,
             max: grains,
         }),
+        Err(fault) => Err(fault),
+    }
+}
+
+// Reads a value by its colons, which are looked for first.
+fn read_parted(unit: &Unit, most: u64, text: &[u8]) -> Result<Grains, AmountFault>
+    ensures ok { IfOk result (AreGrains unit.now most (triple_of text.now)) }
+    ensures err { IfErr result (IsValueFault unit.now most text.now) }
+{
+    match colon_in(text) {
+        None => read_single(unit, most, text),
+        Some(colon) => read_members(
+            unit,
+            most,
+            &members_behind(&text[..colon], &text[colon + 1..]),
+        ),
+    }
+}
+
+/// Reads a value. All its members are examined, and a bad one anywhere comes before one past the bound. What reads as a number has no
+/// colon, and is looked at once. Three numbers are longer than one, as a rule: there the colons are looked for first.
+#[tactic(auto, using(crate::proofs::AmountLemmas::one_number_large))]
+pub fn grains_of(unit: &Unit, most: u64, text: &[u8]) -> Result<Grains, AmountFault>
+    ensures ok { IfOk result (AreGrains unit.now most (triple_of text.now)) }
+    ensures err { IfErr result (IsValueFault unit.now most text.now) }
+{
+    if text.len() > LONG {
+        return read_parted(unit, most, text);
+    }
+    match amount(unit, most, text) {
+        Ok(grains) => Ok(Grains {
+            min: grains,
+            typ: grains,
+            max: grains,
+        }),
         Err(AmountFault::ValueTooLarge) => Err(AmountFault::ValueTooLarge),
-        Err(AmountFault::BadNumber) => match colon_in(text) {
-            None => Err(AmountFault::BadNumber),
-            Some(colon) => read_members(
-                unit,
-                most,
-                &members_behind(&text[..colon], &text[colon + 1..]),
-            ),
-        },
+        Err(AmountFault::BadNumber) => read_parted(unit, most, text),
     }
 }
