@@ -1,5 +1,6 @@
 -- The names of a net's nodes, which the words of a file give.
 use Rattle.std.specs.Prelude.{◌≡◌, ℕ, List, All, slice_get, Some}
+use Rattle.name_table.specs.NodeKeys.{Key, key_of}
 use Rattle.name_table.specs.declared.spef_names.NodeName.{NodeName}
 use Rattle.spef_text.specs.SpefFiles.{SpefText}
 use Rattle.spef_text.specs.Heads.{HeadText, IsHeadOf}
@@ -24,3 +25,7 @@ pub record AreSpelled (file : SpefText) (head : HeadText) (tokens : List ℕ) : 
 -- the spelling in SDF of the node of this number
 abbrev pub IsSdfAt : List NodeName → ℕ → List ℕ → Type 0
 IsSdfAt nodes number sdf = (node : NodeName) × (slice_get nodes number ≡ Some node) × (node.sdf ≡ sdf)
+
+-- what makes the node of this number the one that it is
+abbrev pub IsKeyOf : List NodeName → ℕ → Key → Type 0
+IsKeyOf nodes number key = (node : NodeName) × (slice_get nodes number ≡ Some node) × (key ≡ key_of node)

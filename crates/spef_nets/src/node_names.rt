@@ -1,10 +1,10 @@
 //! The names of a net's nodes, made of the words of a file.
 ghost use Rattle.std.specs.Prelude.{◌≡◌, ◌<◌, length, slice_get, Some, IfOk};
 ghost use Rattle.spef_nets.specs.Nodes.{nodes_at};
-ghost use Rattle.spef_nets.specs.NodeNames.{AreSpelled, IsSdfAt};
+ghost use Rattle.spef_nets.specs.NodeNames.{AreSpelled, IsKeyOf, IsSdfAt};
 
 use edge_io::{OutOfMemory, Text};
-use name_table::NodeName;
+use name_table::{NodeKey, NodeName};
 use spef_text::{Head, ResolveEnd, SpefFile};
 use std::alloc::Global;
 
@@ -39,6 +39,18 @@ impl<'s, 'f> NodeNames<'s, 'f> {
             // each of these tokens names a node
             Err(ResolveEnd::UnknownIndex { token: _ }) => unreachable!(),
             Err(ResolveEnd::OutOfMemory) => Err(OutOfMemory),
+        }
+    }
+
+    /// What makes a node the one that it is. Of most nodes parts of the file tell it, and nothing is copied.
+    pub fn key(&self, alloc: Global, node: usize) -> Result<NodeKey<'s>, OutOfMemory>
+        requires spelled { AreSpelled self.now.file.now self.now.head.now self.now.tokens.now }
+        requires within { node < length self.now.tokens.now }
+        ensures { IfOk result (IsKeyOf (nodes_at self.now.file.now self.now.tokens.now) node) }
+    {
+        match self.head.written(self.file, self.tokens[node] as u64) {
+            Some(name) => Ok(NodeKey::of_written(name)),
+            None => NodeKey::of(alloc, self.name(alloc, node)?),
         }
     }
 
