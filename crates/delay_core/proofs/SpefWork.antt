@@ -7,6 +7,7 @@ use Rattle.corner_set.specs.declared.pick.Pick.{Pick}
 use Rattle.spef_text.specs.SpefFiles.{SpefText}
 use Rattle.spef_text.specs.Heads.{HeadText}
 use Rattle.spef_nets.specs.NetElements.{NetElements}
+use Rattle.spef_nets.specs.Sections.{Corners}
 use Rattle.sdf_writer.specs.SdfText.{SdfRows}
 use Rattle.verdict_phases.specs.Phases.{FollowsNoFile}
 use Rattle.verdict_phases.specs.declared.ends.NoFileEnd.{NoFileEnd}
@@ -19,11 +20,11 @@ use Rattle.delay_core.specs.Refused.{OnRefusal}
 use Rattle.delay_core.specs.SpefWork.{total_steps, SectionsWork, no_sections, of_sections, TextWork, no_head, of_head, IsWithin, is_early}
 use Rattle.delay_core.proofs.Places.{front_more}
 
--- no section is read without a fault yet, or all are, and the work is that of their nets
-pub no_sections_work : (pick : Pick) (file : SpefText) (head : HeadText) (steps : ℕ) → IsWithin (SectionsWork pick file head) steps steps
-no_sections_work pick file head steps = record { work = 0; given = no_sections; bound = omega arith }
+-- no section is read without a fault yet, or all are at one corner, and the work is that of their nets
+pub no_sections_work : {I : Type 0} (corners : Corners I) (file : SpefText) (head : HeadText) (steps : ℕ) → IsWithin (SectionsWork corners file head) steps steps
+no_sections_work corners file head steps = record { work = 0; given = no_sections; bound = omega arith }
 
-pub sections_work : (pick : Pick) (file : SpefText) (head : HeadText) (nets : List NetElements) (before after : ℕ) → NetsSpef (sole_corner pick) file head (Ok nets) → after ≤ before + total_steps 1 nets → IsWithin (SectionsWork pick file head) before after
+pub sections_work : (pick : Pick) (file : SpefText) (head : HeadText) (nets : List NetElements) (before after : ℕ) → NetsSpef (sole_corner pick) file head (Ok nets) → after ≤ before + total_steps 1 nets → IsWithin (SectionsWork (sole_corner pick) file head) before after
 sections_work pick file head nets before after reads bound = record { work = total_steps 1 nets; given = of_sections nets reads; bound = bound }
 
 -- the steps of one net more
@@ -61,8 +62,8 @@ late_refusal design before after (Err (no_file.Refused refusal)) follows = λ ea
 late_refusal design before after (Err no_file.OutOfMemory) follows = tt
 
 -- the work of the sections is that of the text, and the work of the text that of the file
-pub no_text_work : (pick : Pick) (bytes : List ℕ) (steps : ℕ) → IsWithin (TextWork pick bytes) steps steps
-no_text_work pick bytes steps = record { work = 0; given = no_head; bound = omega arith }
+pub no_text_work : {I : Type 0} (corners : Corners I) (bytes : List ℕ) (steps : ℕ) → IsWithin (TextWork corners bytes) steps steps
+no_text_work corners bytes steps = record { work = 0; given = no_head; bound = omega arith }
 
-pub text_work : (pick : Pick) (bytes : List ℕ) (file : SpefText) (head : HeadText) (before after : ℕ) → ParsesSpef bytes (Ok file) → HeadsSpef file (Ok head) → IsWithin (SectionsWork pick file head) before after → IsWithin (TextWork pick bytes) before after
-text_work pick bytes file head before after parses heads within = record { work = within.work; given = of_head file head parses heads within.given; bound = within.bound }
+pub text_work : {I : Type 0} (corners : Corners I) (bytes : List ℕ) (file : SpefText) (head : HeadText) (before after : ℕ) → ParsesSpef bytes (Ok file) → HeadsSpef file (Ok head) → IsWithin (SectionsWork corners file head) before after → IsWithin (TextWork corners bytes) before after
+text_work corners bytes file head before after parses heads within = record { work = within.work; given = of_head file head parses heads within.given; bound = within.bound }

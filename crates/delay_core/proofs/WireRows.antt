@@ -7,13 +7,14 @@ use Rattle.sdf_writer.specs.SdfText.{SdfRows}
 use Rattle.spef_text.specs.SpefFiles.{SpefText}
 use Rattle.spef_text.specs.Heads.{HeadText}
 use Rattle.spef_nets.specs.NetElements.{NetElements}
+use Rattle.spef_nets.specs.Sections.{Corners}
 use Rattle.verdict_phases.specs.Phases.{FollowsNoFile}
 use Rattle.verdict_phases.specs.declared.ends.NoFileEnd.{NoFileEnd}
 use Rattle.verdict_phases.specs.declared.ends.NoFileEnd.TheVariants as no_file
 use Rattle.delay_core.specs.declared.refusal.Refusal.{Refusal}
 use Rattle.delay_core.specs.NetRows.{AddsNetRows}
 use Rattle.delay_core.specs.Refused.{OnRefusal}
-use Rattle.delay_core.specs.SpefPhases.{DesignNets, ParsesSpef, HeadsSpef, at_sections, through}
+use Rattle.delay_core.specs.SpefPhases.{sole_corner, DesignNets, ParsesSpef, HeadsSpef, NetsSpef, at_sections, through}
 use Rattle.delay_core.specs.WireNets.{NetGives, NetsGive, no_net, and_net, refused, RowsOf}
 use Rattle.delay_core.specs.WireRows.{SectionsGive, faulty_section, of_nets, TextGives, unread, of_design}
 use Rattle.delay_core.proofs.Places.{front_more, parts_at}
@@ -56,7 +57,12 @@ refusal_follows design nets i net rows (Err other) end here front is refuses = s
 pub all_nets_added : (design : List ℕ) (nets : List NetElements) (i : ℕ) (rows : SdfRows) → length nets ≤ i → RowsOf 1 (design_of design (take i nets)) (Ok rows) → RowsOf 1 (design_of design nets) (Ok rows)
 all_nets_added design nets i rows all front = subst (λ (l : List NetElements). RowsOf 1 (design_of design l) (Ok rows)) (take_all i nets all) front
 
+-- the rows of the nets at one corner are those of the sections
+pub sole_nets_give : {pick : Pick} {file : SpefText} {head : HeadText} (nets : List NetElements) (answer : Result SdfRows Refusal) → NetsSpef (sole_corner pick) file head (Ok nets) → RowsOf 1 (design_of head.design nets) answer
+    → SectionsGive (sole_corner pick) file head answer
+sole_nets_give nets answer reads rows = of_nets nets answer reads rows
+
 -- the rows of the nets are those of the text, as far as it is one
-pub text_gives : (pick : Pick) (bytes : List ℕ) (file : SpefText) (head : HeadText) (answer : Result SdfRows Refusal) → ParsesSpef bytes (Ok file) → HeadsSpef file (Ok head) → SectionsGive pick file head answer → TextGives pick bytes answer
-text_gives pick bytes file head answer parses heads (faulty_section refusal faulty) = unread refusal (at_sections file head refusal parses heads faulty)
-text_gives pick bytes file head answer parses heads (of_nets nets its reads rows) = of_design (design_of head.design nets) answer (through file head nets parses heads reads) rows
+pub text_gives : {I : Type 0} (corners : Corners I) (bytes : List ℕ) (file : SpefText) (head : HeadText) (answer : Result SdfRows Refusal) → ParsesSpef bytes (Ok file) → HeadsSpef file (Ok head) → SectionsGive corners file head answer → TextGives corners bytes answer
+text_gives corners bytes file head answer parses heads (faulty_section refusal faulty) = unread refusal (at_sections file head refusal parses heads faulty)
+text_gives corners bytes file head answer parses heads (of_nets nets its reads rows) = of_design (design_of head.design nets) answer (through file head nets parses heads reads) rows

@@ -1,14 +1,14 @@
 -- How many steps the rows of a SPEF file take at the most: the work that its nets give.
 use Rattle.std.specs.Prelude.{ℕ, ◌+◌, ◌≤◌, Bool, true, false, IsTrue, List, Result, Ok, Err}
 use Rattle.std.specs.List.{sum_by}
-use Rattle.corner_set.specs.declared.pick.Pick.{Pick}
 use Rattle.spef_text.specs.SpefFiles.{SpefText}
 use Rattle.spef_text.specs.Heads.{HeadText}
 use Rattle.spef_nets.specs.NetElements.{NetElements}
+use Rattle.spef_nets.specs.Sections.{Corners}
 use Rattle.verdict_phases.specs.declared.ends.PhaseEnd.{PhaseEnd}
 use Rattle.verdict_phases.specs.declared.ends.PhaseEnd.TheVariants as phase
 use Rattle.delay_core.specs.NetRows.{most_steps}
-use Rattle.delay_core.specs.SpefPhases.{sole_corner, ParsesSpef, HeadsSpef, NetsSpef}
+use Rattle.delay_core.specs.SpefPhases.{ParsesSpef, HeadsSpef, NetsSpef}
 use Rattle.delay_core.specs.declared.refusal.FileKey.{FileKey}
 use Rattle.delay_core.specs.declared.refusal.LimitKind.TheVariants as limit
 use Rattle.delay_core.specs.declared.refusal.Refusal.{Refusal}
@@ -18,17 +18,17 @@ use Rattle.delay_core.specs.declared.refusal.Refusal.TheVariants as refusal
 abbrev pub total_steps : ℕ → List NetElements → ℕ
 total_steps count nets = sum_by (most_steps count) nets
 
--- the work of the sections of a file: none before all are read, and then that of their nets
-pub data SectionsWork (pick : Pick) (file : SpefText) (head : HeadText) : ℕ → Type 0 where
-  no_sections : SectionsWork pick file head 0
-  of_sections : (nets : List NetElements) → NetsSpef (sole_corner pick) file head (Ok nets)
-      → SectionsWork pick file head (total_steps 1 nets)
+-- the work of the sections of a file at these corners: none before all are read, and then that of their nets
+pub data SectionsWork {I : Type 0} (corners : Corners I) (file : SpefText) (head : HeadText) : ℕ → Type 0 where
+  no_sections : SectionsWork corners file head 0
+  of_sections : (nets : List NetElements) → NetsSpef corners file head (Ok nets)
+      → SectionsWork corners file head (total_steps corners.count nets)
 
--- the work of a SPEF file's bytes: none before its head is read, and then that of its sections
-pub data TextWork (pick : Pick) (bytes : List ℕ) : ℕ → Type 0 where
-  no_head : TextWork pick bytes 0
+-- the work of a SPEF file's bytes at these corners: none before its head is read, and then that of its sections
+pub data TextWork {I : Type 0} (corners : Corners I) (bytes : List ℕ) : ℕ → Type 0 where
+  no_head : TextWork corners bytes 0
   of_head : {work : ℕ} (file : SpefText) (head : HeadText) → ParsesSpef bytes (Ok file) → HeadsSpef file (Ok head)
-      → SectionsWork pick file head work → TextWork pick bytes work
+      → SectionsWork corners file head work → TextWork corners bytes work
 
 -- a count rose by no more than a work
 pub record IsWithin (Work : ℕ → Type 0) (before after : ℕ) : Type 0 where

@@ -133,7 +133,7 @@ fn sole_nets<'r, 'f>(
 }
 
 // Reads the nets of all sections of a SPEF file, where this member of each triple counts, and then adds the rows of each.
-#[tactic(auto, using(crate::specs::WireRows::faulty_section, crate::specs::WireRows::of_nets, crate::proofs::SpefWork::no_sections_work, crate::proofs::SpefWork::sections_work))]
+#[tactic(auto, using(crate::specs::WireRows::faulty_section, crate::proofs::WireRows::sole_nets_give, crate::proofs::SpefWork::no_sections_work, crate::proofs::SpefWork::sections_work))]
 fn wire_rows_of_sections<L: Ledger>(
     alloc: Global,
     file: &SpefFile,
@@ -142,8 +142,8 @@ fn wire_rows_of_sections<L: Ledger>(
     steps: &mut Steps<L>,
 ) -> Result<Rows<Single>, NoFileEnd<Refusal>>
     requires { IsHeadOf file.now head.now }
-    ensures follows { FollowsNoFile (SectionsGive pick file.now head.now) result }
-    ensures steps { IsWithin (SectionsWork pick file.now head.now) steps.old steps.new }
+    ensures follows { FollowsNoFile (SectionsGive (sole_corner pick) file.now head.now) result }
+    ensures steps { IsWithin (SectionsWork (sole_corner pick) file.now head.now) steps.old steps.new }
     ensures no_steps { OnRefusal result (λ refusal. IsTrue (is_early refusal) → steps.new ≡ steps.old) }
 {
     let nets = sole_nets(alloc, file, head, pick)?;
@@ -160,8 +160,8 @@ pub fn wire_rows_of_file<L: Ledger>(
     steps: &mut Steps<L>,
 ) -> Result<Rows<Single>, NoFileEnd<Refusal>>
     requires { length text < 2 ^ 30 }
-    ensures follows { FollowsNoFile (TextGives pick text) result }
-    ensures steps { IsWithin (TextWork pick text) steps.old steps.new }
+    ensures follows { FollowsNoFile (TextGives (sole_corner pick) text) result }
+    ensures steps { IsWithin (TextWork (sole_corner pick) text) steps.old steps.new }
     ensures no_steps { OnRefusal result (λ refusal. IsTrue (is_early refusal) → steps.new ≡ steps.old) }
 {
     let file = parse_spef(alloc, text.bytes())?;

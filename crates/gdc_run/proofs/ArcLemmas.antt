@@ -57,8 +57,8 @@ module _ (pins : List Pin) (slew load : ℕ) (beyond : Beyond) where
   }
 
   -- an edge that is refused among the first of some edges, and behind some that are not
-  pub refused_front : (cell : List ℕ) (edges more : List ArcEdge) (refusal : Refusal) → IsFirstRefused cell pins slew load beyond edges refusal → IsFirstRefused cell pins slew load beyond (edges ++ more) refusal
-  refused_front cell edges more refusal is = record {
+  pub refused_front : (corner : ℕ) (cell : List ℕ) (edges more : List ArcEdge) (refusal : Refusal) → IsFirstRefused corner cell pins slew load beyond edges refusal → IsFirstRefused corner cell pins slew load beyond (edges ++ more) refusal
+  refused_front corner cell edges more refusal is = record {
     before = is.before;
     here = is.here;
     behind = is.behind ++ more;
@@ -70,8 +70,8 @@ module _ (pins : List Pin) (slew load : ℕ) (beyond : Beyond) where
     refused = is.refused;
   }
 
-  pub refused_then : (cell : List ℕ) (edges more : List ArcEdge) (before after : List ArcRow) (refusal : Refusal) → AddsEdges pins slew load beyond edges before after → IsFirstRefused cell pins slew load beyond more refusal → IsFirstRefused cell pins slew load beyond (edges ++ more) refusal
-  refused_then cell edges more before after refusal adds is = record {
+  pub refused_then : (corner : ℕ) (cell : List ℕ) (edges more : List ArcEdge) (before after : List ArcRow) (refusal : Refusal) → AddsEdges pins slew load beyond edges before after → IsFirstRefused corner cell pins slew load beyond more refusal → IsFirstRefused corner cell pins slew load beyond (edges ++ more) refusal
+  refused_then corner cell edges more before after refusal adds is = record {
     before = edges ++ is.before;
     here = is.here;
     behind = is.behind;
@@ -104,9 +104,9 @@ module _ (pins : List Pin) (slew load : ℕ) (beyond : Beyond) where
   }
 
   -- one edge that is refused
-  pub refused_one : (cell : List ℕ) (arc : Arc) (edge : Edge) (tables : EdgeTables) (part : Part) (end : LookupEnd) (refusal : Refusal) → IsEdgeEnd slew load beyond tables part end → IsEdgeRefusal cell pins arc edge part end refusal
-      → IsFirstRefused cell pins slew load beyond (record { arc = arc; edge = edge; tables = tables } ∷ []) refusal
-  refused_one cell arc edge tables part end refusal is refused = record {
+  pub refused_one : (corner : ℕ) (cell : List ℕ) (arc : Arc) (edge : Edge) (tables : EdgeTables) (part : Part) (end : LookupEnd) (refusal : Refusal) → IsEdgeEnd slew load beyond tables part end → IsEdgeRefusal corner cell pins arc edge part end refusal
+      → IsFirstRefused corner cell pins slew load beyond (record { arc = arc; edge = edge; tables = tables } ∷ []) refusal
+  refused_one corner cell arc edge tables part end refusal is refused = record {
     before = [];
     here = record { arc = arc; edge = edge; tables = tables };
     behind = [];
@@ -150,29 +150,29 @@ pub refusal_on : (A B : Type 0) (result : Result B (NoFileEnd Refusal)) (end : N
 refusal_on A B (Ok value) end P Q is holds more = tt
 refusal_on A B (Err other) end P Q is holds more = on_refusal A B other P Q (subst (λ (e : NoFileEnd Refusal). OnRefusal {A = A} (Err e) P) (sym is) holds) more
 
-on_refused : (name : List ℕ) (cell : TimedCell) (slew load : ℕ) (beyond : Beyond) (end : NoFileEnd Refusal) → OnRefusal {A = List ArcRow} (Err end) (IsFirstRefused name cell.pins slew load beyond (arc_edges cell.arcs)) → FollowsNoFile (CellGives name cell slew load beyond) (Err end)
-on_refused name cell slew load beyond (no_file.Refused refusal) is = some_refused refusal is
-on_refused name cell slew load beyond no_file.OutOfMemory is = tt
+on_refused : (corner : ℕ) (name : List ℕ) (cell : TimedCell) (slew load : ℕ) (beyond : Beyond) (end : NoFileEnd Refusal) → OnRefusal {A = List ArcRow} (Err end) (IsFirstRefused corner name cell.pins slew load beyond (arc_edges cell.arcs)) → FollowsNoFile (CellGives corner name cell slew load beyond) (Err end)
+on_refused corner name cell slew load beyond (no_file.Refused refusal) is = some_refused refusal is
+on_refused corner name cell slew load beyond no_file.OutOfMemory is = tt
 
-pub refusal_passes : (A : Type 0) (name : List ℕ) (cell : TimedCell) (slew load : ℕ) (beyond : Beyond) (result : Result (List ArcRow) (NoFileEnd Refusal)) (end : NoFileEnd Refusal) (P : Refusal → Type 0) → IsErrAnd result (λ other. other ≡ end) → OnRefusal {A = A} (Err end) P
-    → ((refusal : Refusal) → P refusal → IsFirstRefused name cell.pins slew load beyond (arc_edges cell.arcs) refusal) → FollowsNoFile (CellGives name cell slew load beyond) result
-refusal_passes A name cell slew load beyond (Ok value) end P is holds more = absurd is
-refusal_passes A name cell slew load beyond (Err other) end P is holds more =
-    on_refused name cell slew load beyond other
-    (on_refusal A (List ArcRow) other P (IsFirstRefused name cell.pins slew load beyond (arc_edges cell.arcs)) (subst (λ (e : NoFileEnd Refusal). OnRefusal {A = A} (Err e) P) (sym is) holds) more)
+pub refusal_passes : (A : Type 0) (corner : ℕ) (name : List ℕ) (cell : TimedCell) (slew load : ℕ) (beyond : Beyond) (result : Result (List ArcRow) (NoFileEnd Refusal)) (end : NoFileEnd Refusal) (P : Refusal → Type 0) → IsErrAnd result (λ other. other ≡ end) → OnRefusal {A = A} (Err end) P
+    → ((refusal : Refusal) → P refusal → IsFirstRefused corner name cell.pins slew load beyond (arc_edges cell.arcs) refusal) → FollowsNoFile (CellGives corner name cell slew load beyond) result
+refusal_passes A corner name cell slew load beyond (Ok value) end P is holds more = absurd is
+refusal_passes A corner name cell slew load beyond (Err other) end P is holds more =
+    on_refused corner name cell slew load beyond other
+    (on_refusal A (List ArcRow) other P (IsFirstRefused corner name cell.pins slew load beyond (arc_edges cell.arcs)) (subst (λ (e : NoFileEnd Refusal). OnRefusal {A = A} (Err e) P) (sym is) holds) more)
 
 -- an arc with an edge that is refused, behind arcs that have none
-pub refused_in : (name : List ℕ) (cell : TimedCell) (slew load : ℕ) (beyond : Beyond) (pins : List Pin) (arcs : List Arc) (i : ℕ) (arc : Arc) (rows : List ArcRow) (refusal : Refusal) → pins ≡ cell.pins → arcs ≡ cell.arcs → i < length arcs → arc ≡ get_or arcs i arc
-    → AddsEdges pins slew load beyond (arc_edges (take i arcs)) [] rows → IsFirstRefused name pins slew load beyond (edges_of arc) refusal → IsFirstRefused name cell.pins slew load beyond (arc_edges cell.arcs) refusal
-refused_in name cell slew load beyond pins arcs i arc rows refusal pins_are arcs_are below here adds is =
+pub refused_in : (corner : ℕ) (name : List ℕ) (cell : TimedCell) (slew load : ℕ) (beyond : Beyond) (pins : List Pin) (arcs : List Arc) (i : ℕ) (arc : Arc) (rows : List ArcRow) (refusal : Refusal) → pins ≡ cell.pins → arcs ≡ cell.arcs → i < length arcs → arc ≡ get_or arcs i arc
+    → AddsEdges pins slew load beyond (arc_edges (take i arcs)) [] rows → IsFirstRefused corner name pins slew load beyond (edges_of arc) refusal → IsFirstRefused corner name cell.pins slew load beyond (arc_edges cell.arcs) refusal
+refused_in corner name cell slew load beyond pins arcs i arc rows refusal pins_are arcs_are below here adds is =
     let front = arc_edges (take i arcs) in
     let whole : arc_edges arcs ≡ (front ++ edges_of arc) ++ arc_edges (drop (i + 1) arcs) =
     edges_front arcs (i + 1) ∙ ap (λ edges. edges ++ arc_edges (drop (i + 1) arcs)) (edges_more arcs i arc below here) in
-    let first : IsFirstRefused name pins slew load beyond (arc_edges arcs) refusal =
-    subst (λ (edges : List ArcEdge). IsFirstRefused name pins slew load beyond edges refusal) (sym whole)
-    (refused_front pins slew load beyond name (front ++ edges_of arc) (arc_edges (drop (i + 1) arcs)) refusal (refused_then pins slew load beyond name front (edges_of arc) [] rows refusal adds is)) in
-    subst (λ (p : List Pin). IsFirstRefused name p slew load beyond (arc_edges cell.arcs) refusal) pins_are
-    (subst (λ (a : List Arc). IsFirstRefused name pins slew load beyond (arc_edges a) refusal) arcs_are first)
+    let first : IsFirstRefused corner name pins slew load beyond (arc_edges arcs) refusal =
+    subst (λ (edges : List ArcEdge). IsFirstRefused corner name pins slew load beyond edges refusal) (sym whole)
+    (refused_front pins slew load beyond corner name (front ++ edges_of arc) (arc_edges (drop (i + 1) arcs)) refusal (refused_then pins slew load beyond corner name front (edges_of arc) [] rows refusal adds is)) in
+    subst (λ (p : List Pin). IsFirstRefused corner name p slew load beyond (arc_edges cell.arcs) refusal) pins_are
+    (subst (λ (a : List Arc). IsFirstRefused corner name pins slew load beyond (arc_edges a) refusal) arcs_are first)
 
 -- the edges up to an arc are no more than all
 pub count_within : (arcs : List Arc) (i : ℕ) (arc : Arc) → i < length arcs → arc ≡ get_or arcs i arc → length (arc_edges (take i arcs)) + length (edges_of arc) ≤ length (arc_edges arcs)
@@ -188,18 +188,18 @@ adds_more pins slew load beyond arcs i arc rows after below here front more =
     subst (λ (edges : List ArcEdge). AddsEdges pins slew load beyond edges [] after) (sym (edges_more arcs i arc below here)) (adds_then pins slew load beyond (arc_edges (take i arcs)) (edges_of arc) [] rows after front more)
 
 -- the rows of all arcs
-pub gives_all : (name : List ℕ) (cell : TimedCell) (slew load : ℕ) (beyond : Beyond) (pins : List Pin) (arcs : List Arc) (i : ℕ) (rows : List ArcRow) → pins ≡ cell.pins → arcs ≡ cell.arcs → length arcs ≤ i → AddsEdges pins slew load beyond (arc_edges (take i arcs)) [] rows
-    → CellGives name cell slew load beyond (Ok rows)
-gives_all name cell slew load beyond pins arcs i rows pins_are arcs_are all adds =
+pub gives_all : (corner : ℕ) (name : List ℕ) (cell : TimedCell) (slew load : ℕ) (beyond : Beyond) (pins : List Pin) (arcs : List Arc) (i : ℕ) (rows : List ArcRow) → pins ≡ cell.pins → arcs ≡ cell.arcs → length arcs ≤ i → AddsEdges pins slew load beyond (arc_edges (take i arcs)) [] rows
+    → CellGives corner name cell slew load beyond (Ok rows)
+gives_all corner name cell slew load beyond pins arcs i rows pins_are arcs_are all adds =
     all_valued rows
     (subst (λ (p : List Pin). AddsEdges p slew load beyond (arc_edges cell.arcs) [] rows) pins_are
     (subst (λ (a : List Arc). AddsEdges pins slew load beyond (arc_edges a) [] rows) (take_all i arcs all ∙ arcs_are) adds))
 
 -- that a table has no value comes after the tables are read
-pub rows_late : (name : List ℕ) (cell : TimedCell) (slew load : ℕ) (beyond : Beyond) (refusal : Refusal) → CellGives name cell slew load beyond (Err refusal) → IsTrue (is_early refusal) → ⊥
-rows_late name cell slew load beyond refusal (some_refused same is) early = late name cell.pins is.here.arc is.here.edge is.part is.end refusal is.refused early
+pub rows_late : (corner : ℕ) (name : List ℕ) (cell : TimedCell) (slew load : ℕ) (beyond : Beyond) (refusal : Refusal) → CellGives corner name cell slew load beyond (Err refusal) → IsTrue (is_early refusal) → ⊥
+rows_late corner name cell slew load beyond refusal (some_refused same is) early = late name cell.pins is.here.arc is.here.edge is.part is.end refusal is.refused early
   where
-    late : (name : List ℕ) (pins : List Pin) (arc : Arc) (edge : Edge) (part : Part) (end : LookupEnd) (refusal : Refusal) → IsEdgeRefusal name pins arc edge part end refusal → IsTrue (is_early refusal) → ⊥
+    late : (name : List ℕ) (pins : List Pin) (arc : Arc) (edge : Edge) (part : Part) (end : LookupEnd) (refusal : Refusal) → IsEdgeRefusal corner name pins arc edge part end refusal → IsTrue (is_early refusal) → ⊥
     late name pins arc edge part end refusal (outside_at outside from to) early = cc
     late name pins arc edge part end refusal (past_time_at from to) early = cc
 
@@ -207,12 +207,12 @@ rows_late name cell slew load beyond refusal (some_refused same is) early = late
 pub is_named : (pins : List Pin) (place : ℕ) (pin : Pin) (name : List ℕ) → place < length pins → pin ≡ get_or pins place pin → name ≡ (get_or pins place pin).name → IsNamed pins place name
 is_named pins place pin name below is named = record { pin = pin; here = slice_get_read pins (length pins) place pin refl below is; named = named ∙ ap (λ (p : Pin). p.name) (sym is) }
 
-pub outside_so : (cell : List ℕ) (pins : List Pin) (arc : Arc) (edge : Edge) (part : Part) (outside : Outside) (instance from to : List ℕ) → instance ≡ cell → IsNamed pins arc.from from → IsNamed pins arc.to to
-    → IsEdgeRefusal cell pins arc edge part (lookup_end.Outside outside) (refusal.Outside instance from to edge 0 part outside.axis outside.value)
-outside_so cell pins arc edge part outside instance from to same from_named to_named =
-    subst (λ (i : List ℕ). IsEdgeRefusal cell pins arc edge part (lookup_end.Outside outside) (refusal.Outside i from to edge 0 part outside.axis outside.value)) (sym same) (outside_at outside from_named to_named)
+pub outside_so : (corner : ℕ) (cell : List ℕ) (pins : List Pin) (arc : Arc) (edge : Edge) (part : Part) (outside : Outside) (instance from to : List ℕ) → instance ≡ cell → IsNamed pins arc.from from → IsNamed pins arc.to to
+    → IsEdgeRefusal corner cell pins arc edge part (lookup_end.Outside outside) (refusal.Outside instance from to edge corner part outside.axis outside.value)
+outside_so corner cell pins arc edge part outside instance from to same from_named to_named =
+    subst (λ (i : List ℕ). IsEdgeRefusal corner cell pins arc edge part (lookup_end.Outside outside) (refusal.Outside i from to edge corner part outside.axis outside.value)) (sym same) (outside_at outside from_named to_named)
 
-pub past_time_so : (cell : List ℕ) (pins : List Pin) (arc : Arc) (edge : Edge) (part : Part) (instance from to : List ℕ) → instance ≡ cell → IsNamed pins arc.from from → IsNamed pins arc.to to
-    → IsEdgeRefusal cell pins arc edge part lookup_end.PastTime (refusal.PastTime instance from to edge 0 part)
-past_time_so cell pins arc edge part instance from to same from_named to_named =
-    subst (λ (i : List ℕ). IsEdgeRefusal cell pins arc edge part lookup_end.PastTime (refusal.PastTime i from to edge 0 part)) (sym same) (past_time_at from_named to_named)
+pub past_time_so : (corner : ℕ) (cell : List ℕ) (pins : List Pin) (arc : Arc) (edge : Edge) (part : Part) (instance from to : List ℕ) → instance ≡ cell → IsNamed pins arc.from from → IsNamed pins arc.to to
+    → IsEdgeRefusal corner cell pins arc edge part lookup_end.PastTime (refusal.PastTime instance from to edge corner part)
+past_time_so corner cell pins arc edge part instance from to same from_named to_named =
+    subst (λ (i : List ℕ). IsEdgeRefusal corner cell pins arc edge part lookup_end.PastTime (refusal.PastTime i from to edge corner part)) (sym same) (past_time_at from_named to_named)

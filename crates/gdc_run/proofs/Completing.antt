@@ -4,13 +4,13 @@ use Rattle.edge_io.specs.Counts.{Rose}
 use Rattle.edge_io.specs.Holding.{Held, TellsMissing}
 use Rattle.edge_io.specs.Told.{appended, AppendsFrontOf}
 use Rattle.verdict_phases.specs.Phases.{RefusedBy, Unread, Reads, Go, Halt}
-use Rattle.corner_set.specs.declared.pick.Pick.{Pick}
 use Rattle.nldm_lookup.specs.declared.beyond.Beyond.{Beyond}
 use Rattle.gdc_words.specs.declared.commands.Command.{Command}
 use Rattle.gdc_words.specs.declared.commands.Command.TheVariants.{Wires, Calc, Show, Lookup, Flat, Trial, Help, Version}
 use Rattle.gdc_words.specs.declared.commands.Shape.{Shape}
 use Rattle.gdc_words.specs.declared.faults.UsageFault.{UsageFault}
 use Rattle.gdc_words.proofs.Pairs.{one_request}
+use Rattle.spef_nets.specs.Sections.{Corners}
 use Rattle.delay_core.specs.declared.refusal.FileKey.{FileKey}
 use Rattle.delay_core.specs.declared.refusal.FileKey.TheVariants.{Netlist, Lib, LibMin, LibTyp, LibMax, Spef, Sdf}
 use Rattle.gdc_run.specs.declared.outcome.Outcome.{Outcome}
@@ -24,13 +24,13 @@ use Rattle.gdc_run.proofs.FlatFiles.{unread_flat}
 use Rattle.gdc_run.specs.Completeness.{AnswersVerdict, IsComplete}
 
 -- the one file that `wires` reads, and that of `show`
-wires_reads : (held : Option Held) (pick : Pick) (name : List ℕ) (key : FileKey) → WiresGives held pick name (Halt (Reads key)) → key ≡ Spef
-wires_reads held pick name key (at_reading why reads) = reads
+wires_reads : {I : Type 0} (corners : Corners I) (held : Option Held) (name : List ℕ) (key : FileKey) → WiresGives corners held name (Halt (Reads key)) → key ≡ Spef
+wires_reads corners held name key (at_reading why reads) = reads
 
 show_reads : (held : Option Held) (name : List ℕ) (key : FileKey) → ShowGives held name (Halt (Reads key)) → key ≡ Sdf
 show_reads held name key (at_sdf_reading why reads) = reads
 
-lookup_reads : (held : Option Held) (file name : List ℕ) (slew load : ℕ) (beyond : Beyond) (key : FileKey) → LookupGives held file name slew load beyond (Halt (Reads key)) → key ≡ Lib
+lookup_reads : (held : Option Held) (file name : List ℕ) (slew load : ℕ) (beyond : Beyond) (key : FileKey) → LookupGives 1 0 held file name slew load beyond (Halt (Reads key)) → key ≡ Lib
 lookup_reads held file name slew load beyond key (at_library_reading why reads) = reads
 
 abbrev asked : Request → Result Request UsageFault

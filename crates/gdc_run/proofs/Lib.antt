@@ -6,6 +6,7 @@ pub mod Completing
 pub mod FlatEnds
 pub mod FlatFiles
 pub mod FlatTexts
+pub mod LookupTexts
 pub mod MadeFiles
 pub mod OneCalc
 pub mod OneLookup

@@ -18,6 +18,7 @@ use Rattle.delay_core.specs.declared.refusal.Refusal.TheVariants.{SdfSyntax}
 use Rattle.gdc_run.specs.declared.output.Output.{Output}
 use Rattle.gdc_run.specs.declared.output.Output.TheVariants as output
 use Rattle.delay_core.specs.OneStep.{HasOneAnswer}
+use Rattle.delay_core.specs.SpefPhases.{sole_corner}
 use Rattle.delay_core.proofs.OneDesign.{one_design}
 use Rattle.delay_core.proofs.OneChain.{Steps, Then, stops, goes, Plain, one_plain, same_answers, one_then, one_made, one_by}
 use Rattle.delay_core.proofs.OneText.{one_file}
@@ -56,7 +57,7 @@ one_show held name = one_by (ShowGives (Some held) name) (Then (ReadsSdf (Some h
 -- `lookup`, whose slew and load are one
 abbrev Looks : Held → Request → ℕ → ℕ → Step Refusal FileKey Output → Type 0
 Looks held request slew load step =
-    As output.Arcs (LookupGives (Some held) (value_of request.given key.Lib) (value_of request.given key.Cell) slew load (beyond_from request.given)) step
+    As output.Arcs (LookupGives 1 0 (Some held) (value_of request.given key.Lib) (value_of request.given key.Cell) slew load (beyond_from request.given)) step
 
 one_point : (held : Held) (request : Request) → HasOneAnswer (CommandGives (Some held) Lookup request)
 one_point held request one other r s d e =
@@ -64,11 +65,11 @@ one_point held request one other r s d e =
     let load : s.load ≡ r.load = one_grains (value_of request.given key.Load) s.load r.load s.load_reads r.load_reads in
     let its : Looks held request r.slew r.load other =
     subst (λ (n : ℕ). Looks held request r.slew n other) load (subst (λ (n : ℕ). Looks held request n s.load other) slew s.holds) in
-    one_put output.Arcs (LookupGives (Some held) (value_of request.given key.Lib) (value_of request.given key.Cell) r.slew r.load (beyond_from request.given))
-    (one_lookup held (value_of request.given key.Lib) (value_of request.given key.Cell) r.slew r.load (beyond_from request.given)) one other r.holds its d e
+    one_put output.Arcs (LookupGives 1 0 (Some held) (value_of request.given key.Lib) (value_of request.given key.Cell) r.slew r.load (beyond_from request.given))
+    (one_lookup 1 0 held (value_of request.given key.Lib) (value_of request.given key.Cell) r.slew r.load (beyond_from request.given)) one other r.holds its d e
 
 one_command : (held : Held) (command : Command) (request : Request) → HasOneAnswer (CommandGives (Some held) command request)
-one_command held Wires request = one_put output.Sdf (WiresGives (Some held) (pick_from request.given) (value_of request.given key.Spef)) (one_wires held (pick_from request.given) (value_of request.given key.Spef))
+one_command held Wires request = one_put output.Sdf (WiresGives (sole_corner (pick_from request.given)) (Some held) (value_of request.given key.Spef)) (one_wires held (pick_from request.given) (value_of request.given key.Spef))
 one_command held Calc request = one_calc held request (libraries_of request.given)
 one_command held Show request = one_put output.Listing (ShowGives (Some held) (value_of request.given key.Sdf)) (one_show held (value_of request.given key.Sdf))
 one_command held Lookup request = one_point held request

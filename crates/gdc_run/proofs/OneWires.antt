@@ -28,7 +28,7 @@ whole_design : (pick : Pick) (bytes : List ℕ) (design : DesignNets) → ReadsN
 whole_design pick bytes design (through file head nets parses heads says) = whole_nets pick file head nets says
 
 -- the text of a file has one answer
-one_text_answer : (pick : Pick) (bytes : List ℕ) (one other : Result SdfRows Refusal) → TextGives pick bytes one → TextGives pick bytes other → SameAnswer one other
+one_text_answer : (pick : Pick) (bytes : List ℕ) (one other : Result SdfRows Refusal) → TextGives (sole_corner pick) bytes one → TextGives (sole_corner pick) bytes other → SameAnswer one other
 one_text_answer pick bytes one other (unread f r) (unread g s) = inl (one_file_refusal (sole_corner pick) bytes f g r s)
 one_text_answer pick bytes one other (unread f r) (of_design design answer s rows) = absurd (no_design_beside (sole_corner pick) bytes f design r s)
 one_text_answer pick bytes one other (of_design design answer s rows) (unread f r) = absurd (no_design_beside (sole_corner pick) bytes f design r s)
@@ -36,12 +36,12 @@ one_text_answer pick bytes one other (of_design design answer r rows) (of_design
     one_rows design (whole_design pick bytes design r) answer its rows (subst (λ (d : DesignNets). RowsOf 1 d its) (one_design (sole_corner pick) (sole_numbered pick) bytes more design s r) others)
 
 -- the file is read, and then its text has an answer
-wires_view : (held : Held) (pick : Pick) (name : List ℕ) (step : Steps SdfRows) → WiresGives (Some held) pick name step → Then (ReadsSpef (Some held) name) (λ bytes. Plain (TextGives pick bytes)) step
+wires_view : (held : Held) (pick : Pick) (name : List ℕ) (step : Steps SdfRows) → WiresGives (sole_corner pick) (Some held) name step → Then (ReadsSpef (Some held) name) (λ bytes. Plain (TextGives (sole_corner pick) bytes)) step
 wires_view held pick name _ (at_reading why r) = stops why r refl
 wires_view held pick name _ (at_spef bytes refusal r n) = goes bytes r (unread refusal n)
 wires_view held pick name _ (at_nets bytes design refusal r n rows) = goes bytes r (of_design design (Err refusal) n rows)
 wires_view held pick name _ (with_rows bytes design rows r n are) = goes bytes r (of_design design (Ok rows) n are)
 
-pub one_wires : (held : Held) (pick : Pick) (name : List ℕ) → HasOneAnswer (WiresGives (Some held) pick name)
-one_wires held pick name = one_by (WiresGives (Some held) pick name) (Then (ReadsSpef (Some held) name) (λ bytes. Plain (TextGives pick bytes))) (wires_view held pick name)
-    (one_then (ReadsSpef (Some held) name) (λ bytes. Plain (TextGives pick bytes)) (one_file held Spef name) (λ bytes reads. one_plain (TextGives pick bytes) (one_text_answer pick bytes)))
+pub one_wires : (held : Held) (pick : Pick) (name : List ℕ) → HasOneAnswer (WiresGives (sole_corner pick) (Some held) name)
+one_wires held pick name = one_by (WiresGives (sole_corner pick) (Some held) name) (Then (ReadsSpef (Some held) name) (λ bytes. Plain (TextGives (sole_corner pick) bytes))) (wires_view held pick name)
+    (one_then (ReadsSpef (Some held) name) (λ bytes. Plain (TextGives (sole_corner pick) bytes)) (one_file held Spef name) (λ bytes reads. one_plain (TextGives (sole_corner pick) bytes) (one_text_answer pick bytes)))

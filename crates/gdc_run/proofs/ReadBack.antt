@@ -8,7 +8,7 @@ use Rattle.corner_set.specs.declared.pick.Pick.{Pick}
 use Rattle.delay_units.specs.declared.Femto.{Femto}
 use Rattle.edge_io.specs.Holding.{Held}
 use Rattle.edge_io.specs.Told.{appended}
-use Rattle.gdc_words.specs.CommandLine.{Request}
+use Rattle.gdc_words.specs.CommandLine.{Request, pick_from}
 use Rattle.gdc_words.specs.declared.commands.Command.{Command}
 use Rattle.gdc_words.specs.declared.commands.Command.TheVariants.{Wires, Calc, Show, Lookup, Flat, Trial, Help, Version}
 use Rattle.name_table.specs.WellSpelled.{IsWellSpelled}
@@ -125,7 +125,7 @@ module _ (halves : HalvesSettle) (named : NamedSettles) (law : ReadBack IsSettle
   file_nets : (pick : Pick) (bytes : List ℕ) (design : DesignNets) → ReadsNets (sole_corner pick) bytes (Ok design) → All IsGoodNet design.nets
   file_nets pick bytes design (through file head nets parses heads says) = section_nets pick file head nets (formed_of bytes file parses) says
 
-  wires_readable : (held : Option Held) (pick : Pick) (name : List ℕ) (rows : SdfRows) → WiresGives held pick name (Go rows) → IsReadable Wires (output.Sdf rows)
+  wires_readable : (held : Option Held) (pick : Pick) (name : List ℕ) (rows : SdfRows) → WiresGives (sole_corner pick) held name (Go rows) → IsReadable Wires (output.Sdf rows)
   wires_readable held pick name rows (with_rows bytes design same reads nets gives) plain =
       let fits = fit rows (nets_sound design.nets rows.wires (file_nets pick bytes design nets) gives.1) plain gives.2 in
       record { says = law 1 (inl refl) rows fits; only = only 1 (inl refl) rows fits }
@@ -142,7 +142,7 @@ module _ (halves : HalvesSettle) (named : NamedSettles) (law : ReadBack IsSettle
 
   command_readable : (held : Option Held) (command : Command) (request : Request) (made : Output) → CommandGives held command request (Go made) → IsFitFor command made
       → IsReadable command made
-  command_readable held Wires request made (rows, gives, is) fits = subst (IsReadable Wires) (sym is) (wires_readable held _ _ rows gives)
+  command_readable held Wires request made (rows, gives, is) fits = subst (IsReadable Wires) (sym is) (wires_readable held (pick_from request.given) _ rows gives)
   command_readable held Calc request made gives fits = calc_readable made fits
   command_readable held Show request made gives fits = tt
   command_readable held Lookup request made gives fits = tt

@@ -70,17 +70,18 @@ pub data IsEdgeEnd (slew load : ℕ) (beyond : Beyond) (tables : EdgeTables) : P
   at_transition : {end : LookupEnd} → HasValue tables.delay slew load Femto beyond → IsLookupEnd tables.slew slew load Atto beyond end
       → IsEdgeEnd slew load beyond tables Transition end
 
--- the refusal of an edge whose table has no value, with the name of its cell
-pub data IsEdgeRefusal (cell : List ℕ) (pins : List Pin) (arc : Arc) (edge : Edge) (part : Part) : LookupEnd → Refusal → Type 0 where
+-- the refusal of an edge whose table has no value at a corner, with the name of its cell
+pub data IsEdgeRefusal (corner : ℕ) (cell : List ℕ) (pins : List Pin) (arc : Arc) (edge : Edge) (part : Part)
+    : LookupEnd → Refusal → Type 0 where
   outside_at : {from to : List ℕ} (outside : Outside) → IsNamed pins arc.from from → IsNamed pins arc.to to
-      → IsEdgeRefusal cell pins arc edge part (lookup_end.Outside outside)
-      (refusal.Outside cell from to edge 0 part outside.axis outside.value)
+      → IsEdgeRefusal corner cell pins arc edge part (lookup_end.Outside outside)
+      (refusal.Outside cell from to edge corner part outside.axis outside.value)
   past_time_at : {from to : List ℕ} → IsNamed pins arc.from from → IsNamed pins arc.to to
-      → IsEdgeRefusal cell pins arc edge part lookup_end.PastTime (refusal.PastTime cell from to edge 0 part)
+      → IsEdgeRefusal corner cell pins arc edge part lookup_end.PastTime (refusal.PastTime cell from to edge corner part)
 
--- the first of some edges with a table that has no value is refused
-pub record IsFirstRefused (cell : List ℕ) (pins : List Pin) (slew load : ℕ) (beyond : Beyond) (edges : List ArcEdge) (refusal : Refusal)
-    : Type 0 where
+-- the first of some edges with a table that has no value at a corner is refused
+pub record IsFirstRefused (corner : ℕ) (cell : List ℕ) (pins : List Pin) (slew load : ℕ) (beyond : Beyond) (edges : List ArcEdge)
+    (refusal : Refusal) : Type 0 where
   pub before : List ArcEdge
   pub here : ArcEdge
   pub behind : List ArcEdge
@@ -89,7 +90,7 @@ pub record IsFirstRefused (cell : List ℕ) (pins : List Pin) (slew load : ℕ) 
   pub part : Part
   pub end : LookupEnd
   pub is_end : IsEdgeEnd slew load beyond here.tables part end
-  pub refused : IsEdgeRefusal cell pins here.arc here.edge part end refusal
+  pub refused : IsEdgeRefusal corner cell pins here.arc here.edge part end refusal
 
 -- the rows of these edges stand behind those before
 pub record AddsEdges (pins : List Pin) (slew load : ℕ) (beyond : Beyond) (edges : List ArcEdge) (before after : List ArcRow) : Type 0 where
@@ -98,9 +99,10 @@ pub record AddsEdges (pins : List Pin) (slew load : ℕ) (beyond : Beyond) (edge
   pub each : AllZip (IsArcRow pins slew load beyond) edges added
   pub valued : All (λ edge. HasValues slew load beyond edge.tables) edges
 
--- a cell of a name gives a row for each edge of its arcs, or is refused for the first with a table that has no value
-pub data CellGives (name : List ℕ) (cell : TimedCell) (slew load : ℕ) (beyond : Beyond) : Result (List ArcRow) Refusal → Type 0 where
+-- a cell of a name at a corner gives a row for each edge of its arcs, or is refused for the first with a table that has no value
+pub data CellGives (corner : ℕ) (name : List ℕ) (cell : TimedCell) (slew load : ℕ) (beyond : Beyond)
+    : Result (List ArcRow) Refusal → Type 0 where
   all_valued : (rows : List ArcRow) → AddsEdges cell.pins slew load beyond (arc_edges cell.arcs) [] rows
-      → CellGives name cell slew load beyond (Ok rows)
-  some_refused : (refusal : Refusal) → IsFirstRefused name cell.pins slew load beyond (arc_edges cell.arcs) refusal
-      → CellGives name cell slew load beyond (Err refusal)
+      → CellGives corner name cell slew load beyond (Ok rows)
+  some_refused : (refusal : Refusal) → IsFirstRefused corner name cell.pins slew load beyond (arc_edges cell.arcs) refusal
+      → CellGives corner name cell slew load beyond (Err refusal)

@@ -17,24 +17,25 @@ use Rattle.gdc_words.specs.declared.commands.Libraries.{Libraries}
 use Rattle.gdc_words.specs.declared.commands.Libraries.TheVariants.{One, EachCorner}
 use Rattle.gdc_words.specs.declared.faults.UsageFault.{UsageFault}
 use Rattle.delay_core.specs.declared.refusal.FileKey.{FileKey}
-use Rattle.delay_core.specs.declared.refusal.FileKey.TheVariants.{Spef, Sdf, Lib}
+use Rattle.delay_core.specs.declared.refusal.FileKey.TheVariants.{Spef, Sdf}
 use Rattle.delay_core.specs.declared.refusal.LimitKind.TheVariants.{File}
 use Rattle.delay_core.specs.declared.refusal.Refusal.{Refusal}
 use Rattle.delay_core.specs.declared.refusal.Refusal.TheVariants.{Limit, SdfSyntax}
 use Rattle.gdc_words.specs.CommandLine.{Request, Asks, libraries_of, value_of, pick_from, beyond_from}
-use Rattle.corner_set.specs.declared.pick.Pick.{Pick}
 use Rattle.delay_core.specs.DesignReading.{LinkedDesign, ReadsDesign}
 use Rattle.delay_core.specs.InputFiles.{file_limit}
 use Rattle.delay_core.specs.SpefPhases.{sole_corner, DesignNets, ReadsNets}
 use Rattle.gdc_words.specs.Decimals.{IsGrains}
 use Rattle.liberty_groups.specs.Groups.{Group}
 use Rattle.nldm_lookup.specs.declared.beyond.Beyond.{Beyond}
+use Rattle.spef_nets.specs.Sections.{Corners}
 use Rattle.cell_models.specs.Cells.{TimedCell}
 use Rattle.gdc_run.specs.ArcRows.{CellGives}
 use Rattle.gdc_run.specs.Calculation.{each_corner, files_with, CalcGives}
 use Rattle.gdc_run.specs.Putting.{As}
 use Rattle.gdc_run.specs.Trial.{TrialGives, ReadsTrial}
 use Rattle.delay_core.specs.LibraryPhases.{ParsesLibrary, ModelsCell}
+use Rattle.delay_core.specs.LibraryReading.{library_key, ReadsLibraryFile}
 use Rattle.gdc_run.specs.declared.arc_rows.ArcRow.{ArcRow}
 use Rattle.delay_core.specs.WireNets.{RowsOf}
 use Rattle.gdc_run.specs.declared.output.Output.{Output}
@@ -48,17 +49,16 @@ ReadsSpef held name step = ReadsFile file_limit held Spef (Limit (File Spef)) na
 abbrev pub ReadsSdf : Option Held → List ℕ → Step Refusal FileKey (List ℕ) → Type 0
 ReadsSdf held name step = ReadsFile file_limit held Sdf (Limit (File Sdf)) name step
 
--- `wires`: the SPEF file is read, then its nets, in its order, and each gives its rows
-pub data WiresGives (held : Option Held) (pick : Pick) (name : List ℕ) : Step Refusal FileKey SdfRows → Type 0 where
-  at_reading : (why : Stop Refusal FileKey) → ReadsSpef held name (Halt why) → WiresGives held pick name (Halt why)
-  at_spef : (bytes : List ℕ) (refusal : Refusal) → ReadsSpef held name (Go bytes) → ReadsNets (sole_corner pick) bytes (Err refusal)
-      → WiresGives held pick name (Halt (RefusedBy refusal))
+-- `wires`: the SPEF file is read, then its nets at these corners, in its order, and each gives its rows
+pub data WiresGives {I : Type 0} (corners : Corners I) (held : Option Held) (name : List ℕ) : Step Refusal FileKey SdfRows → Type 0 where
+  at_reading : (why : Stop Refusal FileKey) → ReadsSpef held name (Halt why) → WiresGives corners held name (Halt why)
+  at_spef : (bytes : List ℕ) (refusal : Refusal) → ReadsSpef held name (Go bytes) → ReadsNets corners bytes (Err refusal)
+      → WiresGives corners held name (Halt (RefusedBy refusal))
   at_nets : (bytes : List ℕ) (design : DesignNets) (refusal : Refusal) → ReadsSpef held name (Go bytes)
-      → ReadsNets (sole_corner pick) bytes (Ok design)
-      → RowsOf 1 design (Err refusal) → WiresGives held pick name (Halt (RefusedBy refusal))
+      → ReadsNets corners bytes (Ok design) → RowsOf corners.count design (Err refusal)
+      → WiresGives corners held name (Halt (RefusedBy refusal))
   with_rows : (bytes : List ℕ) (design : DesignNets) (rows : SdfRows) → ReadsSpef held name (Go bytes)
-      → ReadsNets (sole_corner pick) bytes (Ok design)
-      → RowsOf 1 design (Ok rows) → WiresGives held pick name (Go rows)
+      → ReadsNets corners bytes (Ok design) → RowsOf corners.count design (Ok rows) → WiresGives corners held name (Go rows)
 
 -- the bytes are an SDF file (IEEE 1497), which says these rows, or its dead token is this one
 pub data ParsesSdf (bytes : List ℕ) : Result (List SdfRow) Refusal → Type 0 where
@@ -73,27 +73,31 @@ pub data ShowGives (held : Option Held) (name : List ℕ) : Step Refusal FileKey
   with_sdf_rows : (bytes : List ℕ) (rows : List SdfRow) → ReadsSdf held name (Go bytes) → ParsesSdf bytes (Ok rows)
       → ShowGives held name (Go rows)
 
--- the phase that reads the library
-abbrev pub ReadsLib : Option Held → List ℕ → Step Refusal FileKey (List ℕ) → Type 0
-ReadsLib held name step = ReadsFile file_limit held Lib (Limit (File Lib)) name step
+-- the phase that reads the library of a corner, in a run with so many corners
+abbrev pub ReadsLib : ℕ → ℕ → Option Held → List ℕ → Step Refusal FileKey (List ℕ) → Type 0
+ReadsLib corners corner held name step = ReadsLibraryFile held (library_key corners corner) name step
 
--- what the bytes of a library say of the cell of a name at a slew and a load: its grammar is read, then the model of the cell, and then
--- each of its tables is looked up
-pub data ReadsArcs (name : List ℕ) (slew load : ℕ) (beyond : Beyond) (bytes : List ℕ) : Result (List ArcRow) Refusal → Type 0 where
-  at_library : (refusal : Refusal) → ParsesLibrary 0 bytes (Err refusal) → ReadsArcs name slew load beyond bytes (Err refusal)
-  at_cell : (library : Group) (refusal : Refusal) → ParsesLibrary 0 bytes (Ok library) → ModelsCell 0 library name (Err refusal)
-      → ReadsArcs name slew load beyond bytes (Err refusal)
-  of_cell : (library : Group) (cell : TimedCell) (answer : Result (List ArcRow) Refusal) → ParsesLibrary 0 bytes (Ok library)
-      → ModelsCell 0 library name (Ok cell) → CellGives name cell slew load beyond answer → ReadsArcs name slew load beyond bytes answer
+-- what the bytes of the library of a corner say of the cell of a name at a slew and a load: its grammar is read, then the model of the
+-- cell, and then each of its tables is looked up
+pub data ReadsArcs (corner : ℕ) (name : List ℕ) (slew load : ℕ) (beyond : Beyond) (bytes : List ℕ)
+    : Result (List ArcRow) Refusal → Type 0 where
+  at_library : (refusal : Refusal) → ParsesLibrary corner bytes (Err refusal) → ReadsArcs corner name slew load beyond bytes (Err refusal)
+  at_cell : (library : Group) (refusal : Refusal) → ParsesLibrary corner bytes (Ok library) → ModelsCell corner library name (Err refusal)
+      → ReadsArcs corner name slew load beyond bytes (Err refusal)
+  of_cell : (library : Group) (cell : TimedCell) (answer : Result (List ArcRow) Refusal) → ParsesLibrary corner bytes (Ok library)
+      → ModelsCell corner library name (Ok cell) → CellGives corner name cell slew load beyond answer
+      → ReadsArcs corner name slew load beyond bytes answer
 
--- `lookup`: the library is read, and then what it says of the cell
-pub data LookupGives (held : Option Held) (file name : List ℕ) (slew load : ℕ) (beyond : Beyond) : Step Refusal FileKey (List ArcRow)
-    → Type 0 where
-  at_library_reading : (why : Stop Refusal FileKey) → ReadsLib held file (Halt why) → LookupGives held file name slew load beyond (Halt why)
-  at_arcs : (bytes : List ℕ) (refusal : Refusal) → ReadsLib held file (Go bytes) → ReadsArcs name slew load beyond bytes (Err refusal)
-      → LookupGives held file name slew load beyond (Halt (RefusedBy refusal))
-  with_arc_rows : (bytes : List ℕ) (rows : List ArcRow) → ReadsLib held file (Go bytes)
-      → ReadsArcs name slew load beyond bytes (Ok rows) → LookupGives held file name slew load beyond (Go rows)
+-- `lookup` at a corner, in a run with so many corners: the library of the corner is read, and then what it says of the cell
+pub data LookupGives (corners corner : ℕ) (held : Option Held) (file name : List ℕ) (slew load : ℕ) (beyond : Beyond)
+    : Step Refusal FileKey (List ArcRow) → Type 0 where
+  at_library_reading : (why : Stop Refusal FileKey) → ReadsLib corners corner held file (Halt why)
+      → LookupGives corners corner held file name slew load beyond (Halt why)
+  at_arcs : (bytes : List ℕ) (refusal : Refusal) → ReadsLib corners corner held file (Go bytes)
+      → ReadsArcs corner name slew load beyond bytes (Err refusal)
+      → LookupGives corners corner held file name slew load beyond (Halt (RefusedBy refusal))
+  with_arc_rows : (bytes : List ℕ) (rows : List ArcRow) → ReadsLib corners corner held file (Go bytes)
+      → ReadsArcs corner name slew load beyond bytes (Ok rows) → LookupGives corners corner held file name slew load beyond (Go rows)
 
 -- `flat`: the netlist is read, then the cells that its top uses, then the library, and then the flat netlist is made
 abbrev pub FlatGives : Option Held → List ℕ → List ℕ → List ℕ → Step Refusal FileKey LinkedDesign → Type 0
@@ -115,11 +119,11 @@ CalcOutput held request EachCorner step = As output.SdfOfCorners (CalcGives each
 -- the phases of a command over its keys
 abbrev pub CommandGives : Option Held → Command → Request → Step Refusal FileKey Output → Type 0
 CommandGives held Wires request step = As output.Sdf
-    (WiresGives held (pick_from request.given) (value_of request.given key.Spef)) step
+    (WiresGives (sole_corner (pick_from request.given)) held (value_of request.given key.Spef)) step
 CommandGives held Calc request step = CalcOutput held request (libraries_of request.given) step
 CommandGives held Show request step = As output.Listing (ShowGives held (value_of request.given key.Sdf)) step
 CommandGives held Lookup request step = ReadsPoint request
-    (λ slew load. As output.Arcs (LookupGives held (value_of request.given key.Lib) (value_of request.given key.Cell) slew load
+    (λ slew load. As output.Arcs (LookupGives 1 0 held (value_of request.given key.Lib) (value_of request.given key.Cell) slew load
     (beyond_from request.given)) step)
 CommandGives held Flat request step = As output.Flat
     (FlatGives held (value_of request.given key.Netlist) (value_of request.given key.Top) (value_of request.given key.Lib)) step

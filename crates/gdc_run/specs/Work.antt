@@ -1,7 +1,6 @@
 -- How many steps a run takes at the most: the work that its input gives.
 use Rattle.std.specs.Prelude.{◌≡◌, ℕ, ◌*◌, IsTrue, List, length, Option, Result, Ok, Err}
 use Rattle.edge_io.specs.Holding.{Held}
-use Rattle.corner_set.specs.declared.pick.Pick.{Pick}
 use Rattle.verdict_phases.specs.Phases.{Go}
 use Rattle.verdict_phases.specs.declared.ends.PhaseEnd.TheVariants as phase
 use Rattle.gdc_words.specs.declared.commands.Command.{Command}
@@ -21,24 +20,27 @@ use Rattle.gdc_run.specs.Trial.{TrialWork, ReadsTrial}
 use Rattle.gdc_run.specs.Verdict.{ReadsSpef, ReadsLib}
 use Rattle.liberty_groups.specs.Groups.{Group}
 use Rattle.cell_models.specs.Cells.{TimedCell}
+use Rattle.spef_nets.specs.Sections.{Corners}
 use Rattle.gdc_run.specs.ArcRows.{arc_edges}
 use Rattle.delay_core.specs.LibraryPhases.{ParsesLibrary, ModelsCell}
 
--- the work of `wires`: none before the SPEF file is read, and then that of its bytes
-pub data WiresWork (held : Option Held) (pick : Pick) (name : List ℕ) : ℕ → Type 0 where
-  no_file : WiresWork held pick name 0
-  of_file : {work : ℕ} (bytes : List ℕ) → ReadsSpef held name (Go bytes) → TextWork pick bytes work → WiresWork held pick name work
+-- the work of `wires` at these corners: none before the SPEF file is read, and then that of its bytes
+pub data WiresWork {I : Type 0} (corners : Corners I) (held : Option Held) (name : List ℕ) : ℕ → Type 0 where
+  no_file : WiresWork corners held name 0
+  of_file : {work : ℕ} (bytes : List ℕ) → ReadsSpef held name (Go bytes) → TextWork corners bytes work → WiresWork corners held name work
 
--- the work of a library's bytes: none before the model of the cell is made, and then 64 steps at the most for each edge of its arcs
-pub data CellWork (name bytes : List ℕ) : ℕ → Type 0 where
-  no_model_yet : CellWork name bytes 0
-  of_model : (library : Group) (cell : TimedCell) → ParsesLibrary 0 bytes (Ok library) → ModelsCell 0 library name (Ok cell)
-      → CellWork name bytes (64 * length (arc_edges cell.arcs))
+-- the work of the bytes of the library of a corner: none before the model of the cell is made, and then 64 steps at the most for each
+-- edge of its arcs
+pub data CellWork (corner : ℕ) (name bytes : List ℕ) : ℕ → Type 0 where
+  no_model_yet : CellWork corner name bytes 0
+  of_model : (library : Group) (cell : TimedCell) → ParsesLibrary corner bytes (Ok library) → ModelsCell corner library name (Ok cell)
+      → CellWork corner name bytes (64 * length (arc_edges cell.arcs))
 
--- the work of `lookup`: none before the library is read, and then that of its bytes
-pub data LookupWork (held : Option Held) (file name : List ℕ) : ℕ → Type 0 where
-  no_library : LookupWork held file name 0
-  of_library : {work : ℕ} (bytes : List ℕ) → ReadsLib held file (Go bytes) → CellWork name bytes work → LookupWork held file name work
+-- the work of `lookup` at a corner, in a run with so many corners: none before the library is read, and then that of its bytes
+pub data LookupWork (corners corner : ℕ) (held : Option Held) (file name : List ℕ) : ℕ → Type 0 where
+  no_library : LookupWork corners corner held file name 0
+  of_library : {work : ℕ} (bytes : List ℕ) → ReadsLib corners corner held file (Go bytes) → CellWork corner name bytes work
+      → LookupWork corners corner held file name work
 
 -- the work of `calc` with such libraries: at the one corner, or at each of the three
 abbrev pub OutputWork : Option Held → Request → Libraries → ℕ → Type 0
@@ -52,10 +54,10 @@ pub data MadeWork (request : Request) : ℕ → Type 0 where
 
 -- the work of a command: `wires`, `calc`, `lookup` and `trial` take steps, and no other
 abbrev pub CommandWork : Option Held → Command → Request → ℕ → Type 0
-CommandWork held Wires request work = WiresWork held (pick_from request.given) (value_of request.given key.Spef) work
+CommandWork held Wires request work = WiresWork (sole_corner (pick_from request.given)) held (value_of request.given key.Spef) work
 CommandWork held Calc request work = OutputWork held request (libraries_of request.given) work
 CommandWork held Show request work = work ≡ 0
-CommandWork held Lookup request work = LookupWork held (value_of request.given key.Lib) (value_of request.given key.Cell) work
+CommandWork held Lookup request work = LookupWork 1 0 held (value_of request.given key.Lib) (value_of request.given key.Cell) work
 CommandWork held Flat request work = work ≡ 0
 CommandWork held Trial request work = MadeWork request work
 CommandWork held Help request work = work ≡ 0

@@ -147,18 +147,19 @@ fn look_up<L: Ledger>(
     }
 }
 
-// The refusal of an edge with a table that has no value at a point.
+// The refusal of an edge with a table that has no value at a point, at the corner of this number.
 fn refusal_of(
     alloc: Global,
     cell: &Text,
     pins: &[Pin],
     arc: &Arc,
     edge: Edge,
+    corner: usize,
     end: EdgeEnd,
 ) -> Result<Refusal, OutOfMemory>
     requires from { arc.now.from < length pins.now }
     requires to { arc.now.to < length pins.now }
-    ensures { IfOk result (IsEdgeRefusal cell.now pins.now arc.now edge end.part end.end) }
+    ensures { IfOk result (IsEdgeRefusal corner cell.now pins.now arc.now edge end.part end.end) }
 {
     let instance = Text::from_bytes(alloc, cell.bytes())?;
     let from = Text::from_bytes(alloc, pins[arc.from].name.bytes())?;
@@ -169,7 +170,7 @@ fn refusal_of(
             from,
             to,
             edge,
-            corner: 0,
+            corner,
             part: end.part,
             axis: outside.axis,
             value: outside.value,
@@ -179,7 +180,7 @@ fn refusal_of(
             from,
             to,
             edge,
-            corner: 0,
+            corner,
             part: end.part,
         }),
     }
@@ -214,6 +215,7 @@ fn add_edge<L: Ledger>(
     arc: &Arc,
     edge: Edge,
     tables: &Option<EdgeTables>,
+    corner: usize,
     at: Point,
     rows: &mut ArcRows,
     steps: &mut Steps<L>,
@@ -222,7 +224,7 @@ fn add_edge<L: Ledger>(
     requires to { arc.now.to < length pins.now }
     ensures ok { OnOk result (AddsEdges pins.now (unsigned_abs at.slew.0) at.load.0 at.beyond (edge_of arc.now edge tables.now) rows.old rows.new) }
     ensures refused { OnRefusal result
-        (IsFirstRefused cell.now pins.now (unsigned_abs at.slew.0) at.load.0 at.beyond (edge_of arc.now edge tables.now)) }
+        (IsFirstRefused corner cell.now pins.now (unsigned_abs at.slew.0) at.load.0 at.beyond (edge_of arc.now edge tables.now)) }
     ensures forward { steps.old ≤ steps.new }
     ensures steps { steps.new ≤ steps.old + 64 * length (edge_of arc.now edge tables.now) }
 {
@@ -236,7 +238,7 @@ fn add_edge<L: Ledger>(
             Ok(())
         }
         Err(end) => {
-            let refusal = refusal_of(alloc, cell, pins, arc, edge, end)?;
+            let refusal = refusal_of(alloc, cell, pins, arc, edge, corner, end)?;
             Err(NoFileEnd::Refused(refusal))
         }
     }
@@ -248,6 +250,7 @@ fn add_arc<L: Ledger>(
     cell: &Text,
     pins: &[Pin],
     arc: &Arc,
+    corner: usize,
     at: Point,
     rows: &mut ArcRows,
     steps: &mut Steps<L>,
@@ -255,7 +258,8 @@ fn add_arc<L: Ledger>(
     requires from { arc.now.from < length pins.now }
     requires to { arc.now.to < length pins.now }
     ensures ok { OnOk result (AddsEdges pins.now (unsigned_abs at.slew.0) at.load.0 at.beyond (edges_of arc.now) rows.old rows.new) }
-    ensures refused { OnRefusal result (IsFirstRefused cell.now pins.now (unsigned_abs at.slew.0) at.load.0 at.beyond (edges_of arc.now)) }
+    ensures refused { OnRefusal result
+        (IsFirstRefused corner cell.now pins.now (unsigned_abs at.slew.0) at.load.0 at.beyond (edges_of arc.now)) }
     ensures forward { steps.old ≤ steps.new }
     ensures steps { steps.new ≤ steps.old + 64 * length (edges_of arc.now) }
 {
@@ -266,6 +270,7 @@ fn add_arc<L: Ledger>(
         arc,
         Edge::Rise,
         &arc.rise,
+        corner,
         at,
         rows,
         steps,
@@ -277,6 +282,7 @@ fn add_arc<L: Ledger>(
         arc,
         Edge::Fall,
         &arc.fall,
+        corner,
         at,
         rows,
         steps,
@@ -284,23 +290,24 @@ fn add_arc<L: Ledger>(
     Ok(())
 }
 
-/// The rows of a cell at a point: of each arc in order its rise and then its fall, if it has them. A cell is refused for the first
-/// of them with a table that has no value there. At most 64 steps for each.
+/// The rows of a cell at a corner and a point: of each arc in order its rise and then its fall, if it has them. A cell is refused for the
+/// first of them with a table that has no value there. At most 64 steps for each.
 pub fn arc_rows<L: Ledger>(
     alloc: Global,
     name: &Text,
     cell: &Cell,
+    corner: usize,
     at: Point,
     steps: &mut Steps<L>,
 ) -> Result<ArcRows, NoFileEnd<Refusal>>
-    ensures follows { FollowsNoFile (CellGives name.now cell.now (unsigned_abs at.slew.0) at.load.0 at.beyond) result }
+    ensures follows { FollowsNoFile (CellGives corner name.now cell.now (unsigned_abs at.slew.0) at.load.0 at.beyond) result }
     ensures forward { steps.old ≤ steps.new }
     ensures steps { steps.new ≤ steps.old + 64 * length (arc_edges cell.now.arcs) }
 {
     let pins = cell.pins();
     let mut rows = ArcRows::new(alloc);
     for arc in cell.arcs() {
-        add_arc(alloc, name, pins, arc, at, &mut rows, steps)?;
+        add_arc(alloc, name, pins, arc, corner, at, &mut rows, steps)?;
     }
     Ok(rows)
 }

@@ -29,17 +29,17 @@ fn arc_rows_of_library<L: Ledger>(
     steps: &mut Steps<L>,
 ) -> Result<ArcRows, NoFileEnd<Refusal>>
     requires { length text < 2 ^ 32 }
-    ensures follows { FollowsNoFile (ReadsArcs cell.now (unsigned_abs at.slew.0) at.load.0 at.beyond text) result }
-    ensures steps { IsWithin (CellWork cell.now text) steps.old steps.new }
+    ensures follows { FollowsNoFile (ReadsArcs 0 cell.now (unsigned_abs at.slew.0) at.load.0 at.beyond text) result }
+    ensures steps { IsWithin (CellWork 0 cell.now text) steps.old steps.new }
     ensures no_steps { OnRefusal result (λ refusal. IsTrue (is_early refusal) → steps.new ≡ steps.old) }
 {
     let tree = parse_library(alloc, SOLE_CORNER, text.bytes())?;
     let model = model_cell(alloc, SOLE_CORNER, &tree, cell)?;
-    arc_rows(alloc, cell, &model, at, steps)
+    arc_rows(alloc, cell, &model, SOLE_CORNER, at, steps)
 }
 
 /// The rows of the cell of that name in the library of that file, at a point.
-#[tactic(auto, using(crate::specs::Verdict::at_library_reading, crate::specs::Verdict::at_arcs, crate::specs::Verdict::with_arc_rows, crate::proofs::Work::no_lookup_work, crate::proofs::Work::lookup_work))]
+#[tactic(auto, using(crate::proofs::LookupTexts::library_halts, crate::proofs::LookupTexts::arcs_refused, crate::proofs::LookupTexts::arcs_given, crate::proofs::Work::no_lookup_work, crate::proofs::Work::lookup_work))]
 pub fn lookup<H: Shelf, L: Ledger>(
     alloc: Global,
     shelf: &mut H,
@@ -48,11 +48,12 @@ pub fn lookup<H: Shelf, L: Ledger>(
     at: Point,
     steps: &mut Steps<L>,
 ) -> Result<ArcRows, PhaseEnd<Refusal, FileKey>>
-    ensures follows { Follows (LookupGives (H.held shelf.old) library.now cell.now (unsigned_abs at.slew.0) at.load.0 at.beyond) result }
+    ensures follows { Follows
+        (LookupGives 1 0 (H.held shelf.old) library.now cell.now (unsigned_abs at.slew.0) at.load.0 at.beyond) result }
     ensures fault { AtReadFault result (λ key. (key ≡ Lib)
         × (Rose (H.faults shelf.old) (H.faults shelf.new) ⊎ TellsMissing (H.held shelf.old) library.now)) }
     ensures opens { RoseBy 1 (H.opens shelf.old) (H.opens shelf.new) }
-    ensures steps { IsWithin (LookupWork (H.held shelf.old) library.now cell.now) steps.old steps.new }
+    ensures steps { IsWithin (LookupWork 1 0 (H.held shelf.old) library.now cell.now) steps.old steps.new }
     ensures no_steps { OnEarly result (steps.new ≡ steps.old) }
 {
     let too_long = Refusal::Limit(LimitKind::File(FileKey::Lib));

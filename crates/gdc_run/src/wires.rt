@@ -6,6 +6,7 @@ ghost use Rattle.verdict_phases.specs.Phases.{Follows};
 ghost use Rattle.delay_core.specs.Refused.{AtReadFault};
 ghost use Rattle.delay_core.specs.declared.refusal.FileKey.TheVariants.{Spef};
 ghost use Rattle.gdc_run.specs.Verdict.{WiresGives};
+ghost use Rattle.delay_core.specs.SpefPhases.{sole_corner};
 ghost use Rattle.delay_core.specs.SpefWork.{IsWithin, OnEarly};
 ghost use Rattle.gdc_run.specs.Work.{WiresWork};
 
@@ -26,11 +27,11 @@ pub fn wires<H: Shelf, L: Ledger>(
     pick: Pick,
     steps: &mut Steps<L>,
 ) -> Result<Rows<Single>, PhaseEnd<Refusal, FileKey>>
-    ensures follows { Follows (WiresGives (H.held shelf.old) pick name.now) result }
+    ensures follows { Follows (WiresGives (sole_corner pick) (H.held shelf.old) name.now) result }
     ensures fault { AtReadFault result (λ key. (key ≡ Spef)
         × (Rose (H.faults shelf.old) (H.faults shelf.new) ⊎ TellsMissing (H.held shelf.old) name.now)) }
     ensures opens { RoseBy 1 (H.opens shelf.old) (H.opens shelf.new) }
-    ensures steps { IsWithin (WiresWork (H.held shelf.old) pick name.now) steps.old steps.new }
+    ensures steps { IsWithin (WiresWork (sole_corner pick) (H.held shelf.old) name.now) steps.old steps.new }
     ensures no_steps { OnEarly result (steps.new ≡ steps.old) }
 {
     let too_long = Refusal::Limit(LimitKind::File(FileKey::Spef));

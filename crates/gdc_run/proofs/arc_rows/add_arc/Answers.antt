@@ -12,8 +12,8 @@ returns-in_err-add_edge-2-clause-refused g c =
     let load = c.args.at.load.0 in
     let beyond = c.args.at.beyond in
     let arc = c.args.arc.now in
-    refusal_on (Unit {0}) _ c.from_residual-in_err-add_edge-2.result c.in_err-add_edge-2.field-0.0 (IsFirstRefused c.args.cell.now pins slew load beyond (edge_of arc Fall arc.fall)) _ c.from_residual-in_err-add_edge-2.ensures.1 c.in_err-add_edge-2.ensures.refused
-    (λ refusal is. refused_then pins slew load beyond c.args.cell.now (edge_of arc Rise arc.rise) (edge_of arc Fall arc.fall) _ _ refusal c.in_ok-add_edge.ensures.ok is)
+    refusal_on (Unit {0}) _ c.from_residual-in_err-add_edge-2.result c.in_err-add_edge-2.field-0.0 (IsFirstRefused c.args.corner c.args.cell.now pins slew load beyond (edge_of arc Fall arc.fall)) _ c.from_residual-in_err-add_edge-2.ensures.1 c.in_err-add_edge-2.ensures.refused
+    (λ refusal is. refused_then pins slew load beyond c.args.corner c.args.cell.now (edge_of arc Rise arc.rise) (edge_of arc Fall arc.fall) _ _ refusal c.in_ok-add_edge.ensures.ok is)
 
 pub returns-clause-ok : goal.returns-clause-ok
 returns-clause-ok g c =

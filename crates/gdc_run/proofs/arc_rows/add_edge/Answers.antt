@@ -12,5 +12,5 @@ returns-in_ok-push-in-Ok-clause-ok g c =
 pub returns-in_ok-refusal-in-Err-clause-refused : goal.returns-in_ok-refusal-in-Err-clause-refused
 returns-in_ok-refusal-in-Err-clause-refused g c =
     rw c.in-Some.is
-    (refused_one c.args.pins.now (unsigned_abs c.args.at.slew.0) c.args.at.load.0 c.args.at.beyond c.args.cell.now c.args.arc.now c.args.edge c.in-Some.tables c.in-Err.end.part c.in-Err.end.end c.in_ok-refusal-in-Err.refusal
+    (refused_one c.args.pins.now (unsigned_abs c.args.at.slew.0) c.args.at.load.0 c.args.at.beyond c.args.corner c.args.cell.now c.args.arc.now c.args.edge c.in-Some.tables c.in-Err.end.part c.in-Err.end.end c.in_ok-refusal-in-Err.refusal
     c.in-Err.ensures.end c.in_ok-refusal-in-Err.ensures)

@@ -13,8 +13,8 @@ returns-in_err-add_arc-clause-follows g c =
     let beyond = c.args.at.beyond in
     let pins = c.pins-pins.result.now in
     let arcs = c.arcs-arc-items.result.now in
-    refusal_passes (Unit {0}) name c.args.cell.now slew load beyond c.from_residual.result c.in_err-add_arc.field-0.0 (IsFirstRefused name pins slew load beyond (edges_of c.arc-item.result)) c.from_residual.ensures.1 c.in_err-add_arc.ensures.refused
-    (λ refusal is. refused_in name c.args.cell.now slew load beyond pins arcs c.loop-arc.arc-index c.arc-item.result c.loop-arc.rows refusal c.pins-pins.ensures.pins c.arcs-arc-items.ensures.arcs c.loop-arc-test.true c.arc-item.is c.loop-arc.invariant.adds is)
+    refusal_passes (Unit {0}) c.args.corner name c.args.cell.now slew load beyond c.from_residual.result c.in_err-add_arc.field-0.0 (IsFirstRefused c.args.corner name pins slew load beyond (edges_of c.arc-item.result)) c.from_residual.ensures.1 c.in_err-add_arc.ensures.refused
+    (λ refusal is. refused_in c.args.corner name c.args.cell.now slew load beyond pins arcs c.loop-arc.arc-index c.arc-item.result c.loop-arc.rows refusal c.pins-pins.ensures.pins c.arcs-arc-items.ensures.arcs c.loop-arc-test.true c.arc-item.is c.loop-arc.invariant.adds is)
 
 pub returns-in_err-add_arc-clause-steps : goal.returns-in_err-add_arc-clause-steps
 returns-in_err-add_arc-clause-steps g c =
@@ -39,4 +39,4 @@ loop-arc-preserved g c =
 
 pub returns-clause-follows : goal.returns-clause-follows
 returns-clause-follows g c =
-    gives_all c.args.name.now c.args.cell.now (unsigned_abs c.args.at.slew.0) c.args.at.load.0 c.args.at.beyond c.pins-pins.result.now c.arcs-arc-items.result.now c.loop-arc.arc-index c.loop-arc.rows c.pins-pins.ensures.pins c.arcs-arc-items.ensures.arcs c.loop-arc-test.false c.loop-arc.invariant.adds
+    gives_all c.args.corner c.args.name.now c.args.cell.now (unsigned_abs c.args.at.slew.0) c.args.at.load.0 c.args.at.beyond c.pins-pins.result.now c.arcs-arc-items.result.now c.loop-arc.arc-index c.loop-arc.rows c.pins-pins.ensures.pins c.arcs-arc-items.ensures.arcs c.loop-arc-test.false c.loop-arc.invariant.adds

@@ -1,0 +1,26 @@
+-- What `lookup` gives at the one corner of a run.
+use Rattle.std.proofs.Common.{ℕ, List, Option, Ok, Err}
+use Rattle.edge_io.specs.Holding.{Held}
+use Rattle.nldm_lookup.specs.declared.beyond.Beyond.{Beyond}
+use Rattle.verdict_phases.specs.Phases.{Stop, RefusedBy, Step, Go, Halt}
+use Rattle.delay_core.specs.LibraryReading.{ReadsLibraryFile}
+use Rattle.delay_core.specs.declared.refusal.FileKey.{FileKey}
+use Rattle.delay_core.specs.declared.refusal.FileKey.TheVariants.{Lib}
+use Rattle.delay_core.specs.declared.refusal.Refusal.{Refusal}
+use Rattle.gdc_run.specs.declared.arc_rows.ArcRow.{ArcRow}
+use Rattle.gdc_run.specs.Verdict.{ReadsArcs, LookupGives, at_library_reading, at_arcs, with_arc_rows}
+
+-- the library of the one corner is read
+abbrev pub ReadsSoleLibrary : Option Held → List ℕ → Step Refusal FileKey (List ℕ) → Type 0
+ReadsSoleLibrary held file step = ReadsLibraryFile held Lib file step
+
+pub library_halts : {held : Option Held} {file name : List ℕ} {slew load : ℕ} {beyond : Beyond} (why : Stop Refusal FileKey) → ReadsSoleLibrary held file (Halt why) → LookupGives 1 0 held file name slew load beyond (Halt why)
+library_halts why reads = at_library_reading why reads
+
+pub arcs_refused : {held : Option Held} {file name : List ℕ} {slew load : ℕ} {beyond : Beyond} (bytes : List ℕ) (refusal : Refusal) → ReadsSoleLibrary held file (Go bytes) → ReadsArcs 0 name slew load beyond bytes (Err refusal)
+    → LookupGives 1 0 held file name slew load beyond (Halt (RefusedBy refusal))
+arcs_refused bytes refusal reads arcs = at_arcs bytes refusal reads arcs
+
+pub arcs_given : {held : Option Held} {file name : List ℕ} {slew load : ℕ} {beyond : Beyond} (bytes : List ℕ) (rows : List ArcRow) → ReadsSoleLibrary held file (Go bytes) → ReadsArcs 0 name slew load beyond bytes (Ok rows)
+    → LookupGives 1 0 held file name slew load beyond (Go rows)
+arcs_given bytes rows reads arcs = with_arc_rows bytes rows reads arcs
