@@ -2,6 +2,7 @@
 mod delays;
 mod endings;
 mod nets;
+mod out_of_memory;
 mod plain_sums;
 mod random_trees;
 mod rebuilding;
