@@ -1,11 +1,9 @@
 -- A sink more among the pins of a net.
 use Rattle.std.proofs.Common.{◌≡◌, ℕ, ◌+◌, ◌*◌, List, [], ◌∷◌, ◌++◌, length, map, take, drop, slice_get, Some, Result, Ok, Err, OnOk, sym, ap, ap₂, ◌∙◌, arith, append-nil}
-use Rattle.std.specs.Prelude.{option_map}
 use Rattle.std.specs.List.{flat_map}
 use Rattle.std.proofs.lemmas.Grind.{flat_map-append}
 use Rattle.std.proofs.lemmas.List.{map_push, take_all}
 use Rattle.std.proofs.lemmas.List.FromFn.{length-map-range_with_len}
-use Rattle.std.proofs.lemmas.Option.{slice_get-map, same_Some}
 use Rattle.delay_units.specs.declared.quantities.Farads.{Farads}
 use Rattle.name_table.specs.declared.spef_names.NodeName.{NodeName}
 use Rattle.cell_models.specs.NamedSets.{NamedCells}
@@ -15,13 +13,6 @@ use Rattle.rc_tree.specs.Pins.{Pins, row_of}
 use Rattle.net_parasitics.specs.Inputs.{Inputs}
 use Rattle.net_parasitics.specs.NetPins.{end_name, end_load, end_loads, pins_to}
 use Rattle.net_parasitics.proofs.Lists.{take_next}
-
--- the name of the next sink
-pub name_is : (netlist : FlatNetlist) (cells : List NamedCells) (sinks : List End) (k : ℕ) (sink : End) (name : NodeName) → slice_get sinks k ≡ Some sink
-    → slice_get (map (end_name netlist cells) sinks) k ≡ Some name → name ≡ end_name netlist cells sink
-name_is netlist cells sinks k sink name at named =
-    let mapped : slice_get (map (end_name netlist cells) sinks) k ≡ Some (end_name netlist cells sink) = slice_get-map (end_name netlist cells) sinks k ∙ ap (λ o. option_map (end_name netlist cells) o) at in
-    same_Some name (end_name netlist cells sink) (sym named ∙ mapped)
 
 pub flat_push : {X A : Type 0} (f : X → List A) (xs : List X) (x : X) → flat_map f (xs ++ x ∷ []) ≡ flat_map f xs ++ f x
 flat_push f xs x = flat_map-append f xs (x ∷ []) ∙ ap (λ l. flat_map f xs ++ l) (append-nil (f x))

@@ -3,7 +3,7 @@ ghost use Rattle.std.specs.Prelude.{◌≡◌, ◌+◌, ◌*◌, ◌<◌, ◌≤
 ghost use Rattle.netlist_link.specs.FlatNetlist.{net_at};
 ghost use Rattle.rc_tree.specs.Arenas.{node_count};
 ghost use Rattle.rc_tree.specs.Builds.{IsTreeEnd, IsTreeOf};
-ghost use Rattle.net_parasitics.specs.NetPins.{end_name, net_pins};
+ghost use Rattle.net_parasitics.specs.NetPins.{net_pins};
 ghost use Rattle.net_parasitics.specs.NetTrees.{IsWired};
 ghost use Rattle.net_parasitics.specs.NetSteps.{AreSums};
 
@@ -12,7 +12,6 @@ use corner_set::{CornerSet, Grid};
 use delay_units::Farads;
 use edge_io::{OutOfMemory, Steps};
 use elmore_pass::elmore_into;
-use name_table::NodeName;
 use netlist_link::End;
 use rc_tree::{RcTree, Scratch, TreeEnd, Workspace};
 use spef_nets::Net;
@@ -28,8 +27,6 @@ pub struct TreeWork<C: CornerSet> {
     workspace: Workspace,
     // the loads of one sink
     row: Grid<C, Farads>,
-    // the names of the sinks of one net
-    names: Vec<NodeName>,
 }
 
 impl<C: CornerSet> Model for TreeWork<C> {
@@ -51,7 +48,6 @@ impl<C: CornerSet> TreeWork<C> {
             sums: Scratch::reserve(alloc, 0)?,
             workspace: Workspace::new(alloc),
             row: Grid::with_rows(alloc, 1, Farads(0))?,
-            names: Vec::new(alloc),
         })
     }
 
@@ -73,9 +69,7 @@ impl<C: CornerSet> TreeWork<C> {
         ensures steps { steps.new ≤ steps.old + length section.now.joints + C.COUNT * (length section.now.joints + length section.now.caps)
             + 12 * C.COUNT * (length section.now.joints + 1) }
     {
-        let name = inputs.driver_name(alloc, net, driver)?;
-        inputs.put_names(alloc, net, &mut self.names)?;
-        let pins = inputs.pins(alloc, net, driver, &name, &self.names, &mut self.row)?;
+        let pins = inputs.pins(alloc, net, driver, &mut self.row)?;
         self.tree
             .rebuild(alloc, &mut self.workspace, section, &pins, steps)?;
         self.sums.make_room(alloc, self.tree.len())?;

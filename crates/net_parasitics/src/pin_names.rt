@@ -1,18 +1,15 @@
 //! The names of pins and ports as nodes of a SPEF file.
-ghost use Rattle.std.specs.Prelude.{◌≡◌, ◌≤◌, ◌++◌, ◌∷◌, IfOk};
-ghost use Rattle.edge_io.specs.Bytes.{slash};
+ghost use Rattle.std.specs.Prelude.{◌≡◌, ◌≤◌};
 ghost use Rattle.delay_units.specs.Bounds.{most_farads};
-ghost use Rattle.name_table.specs.SdfNames.{part};
 ghost use Rattle.netlist_link.specs.declared.ends.End.TheVariants as end;
+ghost use Rattle.rc_tree.specs.PinNames.{pin_name};
 ghost use Rattle.net_parasitics.specs.NetPins.{IsEnd, PinsDiffer, pin_at, end_name};
 
 use crate::inputs::NetInputs;
 use cell_models::Pin;
 use corner_set::{CornerSet, first_corner};
-use edge_io::{OutOfMemory, Text};
-use name_table::{NodeName, escape_sdf};
 use netlist_link::End;
-use std::alloc::Global;
+use rc_tree::PinName;
 
 impl<'a, 'r, 'f, C: CornerSet> NetInputs<'a, 'r, 'f, C> {
     /// A pin of an instance as it is at a corner.
@@ -39,55 +36,39 @@ impl<'a, 'r, 'f, C: CornerSet> NetInputs<'a, 'r, 'f, C> {
         }
     }
 
-    /// The name of an end as a node.
-    pub fn end_name(&self, alloc: Global, end: End) -> Result<NodeName, OutOfMemory>
+    /// The name of an end as a node. Nothing is copied.
+    pub fn end_name(&self, end: End) -> PinName<'_>
         requires { IsEnd self.now.netlist self.now.cells end }
-        ensures { IfOk result (λ name. name ≡ end_name self.now.netlist self.now.cells end) }
+        ensures { pin_name result ≡ end_name self.now.netlist self.now.cells end }
     {
         match end {
-            End::Port(port) => self.port_name(alloc, port),
-            End::Pin { instance, pin } => self.pin_name(alloc, instance, pin),
+            End::Port(port) => self.port_name(port),
+            End::Pin { instance, pin } => self.pin_name(instance, pin),
         }
     }
 
     // The name of a bit of a port.
-    fn port_name(&self, alloc: Global, port: usize) -> Result<NodeName, OutOfMemory>
+    fn port_name(&self, port: usize) -> PinName<'_>
         requires { IsEnd self.now.netlist self.now.cells (end.Port port) }
-        ensures { IfOk result (λ name. name ≡ end_name self.now.netlist self.now.cells (end.Port port)) }
+        ensures { pin_name result ≡ end_name self.now.netlist self.now.cells (end.Port port) }
     {
-        let head = Text::from_bytes(alloc, self.netlist.port_text(port).bytes())?;
-        let sdf = Text::from_bytes(alloc, self.netlist.port_sdf(port).bytes())?;
-        Ok(NodeName {
-            head,
+        PinName {
+            head: self.netlist.port_text(port).bytes(),
             tail: None,
-            sdf,
-        })
+            head_sdf: self.netlist.port_sdf(port).bytes(),
+        }
     }
 
     // The name of a pin of an instance.
-    fn pin_name(&self, alloc: Global, instance: usize, pin: usize) -> Result<NodeName, OutOfMemory>
+    fn pin_name(&self, instance: usize, pin: usize) -> PinName<'_>
         requires { IsEnd self.now.netlist self.now.cells (end.Pin instance pin) }
-        ensures { IfOk result (λ name. name ≡ end_name self.now.netlist self.now.cells (end.Pin instance pin)) }
+        ensures { pin_name result ≡ end_name self.now.netlist self.now.cells (end.Pin instance pin) }
     {
-        let pin = self.pin(instance, pin, first_corner::<C>());
-        let head = Text::from_bytes(alloc, self.netlist.instance_text(instance))?;
-        let tail = Text::from_bytes(alloc, pin.name.bytes())?;
-        let sdf = pin_sdf(alloc, self.netlist.instance_sdf(instance), pin.name.bytes())?;
-        Ok(NodeName {
-            head,
+        let tail = self.pin(instance, pin, first_corner::<C>()).name.bytes();
+        PinName {
+            head: self.netlist.instance_text(instance),
             tail: Some(tail),
-            sdf,
-        })
+            head_sdf: self.netlist.instance_sdf(instance),
+        }
     }
-}
-
-// A pin of an instance as SDF spells it.
-fn pin_sdf(alloc: Global, instance: &[u8], pin: &[u8]) -> Result<Text, OutOfMemory>
-    ensures { IfOk result (λ sdf. sdf ≡ instance.now ++ slash ∷ part pin.now) }
-{
-    let spelled = escape_sdf(alloc, pin)?;
-    let mut sdf = Text::from_bytes(alloc, instance)?;
-    sdf.push_all(b"/")?;
-    sdf.push_all(spelled.bytes())?;
-    Ok(sdf)
 }

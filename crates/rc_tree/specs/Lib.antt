@@ -9,6 +9,7 @@ pub mod Values
 pub mod Arenas
 pub mod TwoPasses
 pub mod Nodes
+pub mod PinNames
 pub mod Pins
 pub mod Joins
 pub mod Threads

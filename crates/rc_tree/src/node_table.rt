@@ -4,14 +4,14 @@ ghost use Rattle.rc_tree.specs.Nodes.{with_node};
 
 use edge_io::OutOfMemory;
 use indexmap::IndexSet;
-use name_table::NodeKey;
+use name_table::{NameHash, NodeKey};
 use std::alloc::Global;
 use std::marker::Model;
 
 /// Nodes, numbered in the order in which they came, each once. Contracts see the list of them.
 #[derive(Drop)]
 pub struct NodeTable<'p> {
-    keys: IndexSet<NodeKey<'p>>,
+    keys: IndexSet<NodeKey<'p>, NameHash>,
 }
 
 impl<'p> Model for NodeTable<'p> {
@@ -26,13 +26,12 @@ impl<'p> Model for NodeTable<'p> {
 }
 
 impl<'p> NodeTable<'p> {
-    /// No node yet. It takes no memory.
-    pub fn new(alloc: Global) -> NodeTable<'p>
-        ensures { result ≡ [] }
+    /// No node yet, and room for so many.
+    pub fn with_room(alloc: Global, many: usize) -> Result<NodeTable<'p>, OutOfMemory>
+        ensures { IfOk result (λ table. table ≡ []) }
     {
-        NodeTable {
-            keys: IndexSet::new(alloc),
-        }
+        let keys = IndexSet::with_capacity_and_hasher(alloc, many, NameHash::default())?;
+        Ok(NodeTable { keys })
     }
 
     /// How many nodes there are.
@@ -53,7 +52,10 @@ impl<'p> NodeTable<'p> {
 }
 
 // Puts a key at the end that is not held, and answers its place.
-fn put<'p>(keys: &mut IndexSet<NodeKey<'p>>, key: NodeKey<'p>) -> Result<usize, OutOfMemory>
+fn put<'p>(
+    keys: &mut IndexSet<NodeKey<'p>, NameHash>,
+    key: NodeKey<'p>,
+) -> Result<usize, OutOfMemory>
     requires { AllPairs (λ one other. one ≢ other) keys.old.keys }
     ensures number { IfOk result (λ number. slice_get keys.new.keys number ≡ Some key.entry) }
     ensures nodes { OnOk result (keys.new.keys ≡ with_node keys.old.keys key.entry) }

@@ -1,6 +1,7 @@
 //! The numbers of a net's nodes: the driver's is 0, then come the sinks, then the other nodes of the section.
 ghost use Rattle.std.specs.Prelude.{◌≡◌, ◌+◌, ◌≤◌, length, map, IfOk, IfErr, OnOk};
 ghost use Rattle.rc_tree.specs.Nodes.{node_of, with_nodes};
+ghost use Rattle.rc_tree.specs.PinNames.{pin_name};
 ghost use Rattle.rc_tree.specs.Pins.{pin_nodes};
 ghost use Rattle.rc_tree.specs.Numbering.{AreSpots, AreEnds};
 ghost use Rattle.rc_tree.specs.SectionNets.{AreListed};
@@ -10,11 +11,11 @@ ghost use Rattle.rc_tree.specs.Searched.{IsNumbered};
 use crate::ends::TreeEnd;
 use crate::node_table::NodeTable;
 use crate::numbered::Numbered;
+use crate::pin_names::PinName;
 use crate::pins::PinLoads;
 use corner_set::CornerSet;
 use edge_io::lists::{empty, push, to_u32};
 use edge_io::{OutOfMemory, Steps};
-use name_table::{NodeKey, NodeName};
 use spef_nets::Net;
 use std::alloc::Global;
 use std::sync::ledger::Ledger;
@@ -27,17 +28,18 @@ pub struct Ends {
 }
 
 /// Numbers the nodes of a net by their names, unless a connection of its section is none of the pins.
-pub fn number_named<C: CornerSet>(
+pub fn number_named<'k, C: CornerSet>(
     alloc: Global,
-    pins: &PinLoads<'_, C>,
-    section: &Net<C>,
+    pins: &PinLoads<'k, C>,
+    section: &Net<'k, '_, C>,
     numbered: &mut Numbered,
 ) -> Result<(), TreeEnd>
     ensures numbered { OnOk result (IsNumbered section.now pins.now numbered.new.spots.items numbered.new.count) }
     ensures listed { OnOk result (AreListed section.now (pin_nodes pins.now)) }
     ensures refused { IfErr result (λ end. IsTreeEnd C.COUNT section.now pins.now end) }
 {
-    let mut table = number_pins(alloc, pins)?;
+    // each pin is a node of the section, as a rule
+    let mut table = number_pins(alloc, pins, section.node_count())?;
     number_section(alloc, &mut table, section, &mut numbered.spots)?;
     numbered.count = table.len();
     refuse_stranger(alloc, pins, section, numbered)?;
@@ -66,34 +68,35 @@ fn refuse_stranger<C: CornerSet>(
     Ok(())
 }
 
-// The pins, in order.
+// The pins, in order, and room for so many nodes.
 fn number_pins<'p, C: CornerSet>(
     alloc: Global,
     pins: &PinLoads<'p, C>,
+    many: usize,
 ) -> Result<NodeTable<'p>, OutOfMemory>
     ensures { IfOk result (λ table. table ≡ pin_nodes pins.now) }
 {
-    let mut table = NodeTable::new(alloc);
-    table.intern(NodeKey::of_name(pins.driver))?;
+    let mut table = NodeTable::with_room(alloc, many)?;
+    table.intern(pins.driver.key())?;
     intern_all(&mut table, pins.sinks.as_slice())?;
     Ok(table)
 }
 
 // Puts nodes at the end, each where it is not there already.
-fn intern_all<'p>(table: &mut NodeTable<'p>, names: &[&'p NodeName]) -> Result<(), OutOfMemory>
-    ensures { OnOk result (table.new ≡ with_nodes table.old (map node_of (map (λ name. name.now) names.now))) }
+fn intern_all<'p>(table: &mut NodeTable<'p>, names: &[PinName<'p>]) -> Result<(), OutOfMemory>
+    ensures { OnOk result (table.new ≡ with_nodes table.old (map node_of (map pin_name names.now))) }
 {
     for name in names {
-        table.intern(NodeKey::of_name(*name))?;
+        table.intern(name.key())?;
     }
     Ok(())
 }
 
 // The numbers of the section's nodes, each of which is in the table afterwards.
-fn number_section<C: CornerSet>(
+fn number_section<'k, C: CornerSet>(
     alloc: Global,
-    table: &mut NodeTable,
-    section: &Net<C>,
+    table: &mut NodeTable<'k>,
+    section: &Net<'k, '_, C>,
     spots: &mut Vec<u32>,
 ) -> Result<(), OutOfMemory>
     ensures nodes { OnOk result (table.new ≡ with_nodes table.old (map node_of section.now.nodes)) }
@@ -101,8 +104,7 @@ fn number_section<C: CornerSet>(
 {
     empty(spots, section.node_count())?;
     for node in 0..section.node_count() {
-        let name = section.node_name(alloc, node)?;
-        let key = NodeKey::of(alloc, name)?;
+        let key = section.node_key(alloc, node)?;
         let number = table.intern(key)?;
         push(spots, to_u32(number)?)?;
     }

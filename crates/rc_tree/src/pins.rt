@@ -4,16 +4,18 @@ ghost use Rattle.corner_set.specs.Places.{HasRow, value_at};
 ghost use Rattle.delay_units.specs.Bounds.{most_farads};
 ghost use Rattle.spef_nets.specs.NetElements.{NetElements as SectionElements};
 ghost use Rattle.rc_tree.specs.Nodes.{node_of};
+ghost use Rattle.rc_tree.specs.PinNames.{pin_name};
 ghost use Rattle.rc_tree.specs.Pins.{pin_nodes, row_of};
 ghost use Rattle.rc_tree.specs.SectionNets.{sink_node};
 ghost use Rattle.rc_tree.specs.Searched.{IsNumbered, IsNameAt, all_nodes};
 
 use crate::names::section_name;
 use crate::numbered::Numbered;
+use crate::pin_names::PinName;
 use corner_set::{CornerSet, Grid};
 use delay_units::Farads;
 use edge_io::OutOfMemory;
-use name_table::{NodeName, copy_name};
+use name_table::NodeName;
 use spef_nets::Net;
 use std::alloc::Global;
 use std::marker::{Model, PhantomData};
@@ -22,8 +24,8 @@ use std::marker::{Model, PhantomData};
 /// node. Their names stand elsewhere. Contracts see these.
 #[derive(Drop)]
 pub struct PinLoads<'p, C: CornerSet> {
-    pub(crate) driver: &'p NodeName,
-    pub(crate) sinks: Vec<&'p NodeName>,
+    pub(crate) driver: PinName<'p>,
+    pub(crate) sinks: Vec<PinName<'p>>,
     // row after row, and in each row by corner
     pub(crate) loads: Vec<Farads>,
     corners: PhantomData<C>,
@@ -31,43 +33,50 @@ pub struct PinLoads<'p, C: CornerSet> {
 
 impl<'p, C: CornerSet> Model for PinLoads<'p, C> {
     ghost use Rattle.std.specs.Prelude.{map};
+    ghost use Rattle.rc_tree.specs.PinNames.{pin_name};
     ghost use Rattle.rc_tree.specs.Pins.{Pins, AreSound};
 
     ghost Value = { Pins };
 
-    ghost view = { λ p. record { driver = p.driver.now; sinks = map (λ name. name.now) p.sinks.items; loads = p.loads.items } };
+    ghost view = { λ p. record { driver = pin_name p.driver; sinks = map pin_name p.sinks.items; loads = p.loads.items } };
 
     ghost invariant = { λ p. AreSound C.COUNT
-        (record { driver = p.driver.now; sinks = map (λ name. name.now) p.sinks.items; loads = p.loads.items }) };
+        (record { driver = pin_name p.driver; sinks = map pin_name p.sinks.items; loads = p.loads.items }) };
 }
 
 impl<'p, C: CornerSet> PinLoads<'p, C> {
-    /// A net with this driver and no sink. It takes no memory.
-    pub fn new(alloc: Global, driver: &'p NodeName) -> PinLoads<'p, C>
-        ensures { result ≡ record { driver = driver.now; sinks = []; loads = [] } }
+    /// A net with this driver and no sink, and room for so many.
+    pub fn with_room(
+        alloc: Global,
+        driver: PinName<'p>,
+        sinks: usize,
+    ) -> Result<PinLoads<'p, C>, OutOfMemory>
+        ensures { IfOk result (λ pins. pins ≡ record { driver = pin_name driver.entry; sinks = []; loads = [] }) }
     {
-        PinLoads {
+        let loads = Vec::with_capacity(alloc, sinks.saturating_mul(C::COUNT))?;
+        let sinks = Vec::with_capacity(alloc, sinks)?;
+        Ok(PinLoads {
             driver,
-            sinks: Vec::new(alloc),
-            loads: Vec::new(alloc),
+            sinks,
+            loads,
             corners: PhantomData,
-        }
+        })
     }
 
     /// Adds a sink, whose loads stand in a row of the grid. It is another node than the pins so far, and each load is at most
     /// 10^12.
     pub fn add(
         &mut self,
-        sink: &'p NodeName,
+        sink: PinName<'p>,
         loads: &Grid<C, Farads>,
         row: usize,
     ) -> Result<(), OutOfMemory>
         requires row { HasRow C.COUNT loads.now.values row }
-        requires other { ¬ Contains (pin_nodes self.old) (node_of sink.now) }
+        requires other { ¬ Contains (pin_nodes self.old) (node_of (pin_name sink)) }
         requires small { All (λ load. load.0 ≤ most_farads) (row_of C.COUNT loads.now.values row) }
         ensures ok { OnOk result (self.new ≡ record {
           driver = self.old.driver;
-          sinks = self.old.sinks ++ sink.now ∷ [];
+          sinks = self.old.sinks ++ pin_name sink.entry ∷ [];
           loads = self.old.loads ++ row_of C.COUNT loads.now.values row;
         }) }
         ensures err { OnErr result (self.new ≡ self.old) }
@@ -93,16 +102,16 @@ impl<'p, C: CornerSet> PinLoads<'p, C> {
     }
 
     /// The driver.
-    pub fn driver(&self) -> &'p NodeName
-        ensures { result.now ≡ self.now.driver }
+    pub fn driver(&self) -> PinName<'p>
+        ensures { pin_name result ≡ self.now.driver }
     {
         self.driver
     }
 
     /// The sink that was added k-th, from 0.
-    pub fn sink(&self, k: usize) -> &'p NodeName
+    pub fn sink(&self, k: usize) -> PinName<'p>
         requires { k < length self.now.sinks }
-        ensures { slice_get self.now.sinks k ≡ Some result.now }
+        ensures { slice_get self.now.sinks k ≡ Some (pin_name result) }
     {
         self.sinks[k]
     }
@@ -138,10 +147,10 @@ impl<'p, C: CornerSet> PinLoads<'p, C> {
         ensures { IfOk result (λ name. IsNameAt section.now self.now number name) }
     {
         if number == 0 {
-            return copy_name(alloc, self.driver());
+            return self.driver().node_name(alloc);
         }
         if number <= self.len() {
-            let name = copy_name(alloc, self.sink(number - 1))?;
+            let name = self.sink(number - 1).node_name(alloc)?;
             return Ok(name);
         }
         let name = section_name(alloc, section, numbered, number)?;
@@ -151,9 +160,9 @@ impl<'p, C: CornerSet> PinLoads<'p, C> {
 
 // Puts a sink and its loads at the ends, or neither.
 fn push_both<'p>(
-    sinks: &mut Vec<&'p NodeName>,
+    sinks: &mut Vec<PinName<'p>>,
     loads: &mut Vec<Farads>,
-    sink: &'p NodeName,
+    sink: PinName<'p>,
     row: &[Farads],
 ) -> Result<(), OutOfMemory>
     ensures sinks { OnOk result (sinks.new.items ≡ sinks.old.items ++ sink.entry ∷ []) }

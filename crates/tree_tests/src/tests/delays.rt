@@ -2,7 +2,7 @@
 //! 50 ohm to `t` with 1 and a load of 3 fF. By hand, 100 * 21 + 200 * 7 = 3500 fs and 100 * 21 + 50 * 4 = 2300 fs.
 ghost use Rattle.std.specs.Prelude.{◌≡◌, ◌<◌};
 
-use super::nets::{PinNames, file_of, head_of, nets_of, pins};
+use super::nets::{file_of, head_of, nets_of, pins};
 use corner_set::Single;
 use delay_units::Femto;
 use edge_io::Steps;
@@ -23,8 +23,7 @@ fn delays<L: Ledger>(alloc: Global, net: &Net<Single>, blank: Blank) -> Option<(
     requires parts { blank.parts ≡ L.parts }
     requires some_part { 0 < blank.parts }
 {
-    let names = PinNames::new(alloc)?;
-    let pins = pins(alloc, &names)?;
+    let pins = pins(alloc)?;
     let mut steps = Steps::<L>::new(blank);
     let Ok(tree) = build(alloc, net, &pins, &mut steps) else {
         return None;

@@ -1,7 +1,7 @@
 //! How nets of small files become trees, or why they do not. The expected answers were worked by hand.
 ghost use Rattle.std.specs.Prelude.{◌≡◌, ◌<◌};
 
-use super::nets::{PinNames, file_of, head_of, nets_of, pins};
+use super::nets::{file_of, head_of, nets_of, pins};
 use corner_set::Single;
 use edge_io::Steps;
 use rc_tree::{ListedPins, RcTree, TreeEnd, build};
@@ -18,10 +18,7 @@ fn ending<L: Ledger>(alloc: Global, net: &Net<Single>, blank: Blank) -> (u8, usi
     requires parts { blank.parts ≡ L.parts }
     requires some_part { 0 < blank.parts }
 {
-    let Some(names) = PinNames::new(alloc) else {
-        return (5, 0);
-    };
-    let Some(pins) = pins(alloc, &names) else {
+    let Some(pins) = pins(alloc) else {
         return (5, 0);
     };
     let mut steps = Steps::<L>::new(blank);

@@ -1,7 +1,7 @@
 //! One tree and one workspace serve net after net: the worked net, a triangle, and the worked net again.
 ghost use Rattle.std.specs.Prelude.{◌≡◌, ◌<◌};
 
-use super::nets::{PinNames, file_of, head_of, nets_of, pins};
+use super::nets::{file_of, head_of, nets_of, pins};
 use corner_set::Single;
 use edge_io::Steps;
 use elmore_pass::elmore_into;
@@ -27,8 +27,7 @@ fn rebuilt<L: Ledger>(
     workspace: &mut Workspace,
     steps: &mut Steps<L>,
 ) -> Option<(usize, u128, u128)> {
-    let names = PinNames::new(alloc)?;
-    let pins = pins(alloc, &names)?;
+    let pins = pins(alloc)?;
     match tree.rebuild(alloc, workspace, net, &pins, steps) {
         Ok(()) => {
             let Ok(mut scratch) = Scratch::<Single>::reserve(alloc, tree.len()) else {

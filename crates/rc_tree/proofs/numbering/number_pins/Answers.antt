@@ -1,5 +1,6 @@
 use Rattle.std.proofs.Common.{◌∙◌, ap}
 use Rattle.rc_tree.specs.Nodes.{node_of, with_node}
+use Rattle.rc_tree.specs.PinNames.{pin_name}
 use Rattle.rc_tree.specs.Pins.{pin_nodes}
 use Rattle.rc_tree.proofs.Numbers.{pins_named}
 use Rattle.rc_tree.proofs.numbering.number_pins.Goals as goal
@@ -7,6 +8,6 @@ use Rattle.rc_tree.proofs.numbering.number_pins.Goals as goal
 -- src/numbering.rt
 pub returns : goal.returns
 returns g c =
-    pins_named (λ name. name.now) c.pins.inside.driver.now c.pins.inside.sinks.items c.as_slice.result.now c.pins.invariant.apart c.intern.new.self c.intern_all.new.table
-    (c.in_ok-intern.ensures.nodes ∙ ap (with_node c.new-table.result) c.of_name.ensures ∙ ap (λ t. with_node t (node_of c.pins.inside.driver.now)) c.new-table.ensures) c.as_slice.ensures.value c.in_ok-intern_all.ensures
+    pins_named pin_name (pin_name c.pins.inside.driver) c.pins.inside.sinks.items c.as_slice.result.now c.pins.invariant.apart c.intern.new.self c.intern_all.new.table
+    (c.in_ok-intern.ensures.nodes ∙ ap (with_node c.in_ok-table.table) c.key.ensures ∙ ap (λ t. with_node t (node_of (pin_name c.pins.inside.driver))) c.in_ok-table.ensures) c.as_slice.ensures.value c.in_ok-intern_all.ensures
     ∙ ap pin_nodes c.pins.view_is

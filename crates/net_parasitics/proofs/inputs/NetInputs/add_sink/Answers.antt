@@ -5,10 +5,11 @@ use Rattle.delay_units.specs.Bounds.{most_farads}
 use Rattle.delay_units.specs.declared.quantities.Farads.{Farads}
 use Rattle.netlist_link.specs.FlatNetlist.{net_at}
 use Rattle.rc_tree.specs.Nodes.{node_of}
+use Rattle.rc_tree.specs.PinNames.{pin_name}
 use Rattle.rc_tree.specs.Pins.{Pins, pin_nodes, row_of}
 use Rattle.net_parasitics.specs.NetPins.{end_loads, pins_to}
 use Rattle.net_parasitics.proofs.NodeNames.{next_differs}
-use Rattle.net_parasitics.proofs.NetPins.{name_is, pins_more}
+use Rattle.net_parasitics.proofs.NetPins.{pins_more}
 use Rattle.net_parasitics.proofs.inputs.NetInputs.add_sink.Goals as goal
 
 -- src/net_pins.rt
@@ -16,9 +17,8 @@ pub add-requires-clause-other : goal.add-requires-clause-other
 add-requires-clause-other g c =
     let inputs = c.args.self.now in
     let sinks = (net_at inputs.netlist c.args.net).sinks in
-    let named = name_is inputs.netlist inputs.cells sinks c.args.sink c.sink-end.result c.args.name.now c.sink-end.ensures.sink c.requires.name in
-    subst (λ (p : Pins). ¬ Contains (pin_nodes p) (node_of c.args.name.now)) (sym c.requires.pins)
-    (subst (λ n. ¬ Contains (pin_nodes (pins_to inputs c.args.driver (take c.args.sink sinks))) (node_of n)) (sym named)
+    subst (λ (p : Pins). ¬ Contains (pin_nodes p) (node_of (pin_name c.end_name.result))) (sym c.requires.pins)
+    (subst (λ n. ¬ Contains (pin_nodes (pins_to inputs c.args.driver (take c.args.sink sinks))) (node_of n)) (sym c.end_name.ensures)
     (next_differs inputs c.args.net c.args.driver c.args.sink c.sink-end.result c.sound.ensures.sound.apart c.sound.ensures.sound.linked c.requires.wired c.sink-end.ensures.sink c.pins_differ.ensures))
 
 pub add-requires-clause-small : goal.add-requires-clause-small
@@ -30,12 +30,12 @@ pub returns-clause-pins : goal.returns-clause-pins
 returns-clause-pins g c =
     let inputs = c.args.self.now in
     let sinks = (net_at inputs.netlist c.args.net).sinks in
-    pins_more c.add.result inputs c.args.driver sinks c.args.sink c.sink-end.result c.args.name.now c.put_loads.new.row.values c.args.pins.now c.add.new.self
-    c.sink-end.ensures.sink (name_is inputs.netlist inputs.cells sinks c.args.sink c.sink-end.result c.args.name.now c.sink-end.ensures.sink c.requires.name)
+    pins_more c.add.result inputs c.args.driver sinks c.args.sink c.sink-end.result (pin_name c.end_name.result) c.put_loads.new.row.values c.args.pins.now c.add.new.self
+    c.sink-end.ensures.sink c.end_name.ensures
     (subst (λ count. c.put_loads.new.row.values ≡ end_loads inputs.netlist inputs.cells count inputs.port_load c.sink-end.result) (sym c.sound.ensures.count) c.put_loads.ensures.loads)
     c.requires.pins
     (subst (λ count. OnOk c.add.result (c.add.new.self ≡ record {
       driver = c.args.pins.now.driver;
-      sinks = c.args.pins.now.sinks ++ c.args.name.now ∷ [];
+      sinks = c.args.pins.now.sinks ++ pin_name c.end_name.result ∷ [];
       loads = c.args.pins.now.loads ++ row_of count c.put_loads.new.row.values 0;
     })) (sym c.sound.ensures.count) c.add.ensures.ok)
