@@ -222,7 +222,8 @@ fn add_edge<L: Ledger>(
 ) -> Result<(), NoFileEnd<Refusal>>
     requires from { arc.now.from < length pins.now }
     requires to { arc.now.to < length pins.now }
-    ensures ok { OnOk result (AddsEdges pins.now (unsigned_abs at.slew.0) at.load.0 at.beyond (edge_of arc.now edge tables.now) rows.old rows.new) }
+    ensures ok { OnOk result
+        (AddsEdges pins.now (unsigned_abs at.slew.0) at.load.0 at.beyond (edge_of arc.now edge tables.now) rows.old rows.new) }
     ensures refused { OnRefusal result
         (IsFirstRefused corner cell.now pins.now (unsigned_abs at.slew.0) at.load.0 at.beyond (edge_of arc.now edge tables.now)) }
     ensures forward { steps.old ≤ steps.new }
