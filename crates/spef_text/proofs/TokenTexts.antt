@@ -6,7 +6,7 @@ use Rattle.std.proofs.lemmas.List.Sums.{position_or_len_is}
 use Rattle.std.proofs.lemmas.List.Quantifiers.{position-Some}
 use Rattle.edge_io.specs.Bytes.{star, slash, begins_with}
 use Rattle.token_texts.specs.Blanks.{is_blank}
-use Rattle.token_texts.specs.Comments.{line_length, comment_end, comment_to, comment_cut}
+use Rattle.token_texts.specs.Comments.{line_length, pair_place, comment_to, comment_cut}
 use Rattle.token_texts.specs.RunLemmas.{escaped_within, escaped_whole}
 use Rattle.spef_text.specs.Tokens.{is_quote, is_backslash, ends_text, is_nothing, is_solid, text_cut, run_length, cut_at, IsToken, is_broken, is_broken_cut, texts_of, AreTokens}
 use Rattle.spef_text.specs.TokenTexts.{StandAlone}
@@ -100,7 +100,7 @@ token_text first rest n cut =
     by true b quote q line l comment m last z h = absurd (cc)
     by false b true q line l comment m last z h = text_token first rest n (position ends_text rest) b q refl h
     by false b false q true l comment m last z h = absurd (cc)
-    by false b false q false l true m last z h = absurd (no_comment_token (drop 1 rest) (comment_end (drop 1 rest)) n h)
+    by false b false q false l true m last z h = absurd (no_comment_token (drop 1 rest) (pair_place star slash (drop 1 rest)) n h)
     by false b false q false l false m true z h = absurd (cc)
     by false b false q false l false m false z h = run_token first rest n b q l m z (let same : run_length (first ∷ rest) ≡ n = cc in same)
 
@@ -135,7 +135,7 @@ broken_all first rest n cut =
     by true quote line comment m last h = absurd (cc)
     by false true line comment m last h = open_text rest (position ends_text rest) n h
     by false false true comment m last h = absurd (cc)
-    by false false false true m last h = open_comment rest (comment_end (drop 1 rest)) n (second (first == slash) _ m) h
+    by false false false true m last h = open_comment rest (pair_place star slash (drop 1 rest)) n (second (first == slash) _ m) h
     by false false false false m true h = let same : length rest + 1 ≡ n = cc in sym same
     by false false false false m false h = absurd (cc)
 

@@ -3,7 +3,7 @@ ghost use Rattle.std.specs.Prelude.{◌≡◌, position};
 ghost use Rattle.spef_text.specs.Tokens.{is_broken, is_broken_cut, ends_text, text_cut, cut_at};
 
 use memchr::memchr2;
-use token_texts::{begins_with, comment_end};
+use token_texts::{begins_with, pair_place};
 
 /// Behind a quote: whether no other quote stands on the line.
 fn is_open_text(rest: &[u8]) -> bool
@@ -22,7 +22,7 @@ fn is_open_comment(rest: &[u8]) -> bool
     if begins_with(b'/', rest) {
         false
     } else if begins_with(b'*', rest) {
-        comment_end(rest.split_at(1).1).is_none()
+        pair_place(b'*', b'/', rest.split_at(1).1).is_none()
     } else {
         false
     }

@@ -17,10 +17,6 @@ pair_place one two (byte ∷ rest) =
     if byte == one && begins_with two rest then Some 0
     else option_map (λ place. place + 1) (pair_place one two rest)
 
--- Bytes behind the `/*` of a comment: the place of the first `*/`.
-abbrev pub comment_end : List ℕ → Option ℕ
-comment_end inner = pair_place star slash inner
-
 -- The two bytes that begin a comment with `inner` behind them, in which it ends at this place: it is passed over, or it does not end,
 -- and is a token of this kind that takes all.
 abbrev pub comment_to : {K : Type 0} → K → List ℕ → Option ℕ → Cut K

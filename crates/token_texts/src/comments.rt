@@ -1,7 +1,7 @@
 //! Comments.
 ghost use Rattle.std.specs.Prelude.{◌≡◌, ◌+◌, ◌^◌, ◌<◌, ◌≤◌, length};
 ghost use Rattle.std.specs.Option.{IfSome};
-ghost use Rattle.token_texts.specs.Comments.{line_length, pair_place, comment_end, comment_cut, comment_at};
+ghost use Rattle.token_texts.specs.Comments.{line_length, pair_place, comment_cut, comment_at};
 ghost use Rattle.token_texts.specs.Cuts.{IsWithin};
 
 use crate::blanks::begins_with;
@@ -28,14 +28,6 @@ pub fn pair_place(one: u8, two: u8, bytes: &[u8]) -> Option<usize>
     ensures within { IfSome result (λ place. place + 2 ≤ length bytes.now) }
 {
     memmem::find(bytes, &[one, two])
-}
-
-/// Behind the `/*` of a comment: the place of the first `*/`, where the comment ends.
-pub fn comment_end(inner: &[u8]) -> Option<usize>
-    ensures value { result ≡ comment_end inner.now }
-    ensures within { IfSome result (λ place. place + 2 ≤ length inner.now) }
-{
-    pair_place(b'*', b'/', inner)
 }
 
 /// Behind the two bytes that begin a comment, as `/*`: the comment, which the first `*` with `last` right behind it ends, or, where

@@ -17,7 +17,7 @@ mod runs;
 mod spans;
 
 pub use blanks::{Blank, begins_with, is_blank};
-pub use comments::{comment_at, comment_cut, comment_end, line_length, pair_place};
+pub use comments::{comment_at, comment_cut, line_length, pair_place};
 pub use cuts::Cut;
 pub use pieces::first_piece;
 pub use quoted::{Escape, quote_end, quoted_cut, takes};

@@ -1,7 +1,7 @@
 -- A slash begins a comment, which may be open, or a run.
 use Rattle.std.proofs.Common.{◌≡◌, ℕ, List, Option, Some, None, Bool, true, false, not, refl, sym, ap, ◌∙◌}
 use Rattle.std.specs.Option.{is_some}
-use Rattle.token_texts.specs.Comments.{comment_end, comment_to}
+use Rattle.token_texts.specs.Comments.{pair_place, comment_to}
 use Rattle.spef_text.specs.Tokens.{is_broken_cut}
 use Rattle.spef_text.specs.declared.scan.Kind.TheVariants.{Broken}
 use Rattle.spef_text.proofs.Cutting.{cut_line, cut_comment, cut_slash}
@@ -19,8 +19,8 @@ is_open inner (Some place) false is = refl
 pub returns-then-begins_with-2 : goal.returns-then-begins_with-2
 returns-then-begins_with-2 c =
     let cut = cut_comment c.args.rest.now (sym c.begins_with.ensures ∙ c.if-begins_with.false) (sym c.begins_with-else-begins_with.ensures ∙ c.if-begins_with-2.true) in
-    is_open c.split_at.result.1.now c.comment_end.result c.is_none.result c.is_none.ensures
-    ∙ sym (ap is_broken_cut (cut ∙ ap (λ l. comment_to Broken l (comment_end l)) (sym c.split_at.ensures.back) ∙ ap (comment_to Broken c.split_at.result.1.now) (sym c.comment_end.ensures.value)))
+    is_open c.split_at.result.1.now c.pair_place.result c.is_none.result c.is_none.ensures
+    ∙ sym (ap is_broken_cut (cut ∙ ap (λ l. comment_to Broken l (pair_place 42 47 l)) (sym c.split_at.ensures.back) ∙ ap (comment_to Broken c.split_at.result.1.now) (sym c.pair_place.ensures.value)))
 
 pub returns-else-begins_with-2 : goal.returns-else-begins_with-2
 returns-else-begins_with-2 c =
