@@ -16,5 +16,5 @@ pub use name_hash::{NameHash, NameHasher};
 pub use names::{NameId, Names};
 pub use node_keys::NodeKey;
 pub use sdf_names::{canonical_sdf, escape_sdf};
-pub use spef_names::{NodeName, SpefMarks, copy_name, cut_node, read_spef_node};
+pub use spef_names::{NodeName, SpefMarks, cut_node, read_spef_node};
 pub use written_names::{WrittenName, written_halves, written_name, written_whole};

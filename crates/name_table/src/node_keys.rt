@@ -114,20 +114,6 @@ impl<'r> NodeKey<'r> {
         }
     }
 
-    /// The key of a node whose name is held elsewhere. Nothing is copied.
-    pub fn of_name(node: &'r NodeName) -> NodeKey<'r>
-        ensures { result ≡ key_of node.now }
-    {
-        let tail = match &node.tail {
-            Some(tail) => Some(tail.bytes()),
-            None => None,
-        };
-        NodeKey::of_written(WrittenName {
-            head: node.head.bytes(),
-            tail,
-        })
-    }
-
     /// The node's head.
     #[inline]
     pub fn head(&self) -> &[u8]

@@ -33,19 +33,6 @@ pub struct NodeName {
     pub sdf: Text,
 }
 
-/// A copy of a name.
-pub fn copy_name(alloc: Global, name: &NodeName) -> Result<NodeName, OutOfMemory>
-    ensures { IfOk result (λ copy. copy ≡ name.now) }
-{
-    let head = Text::from_bytes(alloc, name.head.bytes())?;
-    let tail = match &name.tail {
-        Some(tail) => Some(Text::from_bytes(alloc, tail.bytes())?),
-        None => None,
-    };
-    let sdf = Text::from_bytes(alloc, name.sdf.bytes())?;
-    Ok(NodeName { head, tail, sdf })
-}
-
 /// Reads a name. A backslash makes the next byte literal; an unescaped divider is `/`, and unescaped bus
 /// delimiters are `[` and `]`. Where `cut` asks for it the name is cut at its last unescaped delimiter, if
 /// it has one. A backslash at the very end stands for nothing.
