@@ -22,7 +22,7 @@ pub same_built : (name : List ℕ) (parts : List (List ℕ)) (some other : List 
 same_built name parts some other e p f = ap₂ (λ (n : List ℕ) (ps : List (List ℕ)). record { name = n; parts = ps; frames = some }) e p ∙ ap with_frames f
 
 -- names and texts are put behind those that are there
-module _ (names more_names : List ℕ) (texts more : List (List ℕ)) (attributes : List AttributeRow) (children : List GroupId) (groups : List GroupRow) (opens : List OpenGroup)
+module _ (names more_names texts more : List (List ℕ)) (attributes : List AttributeRow) (children : List GroupId) (groups : List GroupRow) (opens : List OpenGroup)
     (are : AreTables names texts attributes children groups)
     (all : All (IsOpenIn (length names) (length texts) (length groups)) opens) where
   abbrev trees : List Group
@@ -42,31 +42,31 @@ module _ (names more_names : List ℕ) (texts more : List (List ℕ)) (attribute
       all_wider (length names) (length (names ++ more_names)) (length texts) (length (texts ++ more)) (length groups) (length groups) opens (omega arith) (omega arith) (omega arith) all
 
 -- an attribute ends
-module _ (names more_names : List ℕ) (texts more : List (List ℕ)) (attributes : List AttributeRow) (children : List GroupId) (groups : List GroupRow) (rest : List OpenGroup) (last next : OpenGroup) (row : AttributeRow)
+module _ (names more_names texts more : List (List ℕ)) (attributes : List AttributeRow) (children : List GroupId) (groups : List GroupRow) (rest : List OpenGroup) (last next : OpenGroup) (row : AttributeRow)
     (are : AreTables names texts attributes children groups)
     (all : All (IsOpenIn (length names) (length texts) (length groups)) (rest ++ last ∷ []))
-    (name_from : row.name.from ≡ length names) (name_end : row.name.end ≡ length (names ++ more_names))
+    (name : List ℕ) (name_in : row.name.0 < length (names ++ more_names)) (name_is : get_or (names ++ more_names) row.name.0 [] ≡ name)
     (values_from : row.values.from ≡ length texts) (values_end : row.values.end ≡ length (texts ++ more))
     (same_name : next.name ≡ last.name) (same_args : next.args ≡ last.args) (same_children : next.children.items ≡ last.children.items)
     (own : next.attributes.items ≡ last.attributes.items ++ row ∷ []) where
   grown : All (IsOpenIn (length (names ++ more_names)) (length (texts ++ more)) (length groups)) (rest ++ last ∷ [])
   grown = all_grow names more_names texts more attributes children groups (rest ++ last ∷ []) are all
 
-  row_says : attribute_of (names ++ more_names) (texts ++ more) row ≡ record { name = more_names; values = more }
-  row_says = ap₂ (λ (name : List ℕ) (values : List (List ℕ)). record { name = name; values = values }) (new_part names more_names row.name name_from name_end) (new_part texts more row.values values_from values_end)
+  row_says : attribute_of (names ++ more_names) (texts ++ more) row ≡ record { name = name; values = more }
+  row_says = ap₂ (λ (n : List ℕ) (values : List (List ℕ)). record { name = n; values = values }) name_is (new_part texts more row.values values_from values_end)
 
   frame_more : (trees : List Group) → frame_of_open (names ++ more_names) (texts ++ more) trees next
-      ≡ record { name = last.name; args = part_of (texts ++ more) last.args; attributes = attributes_in (names ++ more_names) (texts ++ more) last.attributes.items ++ record { name = more_names; values = more } ∷ []; groups = gathered trees no_group (map number_of last.children.items) }
+      ≡ record { name = last.name; args = part_of (texts ++ more) last.args; attributes = attributes_in (names ++ more_names) (texts ++ more) last.attributes.items ++ record { name = name; values = more } ∷ []; groups = gathered trees no_group (map number_of last.children.items) }
   frame_more trees = rw (same_name, same_args, same_children, own, attribute_more (names ++ more_names) (texts ++ more) last.attributes.items row, row_says) refl
 
   pub attribute_frames : frames_of (names ++ more_names) (texts ++ more) (trees_of (tables_of (names ++ more_names) (texts ++ more) attributes children groups).rows) (rest ++ next ∷ [])
-      ≡ add_attribute more_names more (frames_of names texts (trees_of (tables_of names texts attributes children groups).rows) (rest ++ last ∷ []))
+      ≡ add_attribute name more (frames_of names texts (trees_of (tables_of names texts attributes children groups).rows) (rest ++ last ∷ []))
   attribute_frames =
       let trees : List Group = trees_of (tables_of (names ++ more_names) (texts ++ more) attributes children groups).rows in
       frames_push (names ++ more_names) (texts ++ more) trees rest next
       ∙ ap (λ (frame : Frame). frame ∷ frames_of (names ++ more_names) (texts ++ more) trees rest) (frame_more trees)
-      ∙ ap (add_attribute more_names more) (sym (frames_push (names ++ more_names) (texts ++ more) trees rest last))
-      ∙ ap (add_attribute more_names more) (frames_grow names more_names texts more attributes children groups (rest ++ last ∷ []) are all)
+      ∙ ap (add_attribute name more) (sym (frames_push (names ++ more_names) (texts ++ more) trees rest last))
+      ∙ ap (add_attribute name more) (frames_grow names more_names texts more attributes children groups (rest ++ last ∷ []) are all)
 
   pub attribute_opens : All (IsOpenIn (length (names ++ more_names)) (length (texts ++ more)) (length groups)) (rest ++ next ∷ [])
   attribute_opens =
@@ -74,25 +74,25 @@ module _ (names more_names : List ℕ) (texts more : List (List ℕ)) (attribute
       let one = last_is (length (names ++ more_names)) (length (texts ++ more)) (length groups) rest last grown in
       all_more (length (names ++ more_names)) (length (texts ++ more)) (length groups) rest next front (record {
         args = rw same_args one.args;
-        own = rw own (lies_more (names ++ more_names) (texts ++ more) last.attributes.items row one.own (record { name = new_lies names more_names row.name name_from name_end; values = new_lies texts more row.values values_from values_end }));
+        own = rw own (lies_more (names ++ more_names) (texts ++ more) last.attributes.items row one.own (record { name = name_in; values = new_lies texts more row.values values_from values_end }));
         inner = rw same_children one.inner;
       })
 
 -- a group opens
-module _ (names : List ℕ) (texts more : List (List ℕ)) (attributes : List AttributeRow) (children : List GroupId) (groups : List GroupRow) (opens : List OpenGroup) (last : OpenGroup)
+module _ (names texts more : List (List ℕ)) (attributes : List AttributeRow) (children : List GroupId) (groups : List GroupRow) (opens : List OpenGroup) (last : OpenGroup)
     (are : AreTables names texts attributes children groups)
     (all : All (IsOpenIn (length names) (length texts) (length groups)) opens)
     (args_from : last.args.from ≡ length texts) (args_end : last.args.end ≡ length (texts ++ more))
     (no_own : last.attributes.items ≡ []) (no_inner : last.children.items ≡ []) where
   tables_grow : AreTables names (texts ++ more) attributes children groups
-  tables_grow = subst (λ (l : List ℕ). AreTables l (texts ++ more) attributes children groups) (append-nil names) (still_are names [] texts more attributes children groups are)
+  tables_grow = subst (λ (l : List (List ℕ)). AreTables l (texts ++ more) attributes children groups) (append-nil names) (still_are names [] texts more attributes children groups are)
 
   opens_grow : All (IsOpenIn (length names) (length (texts ++ more)) (length groups)) opens
-  opens_grow = subst (λ (l : List ℕ). All (IsOpenIn (length l) (length (texts ++ more)) (length groups)) opens) (append-nil names) (all_grow names [] texts more attributes children groups opens are all)
+  opens_grow = subst (λ (l : List (List ℕ)). All (IsOpenIn (length l) (length (texts ++ more)) (length groups)) opens) (append-nil names) (all_grow names [] texts more attributes children groups opens are all)
 
   same_frames : frames_of names (texts ++ more) (trees_of (tables_of names (texts ++ more) attributes children groups).rows) opens
       ≡ frames_of names texts (trees_of (tables_of names texts attributes children groups).rows) opens
-  same_frames = subst (λ (l : List ℕ). frames_of l (texts ++ more) (trees_of (tables_of l (texts ++ more) attributes children groups).rows) opens ≡ frames_of names texts (trees_of (tables_of names texts attributes children groups).rows) opens)
+  same_frames = subst (λ (l : List (List ℕ)). frames_of l (texts ++ more) (trees_of (tables_of l (texts ++ more) attributes children groups).rows) opens ≡ frames_of names texts (trees_of (tables_of names texts attributes children groups).rows) opens)
       (append-nil names) (frames_grow names [] texts more attributes children groups opens are all)
 
   pub opened_frames : frames_of names (texts ++ more) (trees_of (tables_of names (texts ++ more) attributes children groups).rows) (opens ++ last ∷ [])
@@ -112,7 +112,7 @@ module _ (names : List ℕ) (texts more : List (List ℕ)) (attributes : List At
   })
 
 -- the innermost group ends inside the one before it
-module _ (names : List ℕ) (texts : List (List ℕ)) (rows : List Row) (rest : List OpenGroup) (outer next inner : OpenGroup) (id : GroupId)
+module _ (names texts : List (List ℕ)) (rows : List Row) (rest : List OpenGroup) (outer next inner : OpenGroup) (id : GroupId)
     (all : All (IsOpenIn (length names) (length texts) (length rows)) ((rest ++ outer ∷ []) ++ inner ∷ []))
     (number : id.0 ≡ length rows)
     (same_name : next.name ≡ outer.name) (same_args : next.args ≡ outer.args) (same_own : next.attributes.items ≡ outer.attributes.items)
@@ -163,7 +163,7 @@ module _ (names : List ℕ) (texts : List (List ℕ)) (rows : List Row) (rest : 
       })
 
 -- where no more than the library is open, nothing ends
-pub few_frames : (names : List ℕ) (texts : List (List ℕ)) (trees : List Group) (opens : List OpenGroup) → length opens < 2
+pub few_frames : (names texts : List (List ℕ)) (trees : List Group) (opens : List OpenGroup) → length opens < 2
     → frames_of names texts trees opens ≡ (closed (frames_of names texts trees opens)).frames
 few_frames names texts trees [] lt = refl
 few_frames names texts trees (only ∷ []) lt = refl
@@ -176,14 +176,14 @@ last_tree rows row attributes =
     ap (λ (trees : List Group). get_or trees (length (rows ++ row ∷ []) - 1) nothing) (one_more_tree [] rows row)
     ∙ get_or_at (trees_of rows) (tree_in (trees_of rows) row) [] nothing (length (rows ++ row ∷ []) - 1) (omega arith)
 
-pub root_last : (names : List ℕ) (texts : List (List ℕ)) (trees : List Group) (opens rest : List OpenGroup) (last : OpenGroup) → opens ≡ rest ++ last ∷ []
+pub root_last : (names texts : List (List ℕ)) (trees : List Group) (opens rest : List OpenGroup) (last : OpenGroup) → opens ≡ rest ++ last ∷ []
     → tree_in trees (row_of_open names texts last) ≡ root_of (frames_of names texts trees opens)
 root_last names texts trees opens rest last e = sym (ap (λ (groups : List OpenGroup). root_of (frames_of names texts trees groups)) e ∙ ap root_of (frames_push names texts trees rest last))
 
-pub root_none : (names : List ℕ) (texts : List (List ℕ)) (trees : List Group) (opens : List OpenGroup) → length opens ≡ 0 → nothing ≡ root_of (frames_of names texts trees opens)
+pub root_none : (names texts : List (List ℕ)) (trees : List Group) (opens : List OpenGroup) → length opens ≡ 0 → nothing ≡ root_of (frames_of names texts trees opens)
 root_none names texts trees [] e = refl
 root_none names texts trees (first ∷ more) e = absurd (omega arith)
 
-pub empty_tree : (names : List ℕ) (texts : List (List ℕ)) (trees : List Group) (last : OpenGroup) → last.name ≡ [] → last.args ≡ record { from = 0; end = 0 } → last.attributes.items ≡ [] → last.children.items ≡ []
+pub empty_tree : (names texts : List (List ℕ)) (trees : List Group) (last : OpenGroup) → last.name ≡ [] → last.args ≡ record { from = 0; end = 0 } → last.attributes.items ≡ [] → last.children.items ≡ []
     → tree_in trees (row_of_open names texts last) ≡ nothing
 empty_tree names texts trees last no_name no_args no_own no_inner = rw (no_name, no_args, no_own, no_inner) refl

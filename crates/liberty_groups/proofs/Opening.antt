@@ -13,13 +13,13 @@ use Rattle.liberty_groups.proofs.Spans.{part_stays}
 use Rattle.liberty_groups.proofs.Pushing.{stays, wider, span_wider}
 use Rattle.liberty_groups.proofs.Trees.{alike}
 
-pub frames_push : (names : List ℕ) (texts : List (List ℕ)) (trees : List Group) (groups : List OpenGroup) (last : OpenGroup)
+pub frames_push : (names texts : List (List ℕ)) (trees : List Group) (groups : List OpenGroup) (last : OpenGroup)
     → frames_of names texts trees (groups ++ last ∷ []) ≡ frame_of_open names texts trees last ∷ frames_of names texts trees groups
 frames_push names texts trees [] last = refl
 frames_push names texts trees (outer ∷ inner) last = ap (λ (frames : List Frame). frames ++ frame_of_open names texts trees outer ∷ []) (frames_push names texts trees inner last)
 
 -- more names and texts change nothing of what is open
-pub frames_stay : (names more_names : List ℕ) (texts more : List (List ℕ)) (count : ℕ) (trees : List Group) (groups : List OpenGroup) → All (IsOpenIn (length names) (length texts) count) groups
+pub frames_stay : (names more_names texts more : List (List ℕ)) (count : ℕ) (trees : List Group) (groups : List OpenGroup) → All (IsOpenIn (length names) (length texts) count) groups
     → frames_of (names ++ more_names) (texts ++ more) trees groups ≡ frames_of names texts trees groups
 frames_stay names more_names texts more count trees [] all = refl
 frames_stay names more_names texts more count trees (outer ∷ inner) all =
@@ -63,7 +63,7 @@ module _ (trees : List Group) (tree : Group) where
   pub gathered_stay : (numbers : List ℕ) → All (λ (n : ℕ). n < length trees) numbers → gathered (trees ++ tree ∷ []) no_group numbers ≡ gathered trees no_group numbers
   gathered_stay numbers all = alike (trees ++ tree ∷ []) trees no_group numbers (length trees) all tree_stays
 
-  pub trees_stay : (names : List ℕ) (texts : List (List ℕ)) (groups : List OpenGroup) → All (IsOpenIn (length names) (length texts) (length trees)) groups
+  pub trees_stay : (names texts : List (List ℕ)) (groups : List OpenGroup) → All (IsOpenIn (length names) (length texts) (length trees)) groups
       → frames_of names texts (trees ++ tree ∷ []) groups ≡ frames_of names texts trees groups
   trees_stay names texts [] all = refl
   trees_stay names texts (outer ∷ inner) all =

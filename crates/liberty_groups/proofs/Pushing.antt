@@ -1,8 +1,10 @@
 -- More in the tables.
 use Rattle.std.proofs.Common.{◌≡◌, ℕ, ◌+◌, ◌-◌, ◌<◌, ◌≤◌, ◌^◌, List, [], ◌∷◌, ◌++◌, length, map, get_or, take, refl, sym, ap, ap₂, ◌∙◌, subst, arith, append-nil}
+use Rattle.std.specs.Prelude.{slice_get, Some}
 use Rattle.std.specs.List.{All}
-use Rattle.std.proofs.lemmas.List.{length-append, length-map, map-append, drop_at, take_all}
+use Rattle.std.proofs.lemmas.List.{length-append, length-map, map-append, get_or_append_left, drop_at, take_all}
 use Rattle.std.proofs.lemmas.List.Elements.{All-head, All-tail, All-append, All-cons}
+use Rattle.std.proofs.lemmas.Option.{slice_get_within, get_or_from_slice_get}
 use Rattle.liberty_groups.specs.Groups.{Attribute}
 use Rattle.liberty_groups.specs.Tables.{Row, AreBehind}
 use Rattle.liberty_groups.specs.TableRows.{part_of, number_of, attribute_of, row_of, attributes_in, tables_of, IsSpanIn, LiesIn, IsRowIn, AreTables}
@@ -27,21 +29,29 @@ span_wider few many span le (order, within) = (order, omega arith)
 
 pub wider : (few_names names few_texts texts : ℕ) (rows : List AttributeRow) → few_names ≤ names → few_texts ≤ texts → All (LiesIn few_names few_texts) rows → All (LiesIn names texts) rows
 wider few_names names few_texts texts rows le_names le_texts all = λ k d lt. let is = all k d lt in record {
-  name = span_wider few_names names (get_or rows k d).name le_names is.name;
+  name = let below = is.name in omega arith;
   values = span_wider few_texts texts (get_or rows k d).values le_texts is.values;
 }
 
+-- the name of a number in a table that has grown
+module _ (names more now : List (List ℕ)) (name : List ℕ) (n : ℕ) (grown : now ≡ names ++ more) (named : slice_get now n ≡ Some name) where
+  pub name_lies : n < length (names ++ more)
+  name_lies = subst (λ (l : List (List ℕ)). n < length l) grown (slice_get_within now n name named)
+
+  pub name_here : get_or (names ++ more) n [] ≡ name
+  name_here = ap (λ (l : List (List ℕ)). get_or l n []) (sym grown) ∙ get_or_from_slice_get now n name [] named
+
 -- more names and texts change no attribute that stands
-pub stays : (names more_names : List ℕ) (texts more : List (List ℕ)) (rows : List AttributeRow) → All (LiesIn (length names) (length texts)) rows → attributes_in (names ++ more_names) (texts ++ more) rows ≡ attributes_in names texts rows
+pub stays : (names more_names texts more : List (List ℕ)) (rows : List AttributeRow) → All (LiesIn (length names) (length texts)) rows → attributes_in (names ++ more_names) (texts ++ more) rows ≡ attributes_in names texts rows
 stays names more_names texts more [] all = refl
 stays names more_names texts more (row ∷ rows) all =
     let here = All-head (LiesIn (length names) (length texts)) row rows all in
     ap₂ (λ (one : Attribute) (others : List Attribute). one ∷ others)
-    (ap₂ (λ (name : List ℕ) (values : List (List ℕ)). record { name = name; values = values }) (part_stays names more_names row.name here.name) (part_stays texts more row.values here.values))
+    (ap₂ (λ (name : List ℕ) (values : List (List ℕ)). record { name = name; values = values }) (get_or_append_left names more_names [] row.name.0 here.name) (part_stays texts more row.values here.values))
     (stays names more_names texts more rows (All-tail (LiesIn (length names) (length texts)) row rows all))
 
 -- an attribute behind others
-module _ (names : List ℕ) (texts : List (List ℕ)) (rows : List AttributeRow) (row : AttributeRow) where
+module _ (names texts : List (List ℕ)) (rows : List AttributeRow) (row : AttributeRow) where
   pub attribute_more : attributes_in names texts (rows ++ row ∷ []) ≡ attributes_in names texts rows ++ attribute_of names texts row ∷ []
   attribute_more = map-append (attribute_of names texts) rows (row ∷ [])
 
@@ -64,7 +74,7 @@ abbrev pub row_more : GroupRow → List (List ℕ) → List Attribute → List G
 row_more row args own inner = record { name = row.name; args = args; attributes = own; children = map number_of inner }
 
 -- more names and texts change no table
-module _ (names more_names : List ℕ) (texts more : List (List ℕ)) (attributes : List AttributeRow) (children : List GroupId) (groups : List GroupRow)
+module _ (names more_names texts more : List (List ℕ)) (attributes : List AttributeRow) (children : List GroupId) (groups : List GroupRow)
     (are : AreTables names texts attributes children groups) where
   counts : length (attributes_in names texts attributes) ≡ length attributes
   counts = length-map attributes (attribute_of names texts)
@@ -89,7 +99,7 @@ module _ (names more_names : List ℕ) (texts more : List (List ℕ)) (attribute
   }
 
 -- a group more, whose attributes and inner groups are put behind those that are there
-module _ (names : List ℕ) (texts : List (List ℕ)) (old own : List AttributeRow) (children inner : List GroupId) (groups : List GroupRow) (row : GroupRow)
+module _ (names texts : List (List ℕ)) (old own : List AttributeRow) (children inner : List GroupId) (groups : List GroupRow) (row : GroupRow)
     (are : AreTables names texts old children groups)
     (args : IsSpanIn (length texts) row.args)
     (lies : All (LiesIn (length names) (length texts)) own)

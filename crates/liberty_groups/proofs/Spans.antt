@@ -38,7 +38,7 @@ part_stays items more span (order, within) =
     ap (take (span.end - span.from)) (drop-append-le span.from items more (omega arith))
     ∙ take-append-le (span.end - span.from) (drop span.from items) more (omega arith)
 
-module _ (names : List ℕ) (texts : List (List ℕ)) (attributes : List AttributeRow) (children : List GroupId) (groups : List GroupRow) (are : AreTables names texts attributes children groups) (all : Tables) (is : tables_of names texts attributes children groups ≡ all) where
+module _ (names texts : List (List ℕ)) (attributes : List AttributeRow) (children : List GroupId) (groups : List GroupRow) (are : AreTables names texts attributes children groups) (all : Tables) (is : tables_of names texts attributes children groups ≡ all) where
   abbrev pub all_attributes : List Attribute
   all_attributes = attributes_in names texts attributes
 

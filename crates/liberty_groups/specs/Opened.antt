@@ -8,7 +8,7 @@ use Rattle.liberty_groups.specs.TableRows.{part_of, number_of, attributes_in, Is
 use Rattle.liberty_groups.specs.declared.rows.OpenGroup.{OpenGroup}
 
 -- its row, when it ends
-abbrev pub row_of_open : List ℕ → List (List ℕ) → OpenGroup → Row
+abbrev pub row_of_open : List (List ℕ) → List (List ℕ) → OpenGroup → Row
 row_of_open names texts o = record {
   name = o.name;
   args = part_of texts o.args;
@@ -17,7 +17,7 @@ row_of_open names texts o = record {
 }
 
 -- what has been read of it, where the groups in it have these trees
-abbrev pub frame_of_open : List ℕ → List (List ℕ) → List Group → OpenGroup → Frame
+abbrev pub frame_of_open : List (List ℕ) → List (List ℕ) → List Group → OpenGroup → Frame
 frame_of_open names texts trees o = record {
   name = o.name;
   args = part_of texts o.args;
@@ -26,11 +26,11 @@ frame_of_open names texts trees o = record {
 }
 
 -- the innermost first
-abbrev pub frames_of : List ℕ → List (List ℕ) → List Group → List OpenGroup → List Frame
+abbrev pub frames_of : List (List ℕ) → List (List ℕ) → List Group → List OpenGroup → List Frame
 frames_of names texts trees [] = []
 frames_of names texts trees (outer ∷ inner) = frames_of names texts trees inner ++ frame_of_open names texts trees outer ∷ []
 
--- its spans lie in tables of so many entries, and the groups in it are among those that have ended
+-- its spans and the numbers of names lie in tables of so many entries, and the groups in it are among those that have ended
 pub record IsOpenIn (names texts groups : ℕ) (o : OpenGroup) : Type 0 where
   pub args : IsSpanIn texts o.args
   pub own : All (LiesIn names texts) o.attributes.items

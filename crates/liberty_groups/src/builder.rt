@@ -7,7 +7,7 @@ ghost use Rattle.liberty_groups.specs.Built.{built_of, IsBuilt};
 ghost use Rattle.liberty_groups.specs.declared.events.Event.{Event};
 
 use crate::events::Event;
-use crate::filling::{add_all, add_bytes};
+use crate::filling::{add_all, add_name};
 use crate::flat::FlatTree;
 use crate::rows::{AttributeRow, OpenGroup, Span};
 use crate::tree::GroupTree;
@@ -104,7 +104,7 @@ impl Builder {
         ensures sound { OnOk result (IsBuilt self.new) }
     {
         let row = AttributeRow {
-            name: add_bytes(&mut self.flat.names, self.name.as_slice())?,
+            name: add_name(&mut self.flat.names, self.name.as_slice())?,
             values: add_all(&mut self.flat.texts, &mut self.parts)?,
         };
         self.name.clear();

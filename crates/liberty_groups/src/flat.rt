@@ -6,14 +6,15 @@ ghost use Rattle.liberty_groups.specs.Built.{tables_in, AreSound};
 use crate::filling::add_all;
 use crate::rows::{AttributeRow, GroupId, GroupRow, OpenGroup, number};
 use edge_io::{OutOfMemory, Text};
+use name_table::Names;
 use std::alloc::Global;
 
-/// Groups behind those in them, and what stands in them: the bytes of the names of attributes, the arguments and values,
+/// Groups behind those in them, and what stands in them: the names of attributes, each once, the arguments and values,
 /// the attributes, and the numbers of inner groups. A `GroupTree` has the same tables once they are whole: its invariant
 /// would be owed here where memory runs out, too.
 #[derive(Drop)]
 pub struct FlatTree {
-    pub names: Vec<u8>,
+    pub names: Names,
     pub texts: Vec<Text>,
     pub attributes: Vec<AttributeRow>,
     pub children: Vec<GroupId>,
@@ -27,7 +28,7 @@ impl FlatTree {
         ensures rows { (tables_in result).rows ≡ [] }
     {
         FlatTree {
-            names: Vec::new(alloc),
+            names: Names::new(alloc),
             texts: Vec::new(alloc),
             attributes: Vec::new(alloc),
             children: Vec::new(alloc),
@@ -38,11 +39,11 @@ impl FlatTree {
     /// Adds a group that has ended, and answers its number.
     pub(crate) fn add_group(&mut self, group: OpenGroup) -> Result<GroupId, OutOfMemory>
         requires sound { AreSound self.old }
-        requires group { IsOpenIn (length self.old.names.items) (length self.old.texts.items) (length self.old.groups.items) group }
+        requires group { IsOpenIn (length self.old.names) (length self.old.texts.items) (length self.old.groups.items) group }
         ensures sound { OnOk result (AreSound self.new) }
         ensures rows { OnOk result ((tables_in self.new).rows ≡ (tables_in self.old).rows
-            ++ row_of_open self.old.names.items self.old.texts.items group ∷ []) }
-        ensures names { OnOk result (self.new.names.items ≡ self.old.names.items) }
+            ++ row_of_open self.old.names self.old.texts.items group ∷ []) }
+        ensures names { OnOk result (self.new.names ≡ self.old.names) }
         ensures texts { OnOk result (self.new.texts.items ≡ self.old.texts.items) }
         ensures number { IfOk result (λ id. id.0 ≡ length self.old.groups.items) }
     {

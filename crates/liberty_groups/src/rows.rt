@@ -2,6 +2,7 @@
 ghost use Rattle.std.specs.Prelude.{◌≡◌, ◌-◌, ◌<◌, ◌≤◌, ◌^◌, IfOk};
 
 use edge_io::{OutOfMemory, Text};
+use name_table::NameId;
 
 /// The number of a group in its tree.
 #[derive(Clone, Copy, PartialEq, Eq, Debug)]
@@ -28,10 +29,10 @@ impl Span {
     }
 }
 
-/// An attribute: where its name stands among the bytes of all names, and its values among the texts.
+/// An attribute: the number of its name, and where its values stand among the texts.
 #[derive(Clone, Copy, Debug)]
 pub struct AttributeRow {
-    pub name: Span,
+    pub name: NameId,
     pub values: Span,
 }
 

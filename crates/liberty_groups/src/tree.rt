@@ -3,19 +3,20 @@ ghost use Rattle.std.specs.Prelude.{◌≡◌, ◌<◌, ℕ, List, length, get_o
 ghost use Rattle.std.specs.List.{All};
 ghost use Rattle.liberty_groups.specs.Groups.{name_of, args_of, attributes_of, groups_of};
 ghost use Rattle.liberty_groups.specs.Tables.{no_attribute, group_at, attribute_at, tree_of, IsGroup, IsAttribute, IsLastOf, HasNone};
-ghost use Rattle.liberty_groups.specs.TableRows.{attributes_in, IsSpanIn};
+ghost use Rattle.liberty_groups.specs.TableRows.{attributes_in};
 ghost use Rattle.liberty_groups.specs.Built.{tables_in, IsWhole};
 
 use crate::flat::FlatTree;
 use crate::rows::{AttrId, AttributeRow, GroupId, GroupRow};
 use edge_io::Text;
+use name_table::Names;
 use std::marker::Model;
 
 /// What a Liberty file says, in flat tables: groups stand behind those in them, the library last. Contracts see the
 /// tables of rows, and `group_at` is the tree of a group. There is always a library.
-#[derive(Debug, Drop)]
+#[derive(Drop)]
 pub struct GroupTree {
-    names: Vec<u8>,
+    names: Names,
     texts: Vec<Text>,
     attributes: Vec<AttributeRow>,
     children: Vec<GroupId>,
@@ -28,9 +29,9 @@ impl Model for GroupTree {
 
     ghost Value = { Tables };
 
-    ghost view = { λ t. tables_of t.names.items t.texts.items t.attributes.items t.children.items t.groups.items };
+    ghost view = { λ t. tables_of t.names t.texts.items t.attributes.items t.children.items t.groups.items };
 
-    ghost invariant = { λ t. AreWhole t.names.items t.texts.items t.attributes.items t.children.items t.groups.items };
+    ghost invariant = { λ t. AreWhole t.names t.texts.items t.attributes.items t.children.items t.groups.items };
 }
 
 impl GroupTree {
@@ -99,7 +100,7 @@ impl GroupTree {
         self.children[self.groups[g.0 as usize].children.from as usize + i]
     }
 
-    /// The last attribute of a name in a group. It takes one pass over the group's attributes.
+    /// The last attribute of a name in a group. It looks the name up once, and takes one pass over the group's attributes.
     pub fn attribute(&self, g: GroupId, key: &[u8]) -> Option<AttrId>
         requires { IsGroup self.now g.0 }
         ensures last { IfSome result (λ a. IsLastOf key.now (attributes_of (group_at self.now g.0)) (attribute_at self.now a.0)) }
@@ -109,7 +110,7 @@ impl GroupTree {
         let span = self.groups[g.0 as usize].attributes;
         let up_to = self.attributes.as_slice().split_at(span.end as usize).0;
         let own = up_to.split_at(span.from as usize).1;
-        let place = last_of(self.names.as_slice(), own, key)?;
+        let place = last_of(&self.names, own, key)?;
         Some(AttrId(span.from + place as u32))
     }
 
@@ -131,21 +132,20 @@ impl GroupTree {
     }
 }
 
-/// The place of the last attribute of a name.
-fn last_of(names: &[u8], rows: &[AttributeRow], key: &[u8]) -> Option<usize>
-    requires names { All (λ (row : AttributeRow). IsSpanIn (length names.now) row.name) rows.now }
+/// The place of the last attribute of a name. Each name has one number, so numbers are compared in place of names.
+fn last_of(names: &Names, rows: &[AttributeRow], key: &[u8]) -> Option<usize>
+    requires names { All (λ (row : AttributeRow). row.name.0 < length names.now) rows.now }
     ensures last { (texts : List (List ℕ)) → IfSome result
         (λ place. IsLastOf key.now (attributes_in names.now texts rows.now)
         (get_or (attributes_in names.now texts rows.now) place no_attribute)) }
     ensures within { IfSome result (λ place. place < length rows.now) }
     ensures absent { (texts : List (List ℕ)) → IfNone result (HasNone key.now (attributes_in names.now texts rows.now)) }
 {
+    let name = names.find(key)?;
     let mut found = None;
     let mut place = 0;
     while place < rows.len() {
-        let name = rows[place].name;
-        let up_to = names.split_at(name.end as usize).0;
-        if up_to.split_at(name.from as usize).1 == key {
+        if rows[place].name.0 == name.0 {
             found = Some(place);
         }
         place += 1;

@@ -21,8 +21,8 @@ returns-then-len-lt2-clause-built c =
 pub add_group-requires-clause-group : goal.add_group-requires-clause-group
 add_group-requires-clause-group c =
     let f : FlatTree = c.args.self.now.flat in
-    last_is (length f.names.items) (length f.texts.items) (length f.groups.items) c.pop.new.self.items c.in-Some-Some.inner
-    (subst (All (IsOpenIn (length f.names.items) (length f.texts.items) (length f.groups.items))) c.in-Some-Some.ensures.items c.requires.sound.opened)
+    last_is (length f.names) (length f.texts.items) (length f.groups.items) c.pop.new.self.items c.in-Some-Some.inner
+    (subst (All (IsOpenIn (length f.names) (length f.texts.items) (length f.groups.items))) c.in-Some-Some.ensures.items c.requires.sound.opened)
 
 pub returns-clause-built : goal.returns-clause-built
 returns-clause-built c =
@@ -31,16 +31,16 @@ returns-clause-built c =
     let inner : OpenGroup = c.in-Some-Some.inner in
     let next : OpenGroup = record { name = outer.name; args = outer.args; attributes = outer.attributes; children = c.push.new.self } in
     let rows : List Row = (tables_in f).rows in
-    let count : length rows ≡ length f.groups.items = length-map f.groups.items (row_of f.texts.items (attributes_in f.names.items f.texts.items f.attributes.items) f.children.items) in
+    let count : length rows ≡ length f.groups.items = length-map f.groups.items (row_of f.texts.items (attributes_in f.names f.texts.items f.attributes.items) f.children.items) in
     let opens : c.args.self.now.open_groups.items ≡ (c.pop-2.new.self.items ++ outer ∷ []) ++ inner ∷ [] = c.in-Some-Some.ensures.items ∙ ap (λ (l : List OpenGroup). l ++ inner ∷ []) c.in-Some-Some.ensures'.items in
     same_built _ _ _ _ c.clear.ensures.items c.clear-2.ensures.items
-    (ap₂ (λ (names : List ℕ) (texts : List (List ℕ)). frames_of names texts (trees_of (tables_in c.add_group.new.self).rows) c.push-2.new.self.items) c.in_ok-id.ensures.names c.in_ok-id.ensures.texts
-    ∙ ap₂ (λ (more : List Row) (groups : List OpenGroup). frames_of f.names.items f.texts.items (trees_of more) groups) c.in_ok-id.ensures.rows c.in-Ok-push.ensures.items
-    ∙ ended_frames f.names.items f.texts.items rows c.pop-2.new.self.items outer next inner c.in_ok-id.id
-    (subst (λ (n : ℕ). All (IsOpenIn (length f.names.items) (length f.texts.items) n) ((c.pop-2.new.self.items ++ outer ∷ []) ++ inner ∷ [])) (sym count)
-    (subst (All (IsOpenIn (length f.names.items) (length f.texts.items) (length f.groups.items))) opens c.requires.sound.opened))
+    (ap₂ (λ (names texts : List (List ℕ)). frames_of names texts (trees_of (tables_in c.add_group.new.self).rows) c.push-2.new.self.items) c.in_ok-id.ensures.names c.in_ok-id.ensures.texts
+    ∙ ap₂ (λ (more : List Row) (groups : List OpenGroup). frames_of f.names f.texts.items (trees_of more) groups) c.in_ok-id.ensures.rows c.in-Ok-push.ensures.items
+    ∙ ended_frames f.names f.texts.items rows c.pop-2.new.self.items outer next inner c.in_ok-id.id
+    (subst (λ (n : ℕ). All (IsOpenIn (length f.names) (length f.texts.items) n) ((c.pop-2.new.self.items ++ outer ∷ []) ++ inner ∷ [])) (sym count)
+    (subst (All (IsOpenIn (length f.names) (length f.texts.items) (length f.groups.items))) opens c.requires.sound.opened))
     (c.in_ok-id.ensures.number ∙ sym count) refl refl refl c.in-Ok.ensures.items
-    ∙ ap (λ (groups : List OpenGroup). (closed (frames_of f.names.items f.texts.items (trees_of rows) groups)).frames) (sym opens))
+    ∙ ap (λ (groups : List OpenGroup). (closed (frames_of f.names f.texts.items (trees_of rows) groups)).frames) (sym opens))
 
 pub returns-clause-sound : goal.returns-clause-sound
 returns-clause-sound c =
@@ -50,19 +50,19 @@ returns-clause-sound c =
     let next : OpenGroup = record { name = outer.name; args = outer.args; attributes = outer.attributes; children = c.push.new.self } in
     let rows : List Row = (tables_in f).rows in
     let after : FlatTree = c.add_group.new.self in
-    let count : length rows ≡ length f.groups.items = length-map f.groups.items (row_of f.texts.items (attributes_in f.names.items f.texts.items f.attributes.items) f.children.items) in
-    let count_after : length (tables_in after).rows ≡ length after.groups.items = length-map after.groups.items (row_of after.texts.items (attributes_in after.names.items after.texts.items after.attributes.items) after.children.items) in
-    let more : length rows + 1 ≡ length after.groups.items = sym (length-append rows (row_of_open f.names.items f.texts.items inner ∷ [])) ∙ sym (ap length c.in_ok-id.ensures.rows) ∙ count_after in
+    let count : length rows ≡ length f.groups.items = length-map f.groups.items (row_of f.texts.items (attributes_in f.names f.texts.items f.attributes.items) f.children.items) in
+    let count_after : length (tables_in after).rows ≡ length after.groups.items = length-map after.groups.items (row_of after.texts.items (attributes_in after.names after.texts.items after.attributes.items) after.children.items) in
+    let more : length rows + 1 ≡ length after.groups.items = sym (length-append rows (row_of_open f.names f.texts.items inner ∷ [])) ∙ sym (ap length c.in_ok-id.ensures.rows) ∙ count_after in
     let opens : c.args.self.now.open_groups.items ≡ (c.pop-2.new.self.items ++ outer ∷ []) ++ inner ∷ [] = c.in-Some-Some.ensures.items ∙ ap (λ (l : List OpenGroup). l ++ inner ∷ []) c.in-Some-Some.ensures'.items in
     record {
       tables = c.in_ok-id.ensures.sound;
       opened =
-          subst (λ (l : List ℕ). All (IsOpenIn (length l) (length after.texts.items) (length after.groups.items)) c.push-2.new.self.items) (sym c.in_ok-id.ensures.names)
-          (subst (λ (l : List (List ℕ)). All (IsOpenIn (length f.names.items) (length l) (length after.groups.items)) c.push-2.new.self.items) (sym c.in_ok-id.ensures.texts)
-          (subst (λ (n : ℕ). All (IsOpenIn (length f.names.items) (length f.texts.items) n) c.push-2.new.self.items) more
-          (subst (All (IsOpenIn (length f.names.items) (length f.texts.items) (length rows + 1))) (sym c.in-Ok-push.ensures.items)
-          (ended_all f.names.items f.texts.items rows c.pop-2.new.self.items outer next inner c.in_ok-id.id
-          (subst (λ (n : ℕ). All (IsOpenIn (length f.names.items) (length f.texts.items) n) ((c.pop-2.new.self.items ++ outer ∷ []) ++ inner ∷ [])) (sym count)
-          (subst (All (IsOpenIn (length f.names.items) (length f.texts.items) (length f.groups.items))) opens c.requires.sound.opened))
+          subst (λ (l : List (List ℕ)). All (IsOpenIn (length l) (length after.texts.items) (length after.groups.items)) c.push-2.new.self.items) (sym c.in_ok-id.ensures.names)
+          (subst (λ (l : List (List ℕ)). All (IsOpenIn (length f.names) (length l) (length after.groups.items)) c.push-2.new.self.items) (sym c.in_ok-id.ensures.texts)
+          (subst (λ (n : ℕ). All (IsOpenIn (length f.names) (length f.texts.items) n) c.push-2.new.self.items) more
+          (subst (All (IsOpenIn (length f.names) (length f.texts.items) (length rows + 1))) (sym c.in-Ok-push.ensures.items)
+          (ended_all f.names f.texts.items rows c.pop-2.new.self.items outer next inner c.in_ok-id.id
+          (subst (λ (n : ℕ). All (IsOpenIn (length f.names) (length f.texts.items) n) ((c.pop-2.new.self.items ++ outer ∷ []) ++ inner ∷ [])) (sym count)
+          (subst (All (IsOpenIn (length f.names) (length f.texts.items) (length f.groups.items))) opens c.requires.sound.opened))
           (c.in_ok-id.ensures.number ∙ sym count) refl refl refl c.in-Ok.ensures.items))));
     }

@@ -16,8 +16,8 @@ add_group-requires-clause-group c =
     let f : FlatTree = c.args.self.flat in
     elim c.match-pop.branch [
       | in-Some w ↦
-          rw w.last-is (last_is (length f.names.items) (length f.texts.items) (length f.groups.items) c.pop.new.self.items w.in-Some.group
-          (subst (All (IsOpenIn (length f.names.items) (length f.texts.items) (length f.groups.items))) w.in-Some.ensures.items c.requires.sound.opened))
+          rw w.last-is (last_is (length f.names) (length f.texts.items) (length f.groups.items) c.pop.new.self.items w.in-Some.group
+          (subst (All (IsOpenIn (length f.names) (length f.texts.items) (length f.groups.items))) w.in-Some.ensures.items c.requires.sound.opened))
       | in-None w ↦
           rw w.last-is (record {
             args = (omega arith, omega arith);
@@ -29,7 +29,7 @@ add_group-requires-clause-group c =
 pub returns : goal.returns
 returns c =
     let f : FlatTree = c.args.self.flat in
-    let names : List ℕ = f.names.items in
+    let names : List (List ℕ) = f.names in
     let texts : List (List ℕ) = f.texts.items in
     let rows : List Row = (tables_in f).rows in
     let opens : List OpenGroup = c.args.self.open_groups.items in

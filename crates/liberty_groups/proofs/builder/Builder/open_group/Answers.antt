@@ -15,10 +15,10 @@ returns-clause-built c =
     let f : FlatTree = c.args.self.now.flat in
     let last : OpenGroup = record { name = c.in_ok-from_bytes.field-0; args = c.in_ok-args.args; attributes = c.new.result; children = c.new-2.result } in
     same_built _ _ _ _ (c.clear.ensures.items) c.in_ok-args.ensures.moved
-    (ap₂ (λ (texts : List (List ℕ)) (groups : List OpenGroup). frames_of f.names.items texts (trees_of (tables_of f.names.items texts f.attributes.items f.children.items f.groups.items).rows) groups) c.in_ok-args.ensures.items c.in-Ok.ensures.items
-    ∙ opened_frames f.names.items f.texts.items c.args.self.now.parts.items f.attributes.items f.children.items f.groups.items c.args.self.now.open_groups.items last
+    (ap₂ (λ (texts : List (List ℕ)) (groups : List OpenGroup). frames_of f.names texts (trees_of (tables_of f.names texts f.attributes.items f.children.items f.groups.items).rows) groups) c.in_ok-args.ensures.items c.in-Ok.ensures.items
+    ∙ opened_frames f.names f.texts.items c.args.self.now.parts.items f.attributes.items f.children.items f.groups.items c.args.self.now.open_groups.items last
     c.requires.sound.tables c.requires.sound.opened c.in_ok-args.ensures.from (c.in_ok-args.ensures.end ∙ ap length c.in_ok-args.ensures.items) c.new.ensures.items c.new-2.ensures.items
-    ∙ ap (λ (name : List ℕ). record { name = name; args = c.args.self.now.parts.items; attributes = []; groups = no_group } ∷ frames_of f.names.items f.texts.items (trees_of (tables_of f.names.items f.texts.items f.attributes.items f.children.items f.groups.items).rows) c.args.self.now.open_groups.items) (c.in_ok-from_bytes.ensures ∙ c.as_slice.ensures.value))
+    ∙ ap (λ (name : List ℕ). record { name = name; args = c.args.self.now.parts.items; attributes = []; groups = no_group } ∷ frames_of f.names f.texts.items (trees_of (tables_of f.names f.texts.items f.attributes.items f.children.items f.groups.items).rows) c.args.self.now.open_groups.items) (c.in_ok-from_bytes.ensures ∙ c.as_slice.ensures.value))
 
 pub returns-clause-sound : goal.returns-clause-sound
 returns-clause-sound c =
@@ -26,11 +26,11 @@ returns-clause-sound c =
     let last : OpenGroup = record { name = c.in_ok-from_bytes.field-0; args = c.in_ok-args.args; attributes = c.new.result; children = c.new-2.result } in
     let end = c.in_ok-args.ensures.end ∙ ap length c.in_ok-args.ensures.items in
     record {
-      tables = subst (λ (texts : List (List ℕ)). AreTables f.names.items texts f.attributes.items f.children.items f.groups.items) (sym c.in_ok-args.ensures.items)
-          (opened_tables f.names.items f.texts.items c.args.self.now.parts.items f.attributes.items f.children.items f.groups.items c.args.self.now.open_groups.items last
+      tables = subst (λ (texts : List (List ℕ)). AreTables f.names texts f.attributes.items f.children.items f.groups.items) (sym c.in_ok-args.ensures.items)
+          (opened_tables f.names f.texts.items c.args.self.now.parts.items f.attributes.items f.children.items f.groups.items c.args.self.now.open_groups.items last
           c.requires.sound.tables c.requires.sound.opened c.in_ok-args.ensures.from end c.new.ensures.items c.new-2.ensures.items);
-      opened = subst (λ (texts : List (List ℕ)). All (IsOpenIn (length f.names.items) (length texts) (length f.groups.items)) c.push.new.self.items) (sym c.in_ok-args.ensures.items)
-          (subst (All (IsOpenIn (length f.names.items) (length (f.texts.items ++ c.args.self.now.parts.items)) (length f.groups.items))) (sym c.in-Ok.ensures.items)
-          (opened_all f.names.items f.texts.items c.args.self.now.parts.items f.attributes.items f.children.items f.groups.items c.args.self.now.open_groups.items last
+      opened = subst (λ (texts : List (List ℕ)). All (IsOpenIn (length f.names) (length texts) (length f.groups.items)) c.push.new.self.items) (sym c.in_ok-args.ensures.items)
+          (subst (All (IsOpenIn (length f.names) (length (f.texts.items ++ c.args.self.now.parts.items)) (length f.groups.items))) (sym c.in-Ok.ensures.items)
+          (opened_all f.names f.texts.items c.args.self.now.parts.items f.attributes.items f.children.items f.groups.items c.args.self.now.open_groups.items last
           c.requires.sound.tables c.requires.sound.opened c.in_ok-args.ensures.from end c.new.ensures.items c.new-2.ensures.items));
     }

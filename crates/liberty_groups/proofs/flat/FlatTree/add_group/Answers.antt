@@ -9,7 +9,7 @@ use Rattle.liberty_groups.proofs.flat.FlatTree.add_group.Goals as goal
 
 pub returns-in-Ok-clause-sound : goal.returns-in-Ok-clause-sound
 returns-in-Ok-clause-sound c =
-    let names : List ℕ = c.args.self.now.names.items in
+    let names : List (List ℕ) = c.args.self.now.names in
     let texts : List (List ℕ) = c.args.self.now.texts.items in
     let row : GroupRow = record { name = c.args.group.name; args = c.args.group.args; attributes = c.in_ok-add_all.field-0; children = c.in_ok-add_all-2.field-0 } in
     subst (λ (groups : List GroupRow). AreTables names texts c.add_all.new.table.items c.add_all-2.new.table.items groups) (sym c.in-Ok.ensures.items)
@@ -23,7 +23,7 @@ returns-in-Ok-clause-sound c =
 
 pub returns-in-Ok-clause-rows : goal.returns-in-Ok-clause-rows
 returns-in-Ok-clause-rows c =
-    let names : List ℕ = c.args.self.now.names.items in
+    let names : List (List ℕ) = c.args.self.now.names in
     let texts : List (List ℕ) = c.args.self.now.texts.items in
     let row : GroupRow = record { name = c.args.group.name; args = c.args.group.args; attributes = c.in_ok-add_all.field-0; children = c.in_ok-add_all-2.field-0 } in
     ap (λ (groups : List GroupRow). map (row_of texts (attributes_in names texts c.add_all.new.table.items) c.add_all-2.new.table.items) groups) c.in-Ok.ensures.items

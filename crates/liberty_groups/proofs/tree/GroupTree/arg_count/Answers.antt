@@ -4,4 +4,4 @@ use Rattle.liberty_groups.proofs.Spans.{arg_count_is}
 use Rattle.liberty_groups.proofs.tree.GroupTree.arg_count.Goals as goal
 
 pub returns : goal.returns
-returns c = c.len.ensures ∙ arg_count_is c.self.inside.names.items c.self.inside.texts.items c.self.inside.attributes.items c.self.inside.children.items c.self.inside.groups.items c.self.invariant.tables c.args.self.now c.self.view_is c.args.g.0 c.requires c.index.result.now c.index.ensures
+returns c = c.len.ensures ∙ arg_count_is c.self.inside.names c.self.inside.texts.items c.self.inside.attributes.items c.self.inside.children.items c.self.inside.groups.items c.self.invariant.tables c.args.self.now c.self.view_is c.args.g.0 c.requires c.index.result.now c.index.ensures
