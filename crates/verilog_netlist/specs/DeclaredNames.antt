@@ -1,8 +1,9 @@
--- Declared names as they are kept, each with its first declaration.
-use Rattle.std.specs.Prelude.{◌≡◌, ℕ, ◌≤◌, max, if◌then◌else◌, List, Option, Some, None, ⊤}
+-- The names that are declared with a range as they are kept, each with its first declaration.
+use Rattle.std.specs.Prelude.{◌≡◌, ℕ, ◌<◌, ◌≤◌, false, max, if◌then◌else◌, List, length, slice_get, Option, Some, None, ⊤}
 use Rattle.std.specs.Map.{lookup}
-use Rattle.verilog_netlist.specs.Ranges.{declares, or_first, first_declared, declared_range, whole_width}
-use Rattle.verilog_netlist.specs.NameKeys.{code_of, Key, key_in, same_key}
+use Rattle.token_texts.specs.Spans.{text_at}
+use Rattle.verilog_netlist.specs.Ranges.{declares, or_first, first_declared, module_at, declared_range, whole_width}
+use Rattle.verilog_netlist.specs.NameKeys.{code_of, Key, key_in, same_key, holds, with_key}
 use Rattle.verilog_netlist.specs.declared.declared.Declaration.{Declaration}
 use Rattle.verilog_netlist.specs.declared.entries.Entry.{Entry}
 use Rattle.verilog_netlist.specs.declared.entries.Entry.TheVariants.{Declared}
@@ -28,14 +29,36 @@ abbrev pub AddsRow : Rows → Rows → Key → Declaration → Type 0
 AddsRow old new key declaration =
     (other : Key) → row_at new other ≡ or_first (row_at old other) (if same_key other key then Some declaration else None)
 
--- what this entry declares in the module `here`
-abbrev pub AddsDeclared : List ℕ → ℕ → Entry → Rows → Rows → Type 0
-AddsDeclared bytes here entry old new =
-    (asked : ℕ) (name : List ℕ) → found_in new asked name ≡ or_first (found_in old asked name) (declares bytes asked name here (Some entry))
+-- the keys with that of a name which this entry of the module `here` declares with a range
+abbrev pub AddsRanged : List ℕ → ℕ → Entry → List Key → List Key → Type 0
+AddsRanged bytes here (Declared by name (Some bounds)) old new = (key : Key) → holds new key ≡ with_key (holds old) (declared_key here (text_at bytes name)) key
+AddsRanged bytes here _ old new = new ≡ old
 
--- the first declarations among so many entries
-abbrev pub HoldsDeclared : List ℕ → List Entry → ℕ → Rows → Type 0
-HoldsDeclared bytes entries n rows = (asked : ℕ) (name : List ℕ) → found_in rows asked name ≡ first_declared bytes entries asked name n
+-- what is found of a name is kept, if the keys have that of the name
+abbrev pub kept : List Key → ℕ → List ℕ → Option Declaration → Option Declaration
+kept keys asked name found = if holds keys (declared_key asked name) then found else None
+
+-- what this entry declares in the module `here`
+abbrev pub AddsDeclared : List ℕ → List Key → ℕ → Entry → Rows → Rows → Type 0
+AddsDeclared bytes keys here entry old new = (asked : ℕ) (name : List ℕ)
+    → found_in new asked name ≡ or_first (found_in old asked name) (kept keys asked name (declares bytes asked name here (Some entry)))
+
+module _ (bytes : List ℕ) (entries : List Entry) where
+  -- a name that one of so many entries declares with a range has its key among these
+  abbrev pub CoversRanged : ℕ → List Key → Type 0
+  CoversRanged n keys = (asked : ℕ) (name : List ℕ) (place : ℕ) (declaration : Declaration) → place < n
+      → declares bytes asked name (module_at entries place) (slice_get entries place) ≡ Some declaration
+      → holds keys (declared_key asked name) ≡ false → declaration.range ≡ None
+
+  -- the first declarations among so many entries, of the names of these keys
+  abbrev pub HoldsDeclared : List Key → ℕ → Rows → Type 0
+  HoldsDeclared keys n rows = (asked : ℕ) (name : List ℕ) → found_in rows asked name ≡ kept keys asked name (first_declared bytes entries asked name n)
+
+  -- the first declarations of all names that are declared with a range
+  pub record HoldsRanged (rows : Rows) : Type 0 where
+    pub keys : List Key
+    pub covers : CoversRanged (length entries) keys
+    pub holds : HoldsDeclared keys (length entries) rows
 
 -- no name has more bits than this, in whatever module, and no undeclared one
 abbrev pub BoundsWidths : Rows → ℕ → Type 0

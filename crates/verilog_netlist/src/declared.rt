@@ -1,15 +1,15 @@
-//! The first declaration of each name of a module.
+//! The first declarations of the names that are declared with a range.
 ghost use Rattle.std.specs.Prelude.{◌≡◌, ◌^◌, ◌<◌, length, IfOk, OnOk};
-ghost use Rattle.verilog_netlist.specs.NameKeys.{key_in};
-ghost use Rattle.verilog_netlist.specs.DeclaredNames.{declared_key, found_in, widened, AddsRow, AddsDeclared, HoldsDeclared, BoundsWidths};
+ghost use Rattle.verilog_netlist.specs.NameKeys.{key_in, keys_in, holds};
+ghost use Rattle.verilog_netlist.specs.DeclaredNames.{declared_key, found_in, widened, AddsRow, AddsRanged, AddsDeclared, CoversRanged, HoldsDeclared, HoldsRanged, BoundsWidths};
 
 use crate::entries::{Decl, Entry, Range};
 use crate::name_text::NameText;
 use crate::namespaces::Names;
 use crate::ranges::whole_width;
-use crate::repeats::{NameKey, Scopes, code_of};
+use crate::repeats::{NameKey, Scopes, add_key, code_of};
 use edge_io::OutOfMemory;
-use indexmap::IndexMap;
+use indexmap::{IndexMap, IndexSet};
 use name_table::NameHash;
 use std::alloc::Global;
 
@@ -20,7 +20,8 @@ pub struct Declaration {
     pub range: Option<Range>,
 }
 
-/// The names of all modules that are declared, by a direction or by `wire`, each with its first declaration.
+/// The names of all modules that are declared with a range, by a direction or by `wire`, each with its first declaration. That of any
+/// other name has no range, and nothing more is asked of it. Most wires are such names, and a table of them all would be large.
 #[derive(Drop)]
 pub struct DeclaredNames<'a> {
     pub rows: IndexMap<NameKey<'a>, Declaration, NameHash>,
@@ -40,8 +41,53 @@ fn declared_key(scope: u32, name: &[u8]) -> NameKey<'_>
     }
 }
 
+/// Adds the name of an entry that declares it with a range.
+fn add_ranged<'a>(
+    ranged: &mut IndexSet<NameKey<'a>, NameHash>,
+    scopes: Scopes,
+    bytes: &'a [u8],
+    entry: Entry,
+) -> Result<(), OutOfMemory>
+    ensures { OnOk result (AddsRanged bytes.now scopes.modules entry (keys_in ranged.old.keys) (keys_in ranged.new.keys)) }
+{
+    match entry {
+        Entry::Declared(_, name, Some(_)) => {
+            add_key(ranged, Names::Wires, scopes, name.of(bytes))?;
+            Ok(())
+        }
+        _ => Ok(()),
+    }
+}
+
+/// Collects the names that are declared with a range.
+fn collect_ranged<'a>(
+    alloc: Global,
+    bytes: &'a [u8],
+    entries: &[Entry],
+) -> Result<IndexSet<NameKey<'a>, NameHash>, OutOfMemory>
+    requires { length entries.now < 2 ^ 30 }
+    ensures { IfOk result (λ ranged. CoversRanged bytes.now entries.now (length entries.now) (keys_in ranged.keys)) }
+{
+    let mut ranged = IndexSet::with_hasher(alloc, NameHash::default());
+    let mut scopes = Scopes::new();
+    for (place, entry) in entries.iter().enumerate() {
+        scopes = scopes.from(*entry);
+        add_ranged(&mut ranged, scopes, bytes, *entry)?;
+    }
+    Ok(ranged)
+}
+
+/// Whether a name of the module of this number is among these.
+#[inline]
+fn is_among(keys: &IndexSet<NameKey<'_>, NameHash>, scope: u32, name: &[u8]) -> bool
+    ensures { result ≡ holds (keys_in keys.now.keys) (declared_key scope name.now) }
+{
+    let key = declared_key(scope, name);
+    keys.contains(&key)
+}
+
 impl<'a> DeclaredNames<'a> {
-    /// The first declaration of a name in the module of this number.
+    /// The first declaration of a name in the module of this number, if the name is kept.
     #[inline]
     pub(crate) fn find(&self, scope: u32, name: &[u8]) -> Option<Declaration>
         ensures { result ≡ found_in self.now.rows.entries scope name.now }
@@ -74,43 +120,44 @@ impl<'a> DeclaredNames<'a> {
         }
     }
 
-    /// Adds what an entry of this module declares.
-    fn add_entry(&mut self, scope: u32, bytes: &'a [u8], entry: Entry) -> Result<(), OutOfMemory>
-        ensures rows { OnOk result (AddsDeclared bytes.now scope entry self.old.rows.entries self.new.rows.entries) }
+    /// Adds what an entry of this module declares, if its name is among those with a range.
+    fn add_entry(
+        &mut self,
+        ranged: &IndexSet<NameKey<'_>, NameHash>,
+        scope: u32,
+        bytes: &'a [u8],
+        entry: Entry,
+    ) -> Result<(), OutOfMemory>
+        ensures rows { OnOk result (AddsDeclared bytes.now (keys_in ranged.now.keys) scope entry self.old.rows.entries self.new.rows.entries) }
         ensures widest { OnOk result (self.new.widest ≡ widened entry self.old.widest) }
     {
         match entry {
             Entry::Declared(by, name, range) => {
                 self.widest = self.widest.max(whole_width(range));
-                self.add(scope, name.of(bytes), Declaration { by, range })
+                let text = name.of(bytes);
+                if is_among(ranged, scope, text) {
+                    self.add(scope, text, Declaration { by, range })
+                } else {
+                    Ok(())
+                }
             }
             _ => Ok(()),
         }
     }
 }
 
-/// How many entries declare a name.
-pub(crate) fn count_declared(entries: &[Entry]) -> usize {
-    let mut count = 0;
-    for entry in entries {
-        if matches!(entry, Entry::Declared(_, _, _)) {
-            count += 1;
-        }
-    }
-    count
-}
-
-/// Collects the first declarations of all names. It takes time in proportion to the bytes of the names.
-pub(crate) fn collect_declared<'a>(
+/// Collects the first declarations of the names of these keys.
+fn collect_first<'a>(
     alloc: Global,
+    ranged: &IndexSet<NameKey<'_>, NameHash>,
     bytes: &'a [u8],
     entries: &[Entry],
 ) -> Result<DeclaredNames<'a>, OutOfMemory>
     requires { length entries.now < 2 ^ 30 }
-    ensures rows { IfOk result (λ names. HoldsDeclared bytes.now entries.now (length entries.now) names.rows.entries) }
+    ensures rows { IfOk result (λ names. HoldsDeclared bytes.now entries.now (keys_in ranged.now.keys) (length entries.now) names.rows.entries) }
     ensures widest { IfOk result (λ names. BoundsWidths names.rows.entries names.widest) }
 {
-    let many = count_declared(entries);
+    let many = ranged.len();
     let mut names = DeclaredNames {
         rows: IndexMap::with_capacity_and_hasher(alloc, many, NameHash::default())?,
         widest: 1,
@@ -118,7 +165,22 @@ pub(crate) fn collect_declared<'a>(
     let mut scopes = Scopes::new();
     for (place, entry) in entries.iter().enumerate() {
         scopes = scopes.from(*entry);
-        names.add_entry(scopes.modules, bytes, *entry)?;
+        names.add_entry(ranged, scopes.modules, bytes, *entry)?;
     }
+    Ok(names)
+}
+
+/// Collects the first declarations of all names that are declared with a range. It takes time in proportion to the bytes of the names.
+pub(crate) fn collect_declared<'a>(
+    alloc: Global,
+    bytes: &'a [u8],
+    entries: &[Entry],
+) -> Result<DeclaredNames<'a>, OutOfMemory>
+    requires { length entries.now < 2 ^ 30 }
+    ensures rows { IfOk result (λ names. HoldsRanged bytes.now entries.now names.rows.entries) }
+    ensures widest { IfOk result (λ names. BoundsWidths names.rows.entries names.widest) }
+{
+    let ranged = collect_ranged(alloc, bytes, entries)?;
+    let names = collect_first(alloc, &ranged, bytes, entries)?;
     Ok(names)
 }

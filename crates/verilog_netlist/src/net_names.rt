@@ -7,7 +7,7 @@ ghost use Rattle.verilog_netlist.specs.ModuleNames.{is_in, direction_by, way_of,
 ghost use Rattle.verilog_netlist.specs.PartPlaces.{ArePlaces};
 ghost use Rattle.verilog_netlist.specs.NameRows.{AreNetNames, keys_of, noted, view_row, fresh, facts_in, joined_texts, text_number, AllDiffer, NotesEntry, AddsNames};
 
-use crate::declared::{Declaration, count_declared};
+use crate::declared::Declaration;
 use crate::entries::{Decl, Direction, Entry, Range};
 use crate::name_text::NameText;
 use crate::places::Places;
@@ -218,7 +218,8 @@ fn collect_texts<'a>(
     ensures numbers { IfOk result (λ texts. numbers.new.items
         ≡ numbers.old.items ++ map (text_number bytes.now (keys_of texts.keys)) entries.now) }
 {
-    let many = count_declared(entries);
+    // The table grows where a module has more names. To count them would take a pass of its own.
+    let many = entries.len() / 6;
     let mut texts = IndexSet::with_capacity_and_hasher(alloc, many, NameHash::default())?;
     add_texts(&mut texts, bytes, entries, Group::Headers)?;
     add_texts(&mut texts, bytes, entries, Group::Wires)?;

@@ -1,7 +1,7 @@
 //! Looks for bad ranges, selects, constants and connections.
 ghost use Rattle.std.specs.Prelude.{◌≡◌, ℕ, false, ◌^◌, ◌<◌, ◌≤◌, nat_lt, length, IfOk, IfSome};
 ghost use Rattle.verilog_netlist.specs.Ranges.{most_bits, width_of, has_large_bound, is_past, is_past_limits, is_wire, one_range, differ, is_bad_declaration, is_outside, declared_range, is_bad_bit, runs_against, is_bad_part, is_bad_width, whole_width, bits_of, joined_width, is_bad_entry, IsFirstBadRange};
-ghost use Rattle.verilog_netlist.specs.DeclaredNames.{found_in, HoldsDeclared, BoundsWidths, IsAtMost};
+ghost use Rattle.verilog_netlist.specs.DeclaredNames.{found_in, HoldsRanged, BoundsWidths, IsAtMost};
 
 use crate::declared::{Declaration, DeclaredNames, collect_declared};
 use crate::entries::{Decl, Entry, Range};
@@ -273,7 +273,7 @@ impl DeclaredNames<'_> {
     /// The place of the first entry that is bad.
     pub(crate) fn first_bad_range(&self, bytes: &[u8], entries: &[Entry]) -> Option<usize>
         requires few { length entries.now < 2 ^ 30 }
-        requires rows { HoldsDeclared bytes.now entries.now (length entries.now) self.now.rows.entries }
+        requires rows { HoldsRanged bytes.now entries.now self.now.rows.entries }
         requires widest { BoundsWidths self.now.rows.entries self.now.widest }
         ensures { IsFirstBadRange bytes.now entries.now result }
     {

@@ -90,7 +90,7 @@ impl Scopes {
 }
 
 /// Adds a name among others, and tells whether it was there.
-fn add_key<'a>(
+pub(crate) fn add_key<'a>(
     keys: &mut IndexSet<NameKey<'a>, NameHash>,
     among: Names,
     scopes: Scopes,
@@ -184,17 +184,6 @@ fn first_or(found: Option<usize>, place: usize, here: bool) -> Option<usize>
     }
 }
 
-/// How many entries have a name that must be new and is none of a port.
-fn count_names(entries: &[Entry]) -> usize {
-    let mut count = 0;
-    for entry in entries {
-        if matches!(entry.own_names(), Some(among) if !is_ports(among)) {
-            count += 1;
-        }
-    }
-    count
-}
-
 /// Collects all names. It takes time in proportion to the bytes of the names.
 pub(crate) fn collect_names<'a>(
     alloc: Global,
@@ -205,7 +194,8 @@ pub(crate) fn collect_names<'a>(
     ensures repeated { IfOk result (λ table. IsFirstRepeated bytes.now entries.now table.repeated) }
     ensures keys { IfOk result (λ table. HoldsNames bytes.now entries.now (length entries.now) (keys_in table.keys.keys)) }
 {
-    let many = count_names(entries);
+    // The table grows where the entries have more names. To count them would take a pass of its own.
+    let many = entries.len() / 4;
     let mut names = NamesSoFar {
         keys: IndexSet::with_capacity_and_hasher(alloc, many, NameHash::default())?,
         ports: PortNames::new(alloc),

@@ -7,7 +7,7 @@ use Rattle.verilog_netlist.specs.declared.namespaces.Names.TheVariants as names
 use Rattle.verilog_netlist.specs.declared.repeats.Scopes.{Scopes}
 use Rattle.verilog_netlist.proofs.Finding.{not_here_too}
 use Rattle.verilog_netlist.proofs.Repeating.{Counts, count_on, scope_is, no_entry, stands_at, itself_at, within_list}
-use Rattle.verilog_netlist.proofs.Ranging.{decides_bad, finds}
+use Rattle.verilog_netlist.proofs.Ranging.{decides_bad}
 use Rattle.verilog_netlist.proofs.declared.DeclaredNames.first_bad_range.Goals as goal
 
 pub returns-then-is_bad : goal.returns-then-is_bad
@@ -19,7 +19,7 @@ returns-then-is_bad c =
     let here = itself_at entries place c.loop-place-test.true in
     let in_module = ap (λ (s : Scopes). s.modules) c.from-scopes.ensures ∙ scope_is entries place c.loop-place.scopes c.loop-place.invariant.0 e c.loop-place-test.true here names.Wires in
     let f = λ (name : List ℕ). row_at c.args.self.now.rows.entries (declared_key c.from-scopes.result.modules name) in
-    let tells = decides_bad bytes entries place e f (stands_at entries place c.loop-place-test.true) (finds bytes entries place c.from-scopes.result.modules c.args.self.now.rows.entries in_module c.requires.rows) in
+    let tells = decides_bad bytes entries place e c.args.self.now.rows.entries c.requires.rows c.from-scopes.result.modules c.loop-place-test.true in_module (stands_at entries place c.loop-place-test.true) in
     let is = ap (λ (l : List Entry). is_bad_entry bytes f l e) (sym c.split_at.ensures.back) ∙ sym c.is_bad-is_bad.ensures ∙ c.if-is_bad.true in
     (tells.0 is, c.loop-place.invariant.1)
 
@@ -33,7 +33,7 @@ loop-place-preserved c =
     let counts = c.loop-place.invariant.0 in
     let in_module = ap (λ (s : Scopes). s.modules) c.from-scopes.ensures ∙ scope_is entries place c.loop-place.scopes counts e c.loop-place-test.true here names.Wires in
     let f = λ (name : List ℕ). row_at c.args.self.now.rows.entries (declared_key c.from-scopes.result.modules name) in
-    let tells = decides_bad bytes entries place e f (stands_at entries place c.loop-place-test.true) (finds bytes entries place c.from-scopes.result.modules c.args.self.now.rows.entries in_module c.requires.rows) in
+    let tells = decides_bad bytes entries place e c.args.self.now.rows.entries c.requires.rows c.from-scopes.result.modules c.loop-place-test.true in_module (stands_at entries place c.loop-place-test.true) in
     let is = ap (λ (l : List Entry). is_bad_entry bytes f l e) (sym c.split_at.ensures.back) ∙ sym c.is_bad-is_bad.ensures ∙ c.if-is_bad.false in (
       subst (λ (s : Scopes). Counts entries (place + 1) s) (sym c.from-scopes.ensures) (count_on entries place c.loop-place.scopes counts e c.loop-place-test.true here),
       not_here_too (IsBadRange bytes entries) place c.loop-place.invariant.1 (λ r. true≢false (sym (tells.1 r) ∙ is)),

@@ -1,7 +1,0 @@
--- The first declarations so far, and the most bits of one.
-use Rattle.verilog_netlist.specs.DeclaredNames.{HoldsDeclared, BoundsWidths}
-use Rattle.verilog_netlist.proofs.Repeating.{Counts}
-use Rattle.verilog_netlist.proofs.declared.collect_declared.Given as goal
-
-abbrev pub invariant-loop-place : goal.invariant-loop-place
-invariant-loop-place l = Counts l.entries l.place l.scopes × HoldsDeclared l.bytes l.entries l.place l.names.rows.entries × BoundsWidths l.names.rows.entries l.names.widest
