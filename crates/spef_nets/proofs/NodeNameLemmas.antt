@@ -1,13 +1,15 @@
 -- The names that are made of the tokens where nodes stand first.
-use Rattle.std.proofs.Common.{◌≡◌, ℕ, zero, suc, ◌<◌, List, [], ◌∷◌, ◌++◌, length, map, get_or, Option, Some, None, Result, Ok, Err, refl, sym, ap, ◌∙◌, subst, arith}
+use Rattle.std.proofs.Common.{◌≡◌, ℕ, zero, suc, ◌<◌, List, [], ◌∷◌, ◌++◌, length, map, true, get_or, Option, Some, None, Result, Ok, Err, refl, sym, ap, ◌∙◌, subst, arith}
 use Rattle.std.specs.Prelude.{All, slice_get, slice_index, option_to_list, OnOk, OnErr}
 use Rattle.std.proofs.lemmas.Grind.{flat_map-append}
 use Rattle.std.proofs.lemmas.List.Elements.{All-push}
 use Rattle.name_table.specs.declared.spef_names.NodeName.{NodeName}
 use Rattle.spef_text.specs.SpefFiles.{SpefText}
-use Rattle.spef_text.specs.Heads.{HeadText}
+use Rattle.spef_text.specs.Heads.{HeadText, text_of}
+use Rattle.spef_text.specs.References.{IsNodeOf}
 use Rattle.spef_nets.specs.Nodes.{node_at, nodes_at}
 use Rattle.spef_nets.specs.NodeNames.{SpelledNodes, NamesOne, NameNodes, AreSpelled}
+use Rattle.spef_nets.proofs.Naming.{resolved_node}
 
 names_later : (file : SpefText) (token : ℕ) (tokens : List ℕ) → All (NamesOne file) (token ∷ tokens) → All (NamesOne file) tokens
 names_later file token tokens all k d within = all (suc k) d (omega (arith, within))
@@ -23,12 +25,18 @@ as_many_names file (token ∷ tokens) all =
     ap length (nodes_first file token tokens node is) ∙ ap suc (as_many_names file tokens (names_later file token tokens all))
 
 -- and each stands at its token's place
-pub name_there : (file : SpefText) (tokens : List ℕ) (i : ℕ) (name : NodeName) → All (NamesOne file) tokens → i < length tokens → node_at file (slice_index tokens i) ≡ Some name → slice_get (nodes_at file tokens) i ≡ Some name
+name_there : (file : SpefText) (tokens : List ℕ) (i : ℕ) (name : NodeName) → All (NamesOne file) tokens → i < length tokens → node_at file (slice_index tokens i) ≡ Some name → slice_get (nodes_at file tokens) i ≡ Some name
 name_there file [] i name all within is = absurd (omega (arith, within))
 name_there file (token ∷ tokens) zero name all within is = ap (λ nodes. slice_get nodes 0) (nodes_first file token tokens name is)
 name_there file (token ∷ tokens) (suc i) name all within is =
     let (node, first) = all 0 0 (omega (arith)) in
     ap (λ nodes. slice_get nodes (suc i)) (nodes_first file token tokens node first) ∙ name_there file tokens i name (names_later file token tokens all) (omega (arith, within)) is
+
+-- so does the node that a token resolves to
+pub resolved_there : (file : SpefText) (head : HeadText) (tokens : List ℕ) (i : ℕ) (node : NodeName) → AreSpelled file head tokens → i < length tokens → IsNodeOf file true (text_of file (slice_index tokens i)) node
+    → slice_get (nodes_at file tokens) i ≡ Some node
+resolved_there file head tokens i node spelled within is =
+    name_there file tokens i node spelled.each within (resolved_node file head (slice_index tokens i) node spelled.head_of_file is)
 
 pub nothing_named : {P : Type 0} (node : NodeName) → None ≡ Some node → P
 nothing_named node e = absurd (cc)

@@ -1,8 +1,8 @@
 use Rattle.std.proofs.Common.{sym, subst, ◌∙◌}
 use Rattle.std.specs.Prelude.{slice_index}
 use Rattle.spef_text.specs.References.{IsResolveEnd}
-use Rattle.spef_nets.proofs.Naming.{resolved_node, refused_node}
-use Rattle.spef_nets.proofs.NodeNameLemmas.{name_there, nothing_named}
+use Rattle.spef_nets.proofs.Naming.{refused_node}
+use Rattle.spef_nets.proofs.NodeNameLemmas.{resolved_there, nothing_named}
 use Rattle.spef_nets.proofs.node_names.NodeNames.name.Goals as goal
 
 -- src/node_names.rt
@@ -16,7 +16,4 @@ unreachable-requires c =
 
 pub returns-in-Ok : goal.returns-in-Ok
 returns-in-Ok c =
-    let file = c.args.self.now.file.now in
-    let token = slice_index c.args.self.now.tokens.now c.args.node in
-    name_there file c.args.self.now.tokens.now c.args.node c.in-Ok.name c.requires.spelled.each c.requires.within
-    (resolved_node file c.args.self.now.head.now token c.in-Ok.name c.requires.spelled.head_of_file c.in-Ok.ensures.named)
+    resolved_there c.args.self.now.file.now c.args.self.now.head.now c.args.self.now.tokens.now c.args.node c.in-Ok.name c.requires.spelled c.requires.within c.in-Ok.ensures.named
