@@ -1,5 +1,5 @@
 -- The names that are made of the tokens where nodes stand first.
-use Rattle.std.proofs.Common.{◌≡◌, ℕ, zero, suc, ◌<◌, List, [], ◌∷◌, ◌++◌, length, map, true, get_or, Option, Some, None, Result, Ok, Err, refl, sym, ap, ◌∙◌, subst, arith}
+use Rattle.std.proofs.Common.{◌≡◌, ℕ, zero, suc, ◌<◌, List, [], ◌∷◌, ◌++◌, length, map, true, Option, Some, None, Result, Ok, Err, refl, sym, ap, ◌∙◌, subst, arith}
 use Rattle.std.specs.Prelude.{All, slice_get, slice_index, option_to_list, OnOk, OnErr}
 use Rattle.std.proofs.lemmas.Grind.{flat_map-append}
 use Rattle.std.proofs.lemmas.List.Elements.{All-push}
@@ -9,6 +9,7 @@ use Rattle.spef_text.specs.Heads.{HeadText, text_of}
 use Rattle.spef_text.specs.References.{IsNodeOf}
 use Rattle.spef_nets.specs.Nodes.{node_at, nodes_at}
 use Rattle.spef_nets.specs.NodeNames.{SpelledNodes, NamesOne, NameNodes, AreSpelled}
+use Rattle.spef_nets.proofs.Lists.{map_at}
 use Rattle.spef_nets.proofs.Naming.{resolved_node}
 
 names_later : (file : SpefText) (token : ℕ) (tokens : List ℕ) → All (NamesOne file) (token ∷ tokens) → All (NamesOne file) tokens
@@ -58,10 +59,10 @@ one_more_name file old new token node (Ok x) names ok =
     ap (nodes_at file) ok ∙ flat_map-append (λ (at : ℕ). option_to_list (node_at file at)) old (token ∷ []) ∙ ap (λ l. nodes_at file old ++ l) (nodes_first file token [] node names)
 
 -- the token of a spelling whose name is known
-pub token_named : (file : SpefText) (tokens : List ℕ) (i token other : ℕ) (node : NodeName) → slice_get (map (node_at file) tokens) i ≡ Some (Some node) → token ≡ get_or tokens i other → node_at file token ≡ Some node
-token_named file [] i token other node named at = absurd (cc)
-token_named file (first ∷ tokens) zero token other node named at = let is : node_at file first ≡ Some node = cc in ap (node_at file) at ∙ is
-token_named file (first ∷ tokens) (suc i) token other node named at = token_named file tokens i token other node named at
+pub token_named : (file : SpefText) (tokens : List ℕ) (i token : ℕ) (node : NodeName) → slice_get (map (node_at file) tokens) i ≡ Some (Some node) → slice_get tokens i ≡ Some token → node_at file token ≡ Some node
+token_named file tokens i token node named at =
+    let is : Some (node_at file token) ≡ Some (Some node) = sym (map_at (node_at file) tokens i token at) ∙ named in
+    cc
 
 -- nodes that the tokens name, by an equal record
 pub same_tokens : (file : SpefText) (nodes : List NodeName) (spelled : SpelledNodes) (tokens : List ℕ) → spelled ≡ record { file = file; nodes = nodes } → NameNodes spelled.file tokens → NameNodes file tokens

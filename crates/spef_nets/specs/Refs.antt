@@ -162,6 +162,10 @@ abbrev pub IsRef : SpefText → List (List ℕ) → ℕ → Option ℕ → Type 
 IsRef file words token None = named file true (text_of file token) ≡ None
 IsRef file words token (Some number) = slice_get words number ≡ Some (text_of file token)
 
+-- the words at tokens
+abbrev pub words_at : SpefText → List ℕ → List (List ℕ)
+words_at file tokens = map (text_of file) tokens
+
 -- more words were put behind those that stood
 abbrev pub Grows : List (List ℕ) → List (List ℕ) → Type 0
 Grows old new = (more : List (List ℕ)) × (new ≡ old ++ more)

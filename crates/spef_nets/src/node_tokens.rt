@@ -58,6 +58,13 @@ impl<'r, 'f> NodeTokens<'r, 'f> {
         push_token(&mut self.tokens, token)
     }
 
+    /// The file.
+    pub fn file(&self) -> &'r SpefFile<'f>
+        ensures { result.now ≡ self.now.file }
+    {
+        self.file
+    }
+
     /// How many nodes there are.
     pub fn len(&self) -> usize
         ensures { result ≡ length self.now.nodes }

@@ -1,7 +1,7 @@
 //! The nodes that a section refers to, and which of them belong to it.
 ghost use Rattle.std.specs.Prelude.{◌≡◌, ◌<◌, false, [], ◌∷◌, ◌++◌, length, slice_get, Some, None, IfOk, OnOk, IfSome};
 ghost use Rattle.name_table.specs.declared.spef_names.NodeName.{NodeName};
-ghost use Rattle.spef_text.specs.Heads.{IsHeadOf};
+ghost use Rattle.spef_text.specs.Heads.{IsHeadOf, text_of};
 ghost use Rattle.spef_nets.specs.Nodes.{node_at};
 ghost use Rattle.spef_nets.specs.NodeKeys.{IsKeyAt};
 ghost use Rattle.spef_nets.specs.Refs.{no_refs, ArePlaced, IsNamed, IsFound, Belongs, Joins, Lists, Numbers};
@@ -21,9 +21,8 @@ use std::alloc::Global;
 /// The lists of the references of a section, which are used again for the next one. What they hold then does not count.
 #[derive(Drop)]
 pub struct RefLists<'r> {
-    words: Spellings<'r>,
+    words: Spellings,
     places: Vec<u32>,
-    tokens: Vec<u32>,
     table: NodeTable<'r>,
     marks: Vec<Mark>,
     latest: Vec<u32>,
@@ -35,7 +34,6 @@ impl<'r> RefLists<'r> {
         RefLists {
             words: Spellings::new(alloc),
             places: Vec::new(alloc),
-            tokens: Vec::new(alloc),
             table: NodeTable::new(alloc),
             marks: Vec::new(alloc),
             latest: Vec::new(alloc),
@@ -46,10 +44,10 @@ impl<'r> RefLists<'r> {
 /// The spellings that stand in a section, and the nodes that they name, also those that do not belong to it.
 #[derive(Drop)]
 pub struct Referred<'r, 'f> {
-    words: Spellings<'r>,
-    // of each spelling the place of its node, and the token where it stands first
+    // by the tokens of the file of the nodes
+    words: Spellings,
+    // of each spelling the place of its node
     places: Vec<u32>,
-    tokens: Vec<u32>,
     table: NodeTable<'r>,
     // of each node
     marks: Vec<Mark>,
@@ -73,7 +71,6 @@ impl<'r, 'f> Referred<'r, 'f> {
         let RefLists {
             words,
             places,
-            tokens,
             table,
             marks,
             latest,
@@ -81,7 +78,6 @@ impl<'r, 'f> Referred<'r, 'f> {
         Referred {
             words,
             places,
-            tokens,
             table,
             marks,
             latest,
@@ -97,7 +93,6 @@ impl<'r, 'f> Referred<'r, 'f> {
         self.table.empty(alloc, nodes)?;
         self.nodes.empty(nodes)?;
         empty(&mut self.places, nodes)?;
-        empty(&mut self.tokens, nodes)?;
         empty(&mut self.marks, nodes)?;
         empty(&mut self.latest, nodes)?;
         Ok(())
@@ -108,19 +103,20 @@ impl<'r, 'f> Referred<'r, 'f> {
         ensures found { IfSome result (λ number. slice_get (refs_of self.old).words number ≡ Some word.now) }
         ensures same { refs_of self.new ≡ refs_of self.old }
     {
-        self.words.find(word)
+        self.words.find(self.nodes.file(), word)
     }
 
     /// The number of a spelling, which is that of a token: its own where the node that it names was spelled so last, and else that of a
     /// new last one. This is the key of the node.
     pub fn put(
         &mut self,
-        word: &'r [u8],
+        word: &[u8],
         token: u64,
         key: NodeKey<'r>,
         net: &Text,
     ) -> Result<usize, OutOfMemory>
         requires marked { length (refs_of self.old).marks ≡ length (refs_of self.old).keys }
+        requires word { word.now ≡ text_of (refs_of self.old).file token }
         requires key { IsKeyAt (refs_of self.old).file token (Some key) }
         ensures { (node : NodeName) → node_at (refs_of self.old).file token ≡ Some node
             → IfOk result (IsFound net.now (refs_of self.old) (refs_of self.new) word.now node) }
@@ -134,8 +130,7 @@ impl<'r, 'f> Referred<'r, 'f> {
         mark_new(&mut self.marks, place, belongs)?;
         mark_latest(&mut self.latest, place, to_u32(spelling)?)?;
         push(&mut self.places, to_u32(place)?)?;
-        push(&mut self.tokens, to_u32(token as usize)?)?;
-        self.words.add(word)?;
+        self.words.add(to_u32(token as usize)?)?;
         Ok(spelling)
     }
 
@@ -149,7 +144,7 @@ impl<'r, 'f> Referred<'r, 'f> {
             return None;
         }
         let spelling = *self.latest.get(place)? as usize;
-        if self.words.find_at(spelling, word) {
+        if self.words.find_at(self.nodes.file(), spelling, word) {
             Some(spelling)
         } else {
             None
@@ -229,7 +224,7 @@ impl<'r, 'f> Referred<'r, 'f> {
             Some(number) => Ok(number),
             None => {
                 let number = to_u32(self.nodes.len())?;
-                self.nodes.push(self.tokens[spelling])?;
+                self.nodes.push(self.words.token(spelling))?;
                 self.marks[place] = Mark {
                     listed: mark.listed,
                     belongs: mark.belongs,
@@ -248,7 +243,6 @@ impl<'r, 'f> Referred<'r, 'f> {
         let Referred {
             words,
             places,
-            tokens,
             table,
             marks,
             latest,
@@ -258,7 +252,6 @@ impl<'r, 'f> Referred<'r, 'f> {
             *lists = RefLists {
                 words,
                 places,
-                tokens,
                 table,
                 marks,
                 latest,

@@ -21,6 +21,9 @@ file_is c = ap (λ (r : Refs). r.file) c.find.ensures.same ∙ c.requires.refs.2
 key_is : (c : goal.After-put-arg-1) → IsKeyAt c.args.self.now.file.now c.args.token (Some c.in-Some-2.key)
 key_is c = subst (IsKeyAt c.args.self.now.file.now c.args.token) c.in-Some-2.is c.in_ok-key-in-None.ensures
 
+pub put-requires-clause-word : goal.put-requires-clause-word
+put-requires-clause-word c = c.text_of-word.ensures ∙ ap (λ (file : SpefText). text_of file c.args.token) (sym (file_is c))
+
 pub put-requires-clause-key : goal.put-requires-clause-key
 put-requires-clause-key c = subst (λ (file : SpefText). IsKeyAt file c.args.token (Some c.in-Some-2.key)) (sym (file_is c)) (key_is c)
 
