@@ -21,3 +21,7 @@ pub mod Lasting
 pub mod Pushing
 pub mod Opening
 pub mod Ending
+pub mod Placing
+pub mod Beginning
+pub mod Feeding
+pub mod Pieces

@@ -14,7 +14,7 @@ pub record WordSoFar (whole : List ℕ) (opened unclosed place : ℕ) : Type 0 w
 pub word_begins : (whole : List ℕ) (opened : ℕ) → opened ≤ 1 → WordSoFar whole opened opened 0
 word_begins whole opened le = record { within = omega arith; bound = omega arith; so_far = omega arith }
 
-word_step : (opened b : ℕ) (rest : List ℕ) → word_length opened (b ∷ rest) ≡ cond (goes_on opened b rest) (word_length (opened_behind opened b) rest + 1) 0
+pub word_step : (opened b : ℕ) (rest : List ℕ) → word_length opened (b ∷ rest) ≡ cond (goes_on opened b rest) (word_length (opened_behind opened b) rest + 1) 0
 unfolding word_length
 word_step opened b rest = refl
 

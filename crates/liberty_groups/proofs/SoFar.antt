@@ -1,5 +1,5 @@
 -- What the reader makes of the parts, the bytes say.
-use Rattle.std.proofs.Common.{◌≡◌, ℕ, zero, suc, ◌+◌, ◌-◌, ◌≤◌, false, ◌||◌, List, [], ◌∷◌, ◌++◌, length, Option, Some, None, Result, Ok, Err, refl, sym, ap, ◌∙◌, subst, arith, append-nil}
+use Rattle.std.proofs.Common.{◌≡◌, ℕ, ◌+◌, ◌-◌, ◌≤◌, false, ◌||◌, List, [], ◌∷◌, ◌++◌, length, Option, Some, None, Result, Ok, Err, refl, sym, ap, ◌∙◌, subst, arith, append-nil}
 use Rattle.std.specs.Prelude.{⊤}
 use Rattle.token_fronts.specs.Machine.{Stop, outcome}
 use Rattle.token_fronts.specs.ReadingLaw.{says_made, leaves_where_stopped, one_reading}
@@ -8,9 +8,7 @@ use Rattle.token_texts.specs.Cuts.{Part, gap, token, lexemes, byte_count, place_
 use Rattle.token_texts.specs.CutLemmas.{parts_fill}
 use Rattle.token_texts.specs.Leading as leading
 use Rattle.token_texts.specs.Leading.{leads_on, leads_to_stop, leads_to_value, leads_to_end}
-use Rattle.token_texts.specs.Readings.{IsNext, Follows, OnTaken, MakesParts, StopsParts, IfRefused}
-use Rattle.token_texts.specs.declared.reading.ReadEnd.{ReadEnd}
-use Rattle.token_texts.specs.declared.reading.ReadEnd.TheVariants.{Refused}
+use Rattle.token_texts.specs.Readings.{IsNext, Follows, OnTaken, MakesParts, StopsParts}
 use Rattle.liberty_groups.specs.Tokens.{Lexeme, breaks, cut_at, tokens_from, tokens_of, AreTokens, IsToken, line_at}
 use Rattle.liberty_groups.specs.Groups.{Group}
 use Rattle.liberty_groups.specs.Grammar.{IsLiberty}
@@ -56,34 +54,13 @@ fault_of bytes tokens stop line parted e at =
 pub says : {bytes : List ℕ} {tree : Tables} → MakesParts cut_at Makes bytes tree → SaysTree bytes (tree_of tree)
 says {bytes} {tree} h = says_tree bytes (tokens_of h.parts) (tree_of tree) (record { parts = h.parts; parted = h.parted; are = refl }) h.made
 
-is_fault : {bytes : List ℕ} {number start : ℕ} {cause : Cause} → StopsParts cut_at Stops bytes number start cause → IsFault bytes (record { token = number; line = line_at bytes start; cause = cause })
+pub is_fault : {bytes : List ℕ} {number start : ℕ} {cause : Cause} → StopsParts cut_at Stops bytes number start cause → IsFault bytes (record { token = number; line = line_at bytes start; cause = cause })
 is_fault {bytes} {number} {start} {cause} h =
     let stop = h.stops in
     let full : 0 + byte_count h.parts ≡ length bytes = let filled = parts_fill h.parted in omega arith in
     let there : place_of bytes (token_at (tokens_of h.parts) number) ≡ 0 + place_behind (number - 1) h.parts = begins_there bytes 0 false h.parts (number - 1) full in
     let begins : start ≡ place_of bytes (token_at (tokens_of h.parts) number) = let place = h.place in omega arith in
     fault_of bytes (tokens_of h.parts) (record { number = number; state = stop.0; cause = cause }) (line_at bytes start) (record { parts = h.parts; parted = h.parted; are = refl }) stop.1 (ap (line_at bytes) begins)
-
-abbrev pub IfStops : List ℕ → ReadEnd Cause → Type 0
-IfStops bytes end = IfRefused {A = Tables} (Err end) (StopsParts cut_at Stops bytes)
-
-pub refused : {bytes : List ℕ} {number start : ℕ} {cause : Cause} (end : ReadEnd Cause) → end ≡ Refused number start cause → IfStops bytes end → IsFault bytes (record { token = number; line = line_at bytes start; cause = cause })
-refused {bytes} end is h = is_fault (subst (IfStops bytes) is h)
-
--- what is refused begins in the file
-before_end : {K : Type 0} (count : ℕ) (parts : List (Part K)) → place_behind count parts ≤ byte_count parts
-before_end count [] = omega arith
-before_end count (gap bytes ∷ parts) = let rest = before_end count parts in omega arith
-before_end zero (token t ∷ parts) = omega arith
-before_end (suc count) (token t ∷ parts) = let rest = before_end count parts in omega arith
-
-pub within : (bytes : List ℕ) {number start : ℕ} {cause : Cause} (end : ReadEnd Cause) → end ≡ Refused number start cause → IfStops bytes end → start ≤ length bytes
-within bytes {number} {start} {cause} end is h =
-    let stops : StopsParts cut_at Stops bytes number start cause = subst (IfStops bytes) is h in
-    let place = stops.place in
-    let full : byte_count stops.parts ≡ length bytes = parts_fill stops.parted in
-    let below = before_end (number - 1) stops.parts in
-    omega arith
 
 -- bytes say one tree at most
 pub one_tree : (bytes : List ℕ) (some other : Group) → SaysTree bytes some → SaysTree bytes other → some ≡ other

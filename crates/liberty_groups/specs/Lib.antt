@@ -15,3 +15,6 @@ pub mod Opened
 pub mod Built
 pub mod Within
 pub mod Leading
+pub mod Places
+pub mod Scanning
+pub mod Feeding

@@ -5,11 +5,14 @@
 mod builder;
 mod events;
 mod faults;
+mod feeder;
 mod filling;
 mod flat;
 mod laws;
 mod modes;
 mod parsing;
+mod places;
+mod progress;
 mod reader;
 mod rows;
 mod scan;

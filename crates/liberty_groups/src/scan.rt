@@ -50,7 +50,7 @@ pub(crate) fn continuation(rest: &[u8]) -> usize
 
 /// The kind of a mark.
 #[inline]
-fn mark_of(byte: u8) -> Option<Kind>
+pub(crate) fn mark_of(byte: u8) -> Option<Kind>
     ensures { result ≡ mark_of byte }
 {
     match byte {
@@ -74,7 +74,7 @@ fn is_mark(byte: u8) -> bool
 
 /// The bytes 33 to 126 but a quote and a backslash.
 #[inline]
-fn is_plain(byte: u8) -> bool
+pub(crate) fn is_plain(byte: u8) -> bool
     ensures { result ≡ is_plain byte }
 {
     byte >= 33 && byte <= 126 && !(byte == b'"') && !(byte == b'\\')
@@ -110,7 +110,7 @@ fn begins_comment(byte: u8, rest: &[u8]) -> bool
 
 /// Whether a word goes on with this byte, where so many `[` are not closed.
 #[inline]
-fn goes_on(opened: usize, byte: u8, rest: &[u8]) -> bool
+pub(crate) fn goes_on(opened: usize, byte: u8, rest: &[u8]) -> bool
     ensures { result ≡ goes_on opened byte rest.now }
 {
     is_plain(byte) && !begins_comment(byte, rest) && (!is_mark(byte) || byte == b':' && opened > 0)
@@ -118,7 +118,7 @@ fn goes_on(opened: usize, byte: u8, rest: &[u8]) -> bool
 
 /// How many `[` are not closed behind this byte.
 #[inline]
-fn opened_behind(opened: usize, byte: u8) -> usize
+pub(crate) fn opened_behind(opened: usize, byte: u8) -> usize
     requires { opened < 2 ^ 33 }
     ensures { result ≡ opened_behind opened byte }
 {
