@@ -1,11 +1,12 @@
 -- The names of a module, one more at a time.
-use Rattle.std.proofs.Common.{◌≡◌, ℕ, suc, ◌+◌, ◌-◌, ◌<◌, ◌≤◌, Bool, true, false, not, ◌||◌, nat_lt, inl, inr, List, [], ◌∷◌, ◌++◌, length, filter, get_or, set, map, Option, Some, None, refl, sym, ap, ap₂, ◌∙◌, subst, arith, cond, if◌then◌else◌, true≢false}
-use Rattle.std.specs.Prelude.{⊤}
+use Rattle.std.proofs.Common.{◌≡◌, ℕ, zero, suc, ◌+◌, ◌-◌, ◌<◌, ◌≤◌, Bool, true, false, not, ◌||◌, nat_lt, inl, inr, List, [], ◌∷◌, ◌++◌, length, filter, get_or, set, map, Option, Some, None, refl, sym, ap, ap₂, ◌∙◌, subst, arith, cond, if◌then◌else◌, true≢false}
+use Rattle.std.specs.Prelude.{⊤, slice_get}
 use Rattle.std.specs.List.{list_any, position, position_or_len}
 use Rattle.std.specs.Option.{option_or}
 use Rattle.std.specs.Str.{bytes_eq}
 use Rattle.std.proofs.lemmas.List.{append_assoc, map-append, map-set, get_or-map, set-append_right, length-map, get_or-append-add}
 use Rattle.std.proofs.lemmas.List.Elements.{filter-append}
+use Rattle.std.proofs.lemmas.Option.{slice_get_within}
 use Rattle.std.proofs.lemmas.List.Sums.{fold-append}
 use Rattle.std.proofs.lemmas.List.Folds.{list_any-append}
 use Rattle.std.proofs.lemmas.Slice.Eq.{bytes_eq-Decides}
@@ -199,6 +200,38 @@ module _ (bytes : List ℕ) (items : List Entry) (texts : List (List ℕ)) (d : 
   entry_noted (Bit name place) old new h notes = nothing_noted (Bit name place) (λ t. refl) (λ t. refl) new (notes ∙ h)
   entry_noted (Part name bounds) old new h notes = nothing_noted (Part name bounds) (λ t. refl) (λ t. refl) new (notes ∙ h)
   entry_noted (Constant token) old new h notes = nothing_noted (Constant token) (λ t. refl) (λ t. refl) new (notes ∙ h)
+
+-- a text that stands at this place is found there, since all texts differ
+any_there : (text : List ℕ) (keys : List NameText) (n : ℕ) (other : NameText) → slice_get keys n ≡ Some other → bytes_eq text other.bytes.now ≡ true → list_any (bytes_eq text) (keys_of keys) ≡ true
+any_there text [] n other stands is = absurd (cc)
+any_there text (key ∷ keys) zero other stands is =
+    let same : key ≡ other = cc in
+    or_left (bytes_eq text key.bytes.now) (list_any (bytes_eq text) (keys_of keys)) (ap (λ (k : NameText). bytes_eq text k.bytes.now) same ∙ is)
+any_there text (key ∷ keys) (suc n) other stands is =
+    ap (λ (b : Bool). bytes_eq text key.bytes.now || b) (any_there text keys n other stands is) ∙ or_true (bytes_eq text key.bytes.now)
+
+stands_first : (text : List ℕ) (keys : List NameText) (n : ℕ) (other : NameText) → AllDiffer (keys_of keys) → slice_get keys n ≡ Some other → bytes_eq text other.bytes.now ≡ true
+    → position_or_len (λ key. bytes_eq text key.bytes.now) keys ≡ n
+stands_first text [] n other d stands is = absurd (cc)
+stands_first text (key ∷ keys) zero other d stands is =
+    let same : key ≡ other = cc in
+    ap (λ (b : Bool). cond (not b) (1 + position_or_len (λ k. bytes_eq text k.bytes.now) keys) 0) (ap (λ (k : NameText). bytes_eq text k.bytes.now) same ∙ is)
+stands_first text (key ∷ keys) (suc n) other d stands is = by (bytes_eq text key.bytes.now) refl (stands_first text keys n other d.1 stands is)
+  where
+    by : (b : Bool) → bytes_eq text key.bytes.now ≡ b → position_or_len (λ k. bytes_eq text k.bytes.now) keys ≡ n
+        → cond (not (bytes_eq text key.bytes.now)) (1 + position_or_len (λ k. bytes_eq text k.bytes.now) keys) 0 ≡ suc n
+    by true here more =
+        let same : text ≡ key.bytes.now = (bytes_eq-Decides text key.bytes.now).0 here in
+        absurd (true≢false (sym (any_there key.bytes.now keys n other stands (ap (λ (t : List ℕ). bytes_eq t other.bytes.now) (sym same) ∙ is)) ∙ d.0))
+    by false here more =
+        ap (λ (b : Bool). cond (not b) (1 + position_or_len (λ k. bytes_eq text k.bytes.now) keys) 0) here
+        ∙ (let e : 1 + position_or_len (λ k. bytes_eq text k.bytes.now) keys ≡ suc n = omega arith in e)
+
+pub found_there : (text : List ℕ) (keys : List NameText) (n : ℕ) (other : NameText) → AllDiffer (keys_of keys) → slice_get keys n ≡ Some other → bytes_eq text other.bytes.now ≡ true
+    → Some n ≡ position (λ key. bytes_eq text key.bytes.now) keys
+found_there text keys n other d stands is =
+    sym (ap (λ (at : ℕ). cond (nat_lt at (length keys)) (Some at) None) (stands_first text keys n other d stands is)
+    ∙ ap (λ (b : Bool). cond b (Some n) None) (lt-ltb n (length keys) (slice_get_within keys n other stands)))
 
 -- what the set finds
 module _ (text : List ℕ) (keys : List NameText) (found : Option ℕ) (is : found ≡ position (λ other. bytes_eq text other.bytes.now) keys) where

@@ -1,5 +1,6 @@
 //! The names of each module: those of its header, then those that `wire` declares, then those that are joined to ports.
 ghost use Rattle.std.specs.Prelude.{◌≡◌, ℕ, ◌+◌, ◌<◌, ◌≤◌, ◌++◌, ◌∷◌, [], List, length, map, IfOk, OnOk};
+ghost use Rattle.std.specs.List.{position};
 ghost use Rattle.std.specs.Str.{bytes_eq};
 ghost use Rattle.indexmap.specs.IndexSet.{insert_all};
 ghost use Rattle.verilog_netlist.specs.Ranges.{declared_range};
@@ -11,8 +12,8 @@ use crate::declared::Declaration;
 use crate::entries::{Decl, Direction, Entry, Range};
 use crate::name_text::NameText;
 use crate::places::Places;
-use edge_io::OutOfMemory;
 use edge_io::lists::{push, refill, to_u32};
+use edge_io::{OutOfMemory, are_equal};
 use indexmap::IndexSet;
 use name_table::NameHash;
 use std::alloc::Global;
@@ -240,26 +241,43 @@ fn add_rows<'a>(
     Ok(())
 }
 
-/// Notes what an entry declares, in the row of its name. The rows of these names stand from `from` on.
+/// The number of a text among these. The place at which it may stand is looked at first: names are mostly declared in the order of
+/// their numbers, and the next one is found without a hash.
+#[inline]
+fn find_text(texts: &IndexSet<NameText<'_>, NameHash>, text: &[u8], guess: usize) -> Option<usize>
+    requires { AllDiffer (keys_of texts.now.keys) }
+    ensures { result ≡ position (λ other. bytes_eq text.now other.bytes.now) texts.now.keys }
+{
+    if let Some(other) = texts.get_index(guess) {
+        if are_equal(text, other.bytes) {
+            return Some(guess);
+        }
+    }
+    texts.get_index_of(&NameText { bytes: text })
+}
+
+/// Notes what an entry declares, in the row of its name. The rows of these names stand from `from` on. It answers the number that the
+/// next name to be noted may have.
 fn note(
     rows: &mut Vec<NameRow<'_>>,
     from: usize,
     texts: &IndexSet<NameText<'_>, NameHash>,
+    guess: usize,
     bytes: &[u8],
     entry: Entry,
-)
-    requires { from + length texts.now.keys ≡ length rows.old.items }
+) -> usize
+    requires rows { from + length texts.now.keys ≡ length rows.old.items }
+    requires texts { AllDiffer (keys_of texts.now.keys) }
     ensures { NotesEntry bytes.now (keys_of texts.now.keys) from entry (map view_row rows.old.items) (map view_row rows.new.items) }
 {
     if let Entry::Declared(by, name, range) = entry {
-        let text = NameText {
-            bytes: name.of(bytes),
-        };
-        if let Some(number) = texts.get_index_of(&text) {
+        if let Some(number) = find_text(texts, name.of(bytes), guess) {
             let row = rows[from + number];
             rows[from + number] = row.noted(Declaration { by, range });
+            return number + 1;
         }
     }
+    guess
 }
 
 /// Adds the rows of the names of a module, of which these are the entries.
@@ -276,8 +294,9 @@ fn add_module_rows<'a>(
     let from = rows.len();
     rows.reserve(texts.len())?;
     add_rows(rows, texts)?;
+    let mut guess = 0;
     for entry in entries {
-        note(rows, from, texts, bytes, *entry);
+        guess = note(rows, from, texts, guess, bytes, *entry);
     }
     Ok(())
 }

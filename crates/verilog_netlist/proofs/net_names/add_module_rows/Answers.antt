@@ -15,5 +15,5 @@ loop-entry-preserved c =
     let before : List Facts = map view_row c.args.rows.now.items in
     let from : length before ≡ c.len-from.result = length-map c.args.rows.now.items view_row ∙ sym c.args.rows.now.ok.0 ∙ sym c.len-from.ensures in
     let e : Entry = entry_at entries n in
-    entry_noted bytes (take n entries) (keys_of c.args.texts.now.keys) c.requires before c.len-from.result from e (map view_row c.loop-entry.rows.items) (map view_row c.note.new.rows.items) c.loop-entry.invariant c.note.ensures
+    entry_noted bytes (take n entries) (keys_of c.args.texts.now.keys) c.requires before c.len-from.result from e (map view_row c.loop-entry.rows.items) (map view_row c.note-guess.new.rows.items) c.loop-entry.invariant c.note-guess.ensures
     ∙ ap (λ (l : List Entry). before ++ map (facts_in bytes l) (keys_of c.args.texts.now.keys)) (sym (take_more entries n no_entry c.loop-entry-test.true))

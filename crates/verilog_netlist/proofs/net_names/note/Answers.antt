@@ -15,17 +15,17 @@ returns-in-Some c =
     let bytes : List ℕ = c.args.bytes.now in
     let texts : List (List ℕ) = keys_of c.args.texts.now.keys in
     let number : ℕ = c.in-Some.number in
-    let found = found_some c.of.result.now c.args.texts.now.keys c.get_index_of.result c.get_index_of.ensures.index number c.in-Some.is in
+    let found = found_some c.of.result.now c.args.texts.now.keys c.find_text.result c.find_text.ensures number c.in-Some.is in
     let place = subst (λ (t : List ℕ). (position_or_len (bytes_eq t) texts < length texts) × (number ≡ position_or_len (bytes_eq t) texts)) c.of.ensures found in
-    let within : c.args.from + number < length c.args.rows.now.items = let n = place.1 in let l = place.0 in let m = length-map c.args.texts.now.keys (λ (k : NameText). k.bytes.now) in let r = c.requires in omega arith in
+    let within : c.args.from + number < length c.args.rows.now.items = let n = place.1 in let l = place.0 in let m = length-map c.args.texts.now.keys (λ (k : NameText). k.bytes.now) in let r = c.requires.rows in omega arith in
     subst (λ (e : Entry). NotesEntry bytes texts c.args.from e (map view_row c.args.rows.now.items) (map view_row (set c.args.rows.now.items (c.args.from + number) c.noted.result))) (sym c.in-Declared.is)
     (row_noted texts c.args.from (text_at bytes c.in-Declared.name) (record { by = c.in-Declared.by; range = c.in-Declared.range }) c.args.rows.now.items number c.index-row.result.now c.noted.result within place c.index-row.ensures c.noted.ensures)
 
-pub returns-in_default-get_index_of : goal.returns-in_default-get_index_of
-returns-in_default-get_index_of c =
+pub returns-in_default-find_text : goal.returns-in_default-find_text
+returns-in_default-find_text c =
     let bytes : List ℕ = c.args.bytes.now in
     let texts : List (List ℕ) = keys_of c.args.texts.now.keys in
-    let none = found_none c.of.result.now c.args.texts.now.keys c.get_index_of.result c.get_index_of.ensures.index c.in_default-get_index_of.is in
+    let none = found_none c.of.result.now c.args.texts.now.keys c.find_text.result c.find_text.ensures c.in_default-find_text.is in
     let past = subst (λ (t : List ℕ). length texts ≤ position_or_len (bytes_eq t) texts) c.of.ensures none in
     subst (λ (e : Entry). NotesEntry bytes texts c.args.from e (map view_row c.args.rows.now.items) (map view_row c.args.rows.now.items)) (sym c.in-Declared.is)
     (none_noted texts c.args.from (text_at bytes c.in-Declared.name) (record { by = c.in-Declared.by; range = c.in-Declared.range }) c.args.rows.now.items past)
