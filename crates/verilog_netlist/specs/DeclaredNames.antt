@@ -31,7 +31,8 @@ AddsRow old new key declaration =
 
 -- the keys with that of a name which this entry of the module `here` declares with a range
 abbrev pub AddsRanged : List ℕ → ℕ → Entry → List Key → List Key → Type 0
-AddsRanged bytes here (Declared by name (Some bounds)) old new = (key : Key) → holds new key ≡ with_key (holds old) (declared_key here (text_at bytes name)) key
+AddsRanged bytes here (Declared by name (Some bounds)) old new =
+    (key : Key) → holds new key ≡ with_key (holds old) (declared_key here (text_at bytes name)) key
 AddsRanged bytes here _ old new = new ≡ old
 
 -- what is found of a name is kept, if the keys have that of the name
@@ -52,7 +53,8 @@ module _ (bytes : List ℕ) (entries : List Entry) where
 
   -- the first declarations among so many entries, of the names of these keys
   abbrev pub HoldsDeclared : List Key → ℕ → Rows → Type 0
-  HoldsDeclared keys n rows = (asked : ℕ) (name : List ℕ) → found_in rows asked name ≡ kept keys asked name (first_declared bytes entries asked name n)
+  HoldsDeclared keys n rows =
+      (asked : ℕ) (name : List ℕ) → found_in rows asked name ≡ kept keys asked name (first_declared bytes entries asked name n)
 
   -- the first declarations of all names that are declared with a range
   pub record HoldsRanged (rows : Rows) : Type 0 where

@@ -1,13 +1,13 @@
 //! The first declarations of the names that are declared with a range.
 ghost use Rattle.std.specs.Prelude.{◌≡◌, ◌^◌, ◌<◌, length, IfOk, OnOk};
 ghost use Rattle.verilog_netlist.specs.NameKeys.{key_in, keys_in, holds};
-ghost use Rattle.verilog_netlist.specs.DeclaredNames.{declared_key, found_in, widened, AddsRow, AddsRanged, AddsDeclared, CoversRanged, HoldsDeclared, HoldsRanged, BoundsWidths};
+ghost use Rattle.verilog_netlist.specs.DeclaredNames.{declared_key, found_in, widened, AddsRow, AddsDeclared, CoversRanged, HoldsRanged, BoundsWidths};
 
 use crate::entries::{Decl, Entry, Range};
 use crate::name_text::NameText;
 use crate::namespaces::Names;
 use crate::ranges::whole_width;
-use crate::repeats::{NameKey, Scopes, add_key, code_of};
+use crate::repeats::{NameKey, Scopes, code_of};
 use edge_io::OutOfMemory;
 use indexmap::{IndexMap, IndexSet};
 use name_table::NameHash;
@@ -39,42 +39,6 @@ fn declared_key(scope: u32, name: &[u8]) -> NameKey<'_>
         scope,
         name: NameText { bytes: name },
     }
-}
-
-/// Adds the name of an entry that declares it with a range.
-fn add_ranged<'a>(
-    ranged: &mut IndexSet<NameKey<'a>, NameHash>,
-    scopes: Scopes,
-    bytes: &'a [u8],
-    entry: Entry,
-) -> Result<(), OutOfMemory>
-    ensures { OnOk result (AddsRanged bytes.now scopes.modules entry (keys_in ranged.old.keys) (keys_in ranged.new.keys)) }
-{
-    match entry {
-        Entry::Declared(_, name, Some(_)) => {
-            add_key(ranged, Names::Wires, scopes, name.of(bytes))?;
-            Ok(())
-        }
-        _ => Ok(()),
-    }
-}
-
-/// Collects the names that are declared with a range.
-fn collect_ranged<'a>(
-    alloc: Global,
-    bytes: &'a [u8],
-    entries: &[Entry],
-) -> Result<IndexSet<NameKey<'a>, NameHash>, OutOfMemory>
-    requires { length entries.now < 2 ^ 30 }
-    ensures { IfOk result (λ ranged. CoversRanged bytes.now entries.now (length entries.now) (keys_in ranged.keys)) }
-{
-    let mut ranged = IndexSet::with_hasher(alloc, NameHash::default());
-    let mut scopes = Scopes::new();
-    for (place, entry) in entries.iter().enumerate() {
-        scopes = scopes.from(*entry);
-        add_ranged(&mut ranged, scopes, bytes, *entry)?;
-    }
-    Ok(ranged)
 }
 
 /// Whether a name of the module of this number is among these.
@@ -128,7 +92,8 @@ impl<'a> DeclaredNames<'a> {
         bytes: &'a [u8],
         entry: Entry,
     ) -> Result<(), OutOfMemory>
-        ensures rows { OnOk result (AddsDeclared bytes.now (keys_in ranged.now.keys) scope entry self.old.rows.entries self.new.rows.entries) }
+        ensures rows { OnOk result (AddsDeclared bytes.now (keys_in ranged.now.keys) scope entry
+            self.old.rows.entries self.new.rows.entries) }
         ensures widest { OnOk result (self.new.widest ≡ widened entry self.old.widest) }
     {
         match entry {
@@ -146,15 +111,16 @@ impl<'a> DeclaredNames<'a> {
     }
 }
 
-/// Collects the first declarations of the names of these keys.
-fn collect_first<'a>(
+/// Collects the first declarations of the names of these keys. It takes time in proportion to the bytes of the names.
+pub(crate) fn collect_declared<'a>(
     alloc: Global,
     ranged: &IndexSet<NameKey<'_>, NameHash>,
     bytes: &'a [u8],
     entries: &[Entry],
 ) -> Result<DeclaredNames<'a>, OutOfMemory>
-    requires { length entries.now < 2 ^ 30 }
-    ensures rows { IfOk result (λ names. HoldsDeclared bytes.now entries.now (keys_in ranged.now.keys) (length entries.now) names.rows.entries) }
+    requires few { length entries.now < 2 ^ 30 }
+    requires ranged { CoversRanged bytes.now entries.now (length entries.now) (keys_in ranged.now.keys) }
+    ensures rows { IfOk result (λ names. HoldsRanged bytes.now entries.now names.rows.entries) }
     ensures widest { IfOk result (λ names. BoundsWidths names.rows.entries names.widest) }
 {
     let many = ranged.len();
@@ -167,20 +133,5 @@ fn collect_first<'a>(
         scopes = scopes.from(*entry);
         names.add_entry(ranged, scopes.modules, bytes, *entry)?;
     }
-    Ok(names)
-}
-
-/// Collects the first declarations of all names that are declared with a range. It takes time in proportion to the bytes of the names.
-pub(crate) fn collect_declared<'a>(
-    alloc: Global,
-    bytes: &'a [u8],
-    entries: &[Entry],
-) -> Result<DeclaredNames<'a>, OutOfMemory>
-    requires { length entries.now < 2 ^ 30 }
-    ensures rows { IfOk result (λ names. HoldsRanged bytes.now entries.now names.rows.entries) }
-    ensures widest { IfOk result (λ names. BoundsWidths names.rows.entries names.widest) }
-{
-    let ranged = collect_ranged(alloc, bytes, entries)?;
-    let names = collect_first(alloc, &ranged, bytes, entries)?;
     Ok(names)
 }

@@ -68,8 +68,7 @@ pub fn first_fault(
     let found = or_earlier(None, NameFault::Repeated, names.repeated);
     let unpaired = names.first_unpaired(bytes, entries);
     let found = or_earlier(found, NameFault::PortDirection, unpaired);
-    drop(names);
-    match collect_declared(alloc, bytes, entries) {
+    match collect_declared(alloc, &names.ranged, bytes, entries) {
         Ok(declared) => {
             let bad_range = declared.first_bad_range(bytes, entries);
             Ok(or_earlier(found, NameFault::BadRange, bad_range))

@@ -5,7 +5,7 @@ ghost use Rattle.verilog_netlist.specs.DeclaredNames.{found_in, HoldsRanged, Bou
 
 use crate::declared::{Declaration, DeclaredNames, collect_declared};
 use crate::entries::{Decl, Entry, Range};
-use crate::repeats::Scopes;
+use crate::repeats::{Scopes, collect_names};
 use crate::scan::constant_width;
 use edge_io::OutOfMemory;
 use std::alloc::Global;
@@ -301,8 +301,12 @@ pub fn first_bad_range(
     requires { length entries.now < 2 ^ 30 }
     ensures { IfOk result (IsFirstBadRange bytes.now entries.now) }
 {
-    match collect_declared(alloc, bytes, entries) {
-        Ok(names) => Ok(names.first_bad_range(bytes, entries)),
+    let names = match collect_names(alloc, bytes, entries) {
+        Ok(names) => names,
+        Err(_) => return Err(OutOfMemory),
+    };
+    match collect_declared(alloc, &names.ranged, bytes, entries) {
+        Ok(declared) => Ok(declared.first_bad_range(bytes, entries)),
         Err(_) => Err(OutOfMemory),
     }
 }

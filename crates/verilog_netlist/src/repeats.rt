@@ -2,6 +2,7 @@
 ghost use Rattle.std.specs.Prelude.{◌≡◌, ◌+◌, ◌^◌, ◌<◌, length, IfOk, OnOk};
 ghost use Rattle.token_texts.specs.Spans.{text_at};
 ghost use Rattle.verilog_netlist.specs.Namespaces.{name_of, IsFirstRepeated, begins_module, begins_instance};
+ghost use Rattle.verilog_netlist.specs.DeclaredNames.{AddsRanged, CoversRanged};
 ghost use Rattle.verilog_netlist.specs.Firsts.{first_or};
 ghost use Rattle.verilog_netlist.specs.NameKeys.{Key, code_of, keys_in, key_of, scope_in, holds, is_ports, keeps, ports_from, with_key, is_held, with_name, counted, HoldsNames};
 
@@ -90,7 +91,7 @@ impl Scopes {
 }
 
 /// Adds a name among others, and tells whether it was there.
-pub(crate) fn add_key<'a>(
+fn add_key<'a>(
     keys: &mut IndexSet<NameKey<'a>, NameHash>,
     among: Names,
     scopes: Scopes,
@@ -108,6 +109,24 @@ pub(crate) fn add_key<'a>(
     match keys.insert_full(key) {
         Ok((_, is_new)) => Ok(!is_new),
         Err(_) => Err(OutOfMemory),
+    }
+}
+
+/// Adds the name of an entry that declares it with a range.
+fn add_ranged<'a>(
+    ranged: &mut IndexSet<NameKey<'a>, NameHash>,
+    scopes: Scopes,
+    bytes: &'a [u8],
+    entry: Entry,
+) -> Result<(), OutOfMemory>
+    ensures { OnOk result (AddsRanged bytes.now scopes.modules entry (keys_in ranged.old.keys) (keys_in ranged.new.keys)) }
+{
+    match entry {
+        Entry::Declared(_, name, Some(_)) => {
+            add_key(ranged, Names::Wires, scopes, name.of(bytes))?;
+            Ok(())
+        }
+        _ => Ok(()),
     }
 }
 
@@ -165,11 +184,13 @@ impl<'a> NamesSoFar<'a> {
     }
 }
 
-/// The names of a netlist but for ports, and the place of the first entry whose name is repeated.
+/// The names of a netlist but for ports, the place of the first entry whose name is repeated, and the names that are declared with a
+/// range.
 #[derive(Drop)]
 pub struct NameTable<'a> {
     pub keys: IndexSet<NameKey<'a>, NameHash>,
     pub repeated: Option<usize>,
+    pub ranged: IndexSet<NameKey<'a>, NameHash>,
 }
 
 /// What was found before this place, or this place if it is one.
@@ -193,6 +214,7 @@ pub(crate) fn collect_names<'a>(
     requires { length entries.now < 2 ^ 30 }
     ensures repeated { IfOk result (λ table. IsFirstRepeated bytes.now entries.now table.repeated) }
     ensures keys { IfOk result (λ table. HoldsNames bytes.now entries.now (length entries.now) (keys_in table.keys.keys)) }
+    ensures ranged { IfOk result (λ table. CoversRanged bytes.now entries.now (length entries.now) (keys_in table.ranged.keys)) }
 {
     // The table grows where the entries have more names. To count them would take a pass of its own.
     let many = entries.len() / 4;
@@ -201,6 +223,7 @@ pub(crate) fn collect_names<'a>(
         ports: PortNames::new(alloc),
     };
     let mut repeated = None;
+    let mut ranged = IndexSet::with_hasher(alloc, NameHash::default());
     let mut scopes = Scopes::new();
     for (place, entry) in entries.iter().enumerate() {
         scopes = scopes.from(*entry);
@@ -208,10 +231,12 @@ pub(crate) fn collect_names<'a>(
         let in_header = names.add(bytes, *entry, entry.header_names(), scopes)?;
         let by_own = names.add(bytes, *entry, entry.own_names(), scopes)?;
         repeated = first_or(repeated, place, in_header || by_own);
+        add_ranged(&mut ranged, scopes, bytes, *entry)?;
     }
     Ok(NameTable {
         keys: names.keys,
         repeated,
+        ranged,
     })
 }
 

@@ -1,6 +1,37 @@
--- The names that are declared with a range, and their first declarations.
+-- One entry more.
+use Rattle.std.proofs.Common.{◌≡◌, ℕ, ◌+◌, List, get_or, length, sym, ap, ◌∙◌, subst, arith}
+use Rattle.verilog_netlist.specs.DeclaredNames.{HoldsDeclared, BoundsWidths}
 use Rattle.verilog_netlist.specs.NameKeys.{keys_in}
+use Rattle.verilog_netlist.specs.declared.entries.Entry.{Entry}
+use Rattle.verilog_netlist.specs.declared.namespaces.Names.TheVariants as names
+use Rattle.verilog_netlist.specs.declared.repeats.Scopes.{Scopes}
+use Rattle.verilog_netlist.proofs.Repeating.{Counts, count_on, scope_is, no_entry, stands_at, itself_at}
+use Rattle.verilog_netlist.proofs.Ranging.{declared_next, bounds_next}
 use Rattle.verilog_netlist.proofs.declared.collect_declared.Goals as goal
 
+pub loop-place-preserved : goal.loop-place-preserved
+loop-place-preserved c =
+    let entries : List Entry = c.args.entries.now in
+    let place : ℕ = c.loop-place.place in
+    let e : Entry = get_or entries place no_entry in
+    let here = itself_at entries place c.loop-place-test.true in
+    let keys = keys_in c.args.ranged.now.keys in
+    let counts = c.loop-place.invariant.0 in
+    let in_module = ap (λ (s : Scopes). s.modules) c.from-scopes.ensures ∙ scope_is entries place c.loop-place.scopes counts e c.loop-place-test.true here names.Wires in (
+      subst (λ (s : Scopes). Counts entries (place + 1) s) (sym c.from-scopes.ensures) (count_on entries place c.loop-place.scopes counts e c.loop-place-test.true here),
+      declared_next c.args.bytes.now entries keys place c.loop-place.names.rows.entries c.add_entry.new.self.rows.entries c.from-scopes.result.modules e in_module
+          (stands_at entries place c.loop-place-test.true) c.loop-place.invariant.1 c.in_ok-add_entry.ensures.rows,
+      subst (λ (n : ℕ). BoundsWidths c.add_entry.new.self.rows.entries n) (sym c.in_ok-add_entry.ensures.widest)
+          (bounds_next c.args.bytes.now keys c.from-scopes.result.modules e c.loop-place.names.rows.entries c.add_entry.new.self.rows.entries c.loop-place.names.widest c.in_ok-add_entry.ensures.rows c.loop-place.invariant.2),
+    )
+
 pub returns-clause-rows : goal.returns-clause-rows
-returns-clause-rows c = record { keys = keys_in c.in_ok-ranged.ranged.keys; covers = c.in_ok-ranged.ensures; holds = c.in_ok-names.ensures.rows }
+returns-clause-rows c =
+    let entries : List Entry = c.args.entries.now in
+    let keys = keys_in c.args.ranged.now.keys in
+    let all : c.loop-place.place ≡ length entries = let past = c.loop-place-test.false in omega arith in
+    record {
+      keys = keys;
+      covers = c.requires.ranged;
+      holds = subst (λ (n : ℕ). HoldsDeclared c.args.bytes.now entries keys n c.loop-place.names.rows.entries) all c.loop-place.invariant.1;
+    }

@@ -1,14 +1,17 @@
 -- One name more, and whether it was there.
 use Rattle.std.proofs.Common.{◌≡◌, refl, ℕ, List, get_or, sym, ap, ap₂, ◌∙◌, subst, ◌+◌, ◌||◌, Bool, Option, length, arith}
 use Rattle.verilog_netlist.specs.Namespaces.{IsRepeated}
+use Rattle.verilog_netlist.specs.DeclaredNames.{CoversRanged}
 use Rattle.verilog_netlist.specs.Firsts.{first_or}
 use Rattle.verilog_netlist.specs.NameKeys.{Key, keys_in, counted, keeps, ports_from, HoldsNames}
 use Rattle.verilog_netlist.specs.declared.entries.Entry.{Entry}
+use Rattle.verilog_netlist.specs.declared.namespaces.Names.TheVariants as names
 use Rattle.verilog_netlist.specs.declared.repeats.NameKey.{NameKey}
 use Rattle.verilog_netlist.specs.declared.repeats.NamesSoFar.{NamesSoFar}
 use Rattle.verilog_netlist.specs.declared.repeats.Scopes.{Scopes}
 use Rattle.verilog_netlist.proofs.Finding.{IsFirstBelow, first_next, first_of_all}
-use Rattle.verilog_netlist.proofs.Repeating.{Collected, come_to, holds_alike, all_names, decides_repeated, goes_on, held_so, with_so, no_entry, stands_at, itself_at, within_list}
+use Rattle.verilog_netlist.proofs.Repeating.{Collected, come_to, holds_alike, all_names, decides_repeated, goes_on, held_so, with_so, scope_is, no_entry, stands_at, itself_at, within_list}
+use Rattle.verilog_netlist.proofs.Ranging.{covers_next}
 use Rattle.verilog_netlist.proofs.repeats.collect_names.Goals as goal
 use Rattle.verilog_netlist.proofs.repeats.collect_names.Goals.{then-in_header, else-in_header}
 
@@ -44,15 +47,22 @@ loop-place-preserved c =
       | else-in_header w ↦ w.first_or-is ∙ sym (ap (λ (b : Bool). b || by_own) w.if-in_header.false)
     ] in
     let found = first_next (IsRepeated bytes entries) place c.loop-place.repeated (in_header || by_own) c.loop-place.invariant.1 tells in
-    let is = c.first_or-repeated.ensures ∙ ap (λ (b : Bool). first_or c.loop-place.repeated place b) either in (
+    let is = c.first_or-repeated.ensures ∙ ap (λ (b : Bool). first_or c.loop-place.repeated place b) either in
+    let in_module = ap (λ (s : Scopes). s.modules) c.from-scopes.ensures ∙ scope_is entries place c.loop-place.scopes c.loop-place.invariant.0.counts e c.loop-place-test.true here names.Wires in (
       subst (λ (s : Scopes). Collected bytes entries (place + 1) (has scopes after) s) (sym same) seen,
       subst (λ (f : Option ℕ). IsFirstBelow (IsRepeated bytes entries) (place + 1) f) (sym is) found,
+      covers_next bytes entries place scopes.modules e (keys_in c.loop-place.ranged.keys) (keys_in c.add_ranged.new.ranged.keys) in_module stands c.in_ok-add_ranged.ensures c.loop-place.invariant.2,
     )
 
 pub returns-clause-repeated : goal.returns-clause-repeated
 returns-clause-repeated c =
     first_of_all (IsRepeated c.args.bytes.now c.args.entries.now) c.loop-place.place c.loop-place.repeated c.loop-place.invariant.1
     (λ place r. let within = within_list c.args.entries.now place r.again r.again_stands in let past = c.loop-place-test.false in omega arith)
+
+pub returns-clause-ranged : goal.returns-clause-ranged
+returns-clause-ranged c =
+    let all : c.loop-place.place ≡ length c.args.entries.now = let past = c.loop-place-test.false in omega arith in
+    subst (λ (n : ℕ). CoversRanged c.args.bytes.now c.args.entries.now n (keys_in c.loop-place.ranged.keys)) all c.loop-place.invariant.2
 
 pub returns-clause-keys : goal.returns-clause-keys
 returns-clause-keys c =
