@@ -12,3 +12,5 @@ pub mod Growing
 pub mod Limiting
 pub mod Meeting
 pub mod OneUse
+mod Numbers
+mod Marking

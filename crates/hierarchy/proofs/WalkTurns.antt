@@ -90,6 +90,11 @@ module _ (modules : List NetModule) (top : ℕ) where
   last_frame n frames frame standing =
       All-pop (IsFrame modules top n) (frames ++ frame ∷ []) frames (Some frame) refl standing
 
+  pub frame_within : (vs : List Visit) (met : List MetInstance) (frames popped : List Frame) (frame : Frame)
+      → IsGoing modules top vs met frames → frames ≡ popped ++ frame ∷ [] → frame.module < length modules
+  frame_within vs met frames popped frame going pop =
+      (last_frame (length vs) popped frame (subst (IsGoing modules top vs met) pop going).standing).1.within
+
   -- no instance is left in the module
   pub leaves : (vs : List Visit) (met : List MetInstance) (frames : List Frame) (frame : Frame)
       → IsGoing modules top vs met (frames ++ frame ∷ []) → instance_count modules frame.module ≤ frame.next

@@ -2,6 +2,7 @@ pub mod Hierarchy
 pub mod Walks
 pub mod Uses
 pub mod WalkTables
+pub mod InstanceCells
 pub mod WalkProgress
 pub mod Lowers
 pub mod Orders

@@ -2,6 +2,7 @@
 //! cells that the design uses.
 #![tactic(auto)]
 
+mod instance_cells;
 mod laws;
 mod lowers;
 mod naming;
@@ -10,6 +11,7 @@ mod passes;
 mod uses;
 mod walking;
 
+pub use instance_cells::InstanceCells;
 pub use laws::one_use;
 pub use uses::{Count, UseEnd, used_cells};
 pub use walking::{MetInstance, Visit, Walk, walk_modules};

@@ -1,9 +1,10 @@
 //! The modules of which each module has instances.
 ghost use Rattle.std.specs.Prelude.{◌≡◌, ◌<◌, length, IfOk};
 ghost use Rattle.verilog_netlist.specs.NetModules.{NetModule};
+ghost use Rattle.hierarchy.specs.InstanceCells.{AreInstanceCells};
 ghost use Rattle.hierarchy.specs.Lowers.{lowers_of, lowers_at, AreLowers, AreBelow};
 
-use crate::naming::find_module;
+use crate::instance_cells::InstanceCells;
 use edge_io::OutOfMemory;
 use edge_io::lists::push;
 use std::alloc::Global;
@@ -25,13 +26,18 @@ impl Model for Lowers {
 }
 
 impl Lowers {
-    /// Those of each module of a file. It takes one look-up for each instance.
-    pub(crate) fn of(alloc: Global, modules: &Modules) -> Result<Lowers, OutOfMemory>
+    /// Those of each module of a file.
+    pub(crate) fn of(
+        alloc: Global,
+        modules: &Modules,
+        cells: &InstanceCells,
+    ) -> Result<Lowers, OutOfMemory>
+        requires { AreInstanceCells modules.now cells.now }
         ensures { IfOk result (AreLowers modules.now) }
     {
         let mut rows = Vec::new(alloc);
         for m in 0..modules.module_count() {
-            push(&mut rows, lowers_in(alloc, modules, m)?)?;
+            push(&mut rows, lowers_in(alloc, modules, cells, m)?)?;
         }
         Ok(Lowers { rows })
     }
@@ -53,13 +59,19 @@ impl Lowers {
 }
 
 // The modules of the instances of a module.
-fn lowers_in(alloc: Global, modules: &Modules, m: usize) -> Result<Vec<usize>, OutOfMemory>
-    requires { m < length modules.now }
+fn lowers_in(
+    alloc: Global,
+    modules: &Modules,
+    cells: &InstanceCells,
+    m: usize,
+) -> Result<Vec<usize>, OutOfMemory>
+    requires within { m < length modules.now }
+    requires cells { AreInstanceCells modules.now cells.now }
     ensures { IfOk result (λ row. row.items ≡ lowers_of modules.now m) }
 {
     let mut row = Vec::new(alloc);
     for k in 0..modules.instance_count(m) {
-        if let Some(lower) = find_module(modules, modules.instance_of(m, k)) {
+        if let Some(lower) = cells.lower(m, k) {
             push(&mut row, lower)?;
         }
     }

@@ -1,15 +1,18 @@
 //! The cells that a design uses.
-ghost use Rattle.std.specs.Prelude.{◌≡◌, ◌<◌, ◌≤◌, length, IfOk, IfErr, OnOk};
+ghost use Rattle.std.specs.Prelude.{◌≡◌, ℕ, ◌<◌, ◌≤◌, ◌^◌, List, [], ◌∷◌, ◌++◌, length, replicate, slice_get, Some, Contains, false, IfOk, IfErr, OnOk};
 ghost use Rattle.verilog_netlist.specs.NetModules.{module_at};
+ghost use Rattle.hierarchy.specs.InstanceCells.{AreInstanceCells, AreMarked};
 ghost use Rattle.hierarchy.specs.Uses.{IsWalkable, IsUseEnd, AreCellsUsed, cells_used};
 ghost use Rattle.hierarchy.specs.Lowers.{AreLowers};
 ghost use Rattle.hierarchy.specs.Orders.{IsOrderOf};
 ghost use Rattle.hierarchy.specs.Limits.{IsShallow, IsOver, visited_of, limit_of};
 
+use crate::instance_cells::InstanceCells;
 use crate::lowers::Lowers;
 use crate::ordering::{OrderEnd, lower_first};
 use crate::passes::{depths_of, totals_of};
 use crate::walking::walk_modules;
+use edge_io::lists::to_u32;
 use edge_io::{OutOfMemory as WantOfMemory, Text, TextList};
 use name_table::{NameId, Names};
 use std::alloc::Global;
@@ -71,19 +74,26 @@ pub fn used_cells(alloc: Global, modules: &Modules, top: &Text) -> Result<TextLi
     let Some(top) = modules.find(top.bytes()) else {
         return Err(UseEnd::NoTop);
     };
-    check_walk(alloc, modules, top)?;
-    let names = cells_along(alloc, modules, top)?;
-    let cells = texts_of(alloc, &names)?;
-    Ok(cells)
+    let cells = InstanceCells::of(alloc, modules)?;
+    check_walk(alloc, modules, &cells, top)?;
+    let names = cells_along(alloc, modules, &cells, top)?;
+    let used = texts_of(alloc, &names)?;
+    Ok(used)
 }
 
 // Whether a design can be walked through.
-fn check_walk(alloc: Global, modules: &Modules, top: usize) -> Result<(), UseEnd>
-    requires { top < length modules.now }
+fn check_walk(
+    alloc: Global,
+    modules: &Modules,
+    cells: &InstanceCells,
+    top: usize,
+) -> Result<(), UseEnd>
+    requires within { top < length modules.now }
+    requires cells { AreInstanceCells modules.now cells.now }
     ensures ok { OnOk result (IsWalkable modules.now top) }
     ensures refused { IfErr result (IsUseEnd modules.now (module_at modules.now top).name) }
 {
-    let lowers = Lowers::of(alloc, modules)?;
+    let lowers = Lowers::of(alloc, modules, cells)?;
     let order = order_below(alloc, modules, &lowers, top)?;
     check_depth(alloc, modules, &lowers, &order, top)?;
     check_total(alloc, modules, &lowers, &order, top, Count::Instances)?;
@@ -170,19 +180,61 @@ fn limit(count: Count) -> usize
     }
 }
 
+// Of so many names none is marked.
+fn no_marks(alloc: Global, many: usize) -> Result<Vec<bool>, WantOfMemory>
+    ensures { IfOk result (λ marks. marks.items ≡ replicate many false) }
+{
+    let mut marks = Vec::new(alloc);
+    marks.resize(many, false)?;
+    Ok(marks)
+}
+
+// Puts the name of this number at the end, unless it is marked or was there before.
+fn use_name(
+    cells: &InstanceCells,
+    number: usize,
+    marks: &mut Vec<bool>,
+    names: &mut Names,
+) -> Result<(), WantOfMemory>
+    requires room { length names.old < 2 ^ 30 }
+    requires within { number < length cells.now.names }
+    requires marked { AreMarked cells.now.names marks.old.items names.old }
+    ensures marked { OnOk result (AreMarked cells.now.names marks.new.items names.new) }
+    ensures held { (name : List ℕ) → slice_get cells.now.names number ≡ Some name → Contains names.old name
+        → OnOk result (names.new ≡ names.old) }
+    ensures added { (name : List ℕ) → slice_get cells.now.names number ≡ Some name → ¬ Contains names.old name
+        → OnOk result (names.new ≡ names.old ++ name ∷ []) }
+{
+    if marks[number] {
+        return Ok(());
+    }
+    let id = NameId(to_u32(number)?);
+    names.intern(cells.names().text(id))?;
+    marks[number] = true;
+    Ok(())
+}
+
 // The names of the cells, in the order in which the walk first meets them.
-fn cells_along(alloc: Global, modules: &Modules, top: usize) -> Result<Names, WantOfMemory>
+fn cells_along(
+    alloc: Global,
+    modules: &Modules,
+    cells: &InstanceCells,
+    top: usize,
+) -> Result<Names, WantOfMemory>
     requires within { top < length modules.now }
     requires walkable { IsWalkable modules.now top }
+    requires cells { AreInstanceCells modules.now cells.now }
     ensures { IfOk result (λ names. names ≡ cells_used modules.now top) }
 {
-    let walk = walk_modules(alloc, modules, top)?;
+    let walk = walk_modules(alloc, modules, cells, top)?;
     let visits = walk.visits();
+    let mut marks = no_marks(alloc, cells.names().len())?;
     let mut names = Names::new(alloc);
     for met in walk.met() {
         if met.lower.is_none() {
             let visit = visits[met.visit as usize];
-            names.intern(modules.instance_of(visit.module as usize, met.instance as usize))?;
+            let number = cells.number(visit.module as usize, met.instance as usize);
+            use_name(cells, number, &mut marks, &mut names)?;
         }
     }
     Ok(names)

@@ -1,9 +1,10 @@
 //! The walk through a design, as it is kept.
 ghost use Rattle.std.specs.Prelude.{◌≡◌, ◌<◌, [], ◌∷◌, ◌++◌, length, IfOk, OnOk};
+ghost use Rattle.hierarchy.specs.InstanceCells.{AreInstanceCells};
 ghost use Rattle.hierarchy.specs.Uses.{IsWalkable};
 ghost use Rattle.hierarchy.specs.WalkTables.{AreTablesOfWalk};
 
-use crate::naming::find_module;
+use crate::instance_cells::InstanceCells;
 use edge_io::OutOfMemory;
 use edge_io::lists::{push, to_u32};
 use std::alloc::Global;
@@ -67,11 +68,16 @@ struct Frame {
     next: usize,
 }
 
-/// Walks through a design that can be walked through: one look-up of a name for each instance that is met. The memory is linear in
-/// their number.
-pub fn walk_modules(alloc: Global, modules: &Modules, top: usize) -> Result<Walk, OutOfMemory>
+/// Walks through a design that can be walked through. The memory is linear in the number of the instances that are met.
+pub fn walk_modules(
+    alloc: Global,
+    modules: &Modules,
+    cells: &InstanceCells,
+    top: usize,
+) -> Result<Walk, OutOfMemory>
     requires within { top < length modules.now }
     requires walkable { IsWalkable modules.now top }
+    requires cells { AreInstanceCells modules.now cells.now }
     ensures ok { IfOk result (λ walk. AreTablesOfWalk modules.now top walk) }
 {
     let mut visits = Vec::new(alloc);
@@ -94,7 +100,7 @@ pub fn walk_modules(alloc: Global, modules: &Modules, top: usize) -> Result<Walk
                     next: next + 1,
                 },
             )?;
-            let lower = match find_module(modules, modules.instance_of(module, next)) {
+            let lower = match cells.lower(module, next) {
                 Some(lower) => Some(enter(visit, instance, lower, &mut visits, &mut frames)?),
                 None => None,
             };

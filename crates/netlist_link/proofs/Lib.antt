@@ -46,3 +46,4 @@ pub mod TopPorts
 pub mod NetJoins
 pub mod LinkedParts
 pub mod PartsOfNetlist
+mod CellPlacing

@@ -6,7 +6,8 @@ use Rattle.cell_models.specs.NamedSets.{NamedCells, set_names}
 use Rattle.verilog_netlist.specs.NetModules.{NetModule}
 use Rattle.hierarchy.specs.Uses.{IsTop, IsWalkable, cells_used}
 use Rattle.hierarchy.specs.UseLaws.{NamesDiffer}
-use Rattle.netlist_link.specs.Designs.{IsDesign, HasDesign, OverCells, IsFirstOf, first_is, no_memory_is}
+use Rattle.netlist_link.specs.FlatPins.{pins_of}
+use Rattle.netlist_link.specs.Designs.{IsSound, IsDesign, HasDesign, OverCells, IsFirstOf, first_is, no_memory_is}
 use Rattle.netlist_link.specs.DesignTables.{AreTablesOf, IsLinkedDesign, IsNetlistOver, IsEndOver}
 use Rattle.netlist_link.specs.FlatDesigns.{HasCells, IsFlatDesign, IsFlatEnd}
 use Rattle.netlist_link.specs.FlatNetlist.{FlatNetlist}
@@ -27,7 +28,7 @@ first_end d cells end no_memory_is = no_memory
 module _ (modules : List NetModule) (top : ℕ) (cells : List NamedCells) (tables : DesignTables) (are : AreTablesOf modules top cells tables)
     (known : All (λ cell. Contains (set_names cells) cell) (cells_used modules top))
     (d : Design) (modules_are : d.modules.now ≡ modules) (walk_is : d.walk.now ≡ tables.walk) (paths_are : d.paths.now ≡ tables.paths)
-    (names_are : d.cell_names.now ≡ set_names cells) (ports_are : d.ports.now ≡ tables.ports.items) (pins_are : d.pins.now ≡ tables.pins.items)
+    (cells_are : d.cells.now ≡ tables.cells) (places_are : d.cell_places.now ≡ tables.places.items) (ports_are : d.ports.now ≡ tables.ports.items) (pins_are : d.pins.now ≡ tables.pins.items)
   where
     pub starts : top_of d.walk.now ≡ top
     starts = ap top_of walk_is ∙ are.starts
@@ -36,7 +37,8 @@ module _ (modules : List NetModule) (top : ℕ) (cells : List NamedCells) (table
     design_is = record {
       walk = rw (modules_are, starts, walk_is) are.walk;
       paths = rw (modules_are, starts, paths_are) are.paths;
-      cell_names = names_are;
+      instance_cells = rw (modules_are, cells_are) are.instance_cells;
+      places = rw (cells_are, places_are) are.places;
       ports = rw (modules_are, ports_are) are.ports;
       pins = rw pins_are are.pins;
       known = rw (modules_are, starts, walk_is) (λ i below. cells_known modules top cells known i (subst (λ n. i < n) are.walk.met_count below));
@@ -44,6 +46,13 @@ module _ (modules : List NetModule) (top : ℕ) (cells : List NamedCells) (table
 
     pub has_design : HasDesign d
     has_design = record { cells = cells; is = design_is; distinct = are.distinct }
+
+    pub sound_is : IsSound d
+    sound_is = record {
+      walk = design_is.walk;
+      ports = design_is.ports;
+      pins = record { each = λ c pins here. record { pins = pins_of cells c; are = design_is.pins.each c pins here; distinct = are.distinct c } };
+    }
 
     pub over_ok : {E : Type 0} (r : Result FlatNetlist E) → IfOk r (λ netlist. OverCells d (IsNetlistOver d netlist)) → IfOk r (IsLinkedDesign modules top cells)
     over_ok r = IfOk-weaker r (λ netlist. OverCells d (IsNetlistOver d netlist)) (IsLinkedDesign modules top cells)

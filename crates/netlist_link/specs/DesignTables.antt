@@ -1,8 +1,10 @@
 -- The tables of a design.
 use Rattle.std.specs.Prelude.{◌≡◌, ℕ, List, [], length}
-use Rattle.cell_models.specs.NamedSets.{NamedCells}
+use Rattle.cell_models.specs.NamedSets.{NamedCells, set_names}
 use Rattle.verilog_netlist.specs.NetModules.{NetModule}
 use Rattle.hierarchy.specs.WalkTables.{AreTablesOfWalk}
+use Rattle.hierarchy.specs.InstanceCells.{AreInstanceCells}
+use Rattle.netlist_link.specs.CellPlaces.{AreCellPlaces}
 use Rattle.netlist_link.specs.Designs.{AreAllPorts, HaveDistinctPins}
 use Rattle.netlist_link.specs.JointTables.{AreAllPins}
 use Rattle.netlist_link.specs.PathTables.{top_of, ArePaths}
@@ -18,6 +20,8 @@ pub record AreTablesOf (modules : List NetModule) (top : ℕ) (cells : List Name
   pub walk : AreTablesOfWalk modules top tables.walk
   pub starts : top_of tables.walk ≡ top
   pub paths : ArePaths modules top tables.paths
+  pub instance_cells : AreInstanceCells modules tables.cells
+  pub places : AreCellPlaces (set_names cells) tables.cells.names tables.places.items
   pub ports : AreAllPorts modules tables.ports.items
   pub pins : AreAllPins cells (length cells) tables.pins.items
   pub distinct : HaveDistinctPins cells

@@ -6,10 +6,12 @@ use Rattle.verilog_netlist.specs.ModuleNames.{NetName}
 use Rattle.verilog_netlist.specs.NetModules.{NetModule, NetConnection, module_at}
 use Rattle.hierarchy.specs.Walks.{Met, whole_walk, met_instance, is_module}
 use Rattle.hierarchy.specs.WalkTables.{no_met}
+use Rattle.hierarchy.specs.InstanceCells.{AreInstanceCells}
 use Rattle.netlist_link.specs.FlatBits.{is_port}
 use Rattle.netlist_link.specs.LinkEnds.{Joint, joint_of, connection_faults, instance_faults}
 use Rattle.netlist_link.specs.PathTables.{IsWalk, top_of, ArePaths}
 use Rattle.netlist_link.specs.PortTables.{ArePortNumbers}
+use Rattle.netlist_link.specs.CellPlaces.{AreCellPlaces}
 use Rattle.netlist_link.specs.JointTables.{AreAllPins, AreOfCells, pin_names, joint_number, numbers_of}
 use Rattle.netlist_link.specs.FlatPins.{pins_of}
 use Rattle.name_table.specs.Names.{AreDistinct}
@@ -35,7 +37,8 @@ met_of d i = get_or (whole_walk d.modules.now (top_of d.walk.now)) i no_met
 pub record IsDesign (cells : List NamedCells) (d : Design) : Type 0 where
   pub walk : IsWalk d.modules.now d.walk.now
   pub paths : ArePaths d.modules.now (top_of d.walk.now) d.paths.now
-  pub cell_names : d.cell_names.now ≡ set_names cells
+  pub instance_cells : AreInstanceCells d.modules.now d.cells.now
+  pub places : AreCellPlaces (set_names cells) d.cells.now.names d.cell_places.now
   pub ports : AreAllPorts d.modules.now d.ports.now
   pub pins : AreAllPins cells (length cells) d.pins.now
   pub known : (i : ℕ) → i < length d.walk.now.met → is_module d.modules.now (top_of d.walk.now) (met_of d i) ≡ false

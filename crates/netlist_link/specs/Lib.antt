@@ -9,6 +9,7 @@ pub mod FlatDesigns
 pub mod PathTables
 pub mod PortTables
 pub mod JointTables
+pub mod CellPlaces
 pub mod Designs
 pub mod FlatEnds
 pub mod Grouping

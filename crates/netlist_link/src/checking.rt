@@ -23,19 +23,19 @@ use crate::port_numbers::PortNumbers;
 use cell_models::Direction;
 use edge_io::lists::{push, to_u32};
 use edge_io::{OutOfMemory, Text};
-use hierarchy::Walk;
-use name_table::Names;
+use hierarchy::{InstanceCells, Walk};
 use std::alloc::Global;
 use verilog_netlist::Modules;
 
-/// A design that is looked at: its modules, its walk with the paths of what is visited, and the tables of the names of its cells, of
-/// ports and of pins.
+/// A design that is looked at: its modules, its walk with the paths of what is visited, what instances are of with the places of cells,
+/// and the tables of the names of ports and of pins.
 #[derive(Drop)]
 pub(crate) struct Design<'a> {
     pub modules: &'a Modules<'a>,
     pub walk: &'a Walk,
     pub paths: &'a Paths,
-    pub cell_names: &'a Names,
+    pub cells: &'a InstanceCells,
+    pub cell_places: &'a [u32],
     pub ports: &'a [PortNumbers<'a>],
     pub pins: &'a [CellPins<'a>],
 }
@@ -261,18 +261,15 @@ fn join_instance(
     Ok(())
 }
 
-// The place of the cell of an instance that is met; 0 where no cell has its name.
+// The place of the cell of an instance that is met; any number where it is of a module.
 fn cell_place(design: &Design<'_>, i: usize) -> usize
-    requires walk { IsWalk design.now.modules.now design.now.walk.now }
+    requires design { HasDesign design.now }
     requires within { i < length design.now.walk.now.met }
     ensures place { (cells : List NamedCells) → IsDesign cells design.now → IsOfCell design.now i → IsCellPlace cells design.now i result }
     ensures below { (cells : List NamedCells) → IsDesign cells design.now → IsOfCell design.now i → result < length design.now.pins.now }
 {
     let (m, k) = place_of(design, i);
-    match design.cell_names.find(design.modules.instance_of(m, k)) {
-        Some(id) => id.0 as usize,
-        None => 0,
-    }
+    design.cell_places[design.cells.number(m, k)] as usize
 }
 
 /// The ports and pins to which connections lead: for each instance that is met the place of its first connection, the number of the port

@@ -3,6 +3,7 @@
 
 mod assembling;
 mod cell_pins;
+mod cell_places;
 mod checking;
 mod design_tables;
 mod ends;

@@ -57,7 +57,8 @@ fn link<C: CornerSet>(
         modules,
         walk: &tables.walk,
         paths: &tables.paths,
-        cell_names: cells.names(),
+        cells: &tables.cells,
+        cell_places: tables.places.as_slice(),
         ports: tables.ports.as_slice(),
         pins: tables.pins.as_slice(),
     };
