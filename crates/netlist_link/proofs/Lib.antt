@@ -47,3 +47,4 @@ pub mod NetJoins
 pub mod LinkedParts
 pub mod PartsOfNetlist
 mod CellPlacing
+mod OneModule

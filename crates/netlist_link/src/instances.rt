@@ -16,7 +16,7 @@ use crate::ends::LinkEnd;
 use crate::flat_bits::FlatBits;
 use crate::flat_names::push_spelled;
 use crate::flat_texts::FlatTexts;
-use crate::name_clashes::check_names;
+use crate::name_clashes::check_instances;
 use edge_io::OutOfMemory;
 use edge_io::lists::{push, to_u32};
 use std::alloc::Global;
@@ -243,6 +243,7 @@ pub(crate) fn flat_instances(
     requires sound { IsSound design.now }
     requires design { HasDesign design.now }
     requires paths { ArePaths design.now.modules.now (top_of design.now.walk.now) design.now.paths.now }
+    requires top { top_of design.now.walk.now < length design.now.modules.now }
     requires bits { AreFlatBits design.now bits.now }
     requires joints { OverCells design.now (HoldsJoints design.now (length (walk_of design.now))
         joints.now.starts.items joints.now.numbers.items joints.now.places.items) }
@@ -253,7 +254,7 @@ pub(crate) fn flat_instances(
     ensures refused { IfErr result (IsClash (texts_of_instances design.now)) }
 {
     let instances = all_instances(alloc, design, joints, bits)?;
-    match check_names(alloc, &instances.texts) {
+    match check_instances(alloc, design, &instances.texts) {
         Ok(()) => Ok(instances),
         Err(end) => Err(end),
     }

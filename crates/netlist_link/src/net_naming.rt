@@ -1,5 +1,5 @@
 //! The names of the nets of a design, no two of which are the same.
-ghost use Rattle.std.specs.Prelude.{◌≡◌, ◌<◌, ◌++◌, ◌∷◌, [], IfOk, IfErr, OnOk};
+ghost use Rattle.std.specs.Prelude.{◌≡◌, ◌<◌, ◌++◌, ◌∷◌, [], length, IfOk, IfErr, OnOk};
 ghost use Rattle.verilog_netlist.specs.Ranges.{whole_width};
 ghost use Rattle.netlist_link.specs.FlatNames.{net_text, bit_suffix};
 ghost use Rattle.netlist_link.specs.Clashes.{AreNamed, IsClash, texts_of_nets};
@@ -11,7 +11,7 @@ use crate::ends::LinkEnd;
 use crate::flat_bits::{FlatBits, NetPlace};
 use crate::flat_names::push_index;
 use crate::flat_texts::FlatTexts;
-use crate::name_clashes::check_names;
+use crate::name_clashes::check_nets;
 use edge_io::{OutOfMemory, Text};
 use std::alloc::Global;
 use verilog_netlist::Range;
@@ -77,12 +77,13 @@ pub(crate) fn net_names(
 ) -> Result<FlatTexts, LinkEnd>
     requires walk { IsWalk design.now.modules.now design.now.walk.now }
     requires paths { ArePaths design.now.modules.now (top_of design.now.walk.now) design.now.paths.now }
+    requires top { top_of design.now.walk.now < length design.now.modules.now }
     requires nets { AreNetPlaces design.now bits.now.nets.items }
     ensures named { IfOk result (AreNamed (texts_of_nets design.now)) }
     ensures refused { IfErr result (IsClash (texts_of_nets design.now)) }
 {
     let names = all_net_names(alloc, design, bits)?;
-    match check_names(alloc, &names) {
+    match check_nets(alloc, design, &names) {
         Ok(()) => Ok(names),
         Err(end) => Err(end),
     }

@@ -133,8 +133,8 @@ fn add_bit(
     Ok(())
 }
 
-// The top module.
-fn top_module(design: &Design<'_>) -> usize
+/// The top module.
+pub(crate) fn top_module(design: &Design<'_>) -> usize
     requires { IsWalk design.now.modules.now design.now.walk.now }
     ensures { result ≡ top_of design.now.walk.now }
 {
