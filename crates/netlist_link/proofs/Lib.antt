@@ -48,3 +48,4 @@ pub mod LinkedParts
 pub mod PartsOfNetlist
 mod CellPlacing
 mod OneModule
+mod PortFinding

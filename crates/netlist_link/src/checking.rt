@@ -54,6 +54,7 @@ fn port_of(
     ports: &PortNumbers<'_>,
     m: usize,
     name: &[u8],
+    place: usize,
 ) -> Option<KeptJoint>
     requires within { m < length modules.now }
     requires ports { ArePortNumbers (module_at modules.now m).names ports.now }
@@ -63,7 +64,7 @@ fn port_of(
     ensures place { IfSome result (λ joint. joint.number ≡ position_or_len (has_port_name name.now) (module_at modules.now m).names) }
 {
     modules.sound();
-    let number = ports.find(name)?;
+    let number = ports.find(name, place)?;
     Some(KeptJoint {
         number,
         width: modules.width(m, number),
@@ -84,7 +85,7 @@ fn is_end(direction: Direction) -> bool
 }
 
 /// The pin of this name of a cell.
-fn pin_of(pins: &CellPins<'_>, name: &[u8]) -> Option<KeptJoint>
+fn pin_of(pins: &CellPins<'_>, name: &[u8], place: usize) -> Option<KeptJoint>
     requires { AreOfCell pins.now }
     ensures joint { (cell : List Pin) → AreCellPins cell pins.now → AreDistinct (pin_names cell)
         → joint_in result ≡ joint_of_pin (pin_named cell name.now) }
@@ -92,7 +93,7 @@ fn pin_of(pins: &CellPins<'_>, name: &[u8]) -> Option<KeptJoint>
     ensures place { (cell : List Pin) → AreCellPins cell pins.now → AreDistinct (pin_names cell)
         → IfSome result (λ joint. joint.number ≡ position_or_len (λ pin. bytes_eq name.now pin.name) cell) }
 {
-    let number = pins.numbers.find(name)?;
+    let number = pins.numbers.find(name, place)?;
     let directions = pins.directions.as_slice();
     Some(KeptJoint {
         number,
@@ -160,7 +161,7 @@ pub(crate) fn place_of(design: &Design<'_>, i: usize) -> (usize, usize)
 }
 
 /// The port of this name of a visited module.
-fn port_at(design: &Design<'_>, visit: usize, port: &[u8]) -> Option<KeptJoint>
+fn port_at(design: &Design<'_>, visit: usize, port: &[u8], place: usize) -> Option<KeptJoint>
     requires walk { IsWalk design.now.modules.now design.now.walk.now }
     requires within { visit < length design.now.walk.now.visits }
     requires module_within { (visit_at design.now.walk.now visit).«module» < length design.now.modules.now }
@@ -172,11 +173,11 @@ fn port_at(design: &Design<'_>, visit: usize, port: &[u8]) -> Option<KeptJoint>
 {
     let visits = design.walk.visits();
     let m = visits[visit].module as usize;
-    port_of(design.modules, &design.ports[m], m, port)
+    port_of(design.modules, &design.ports[m], m, port, place)
 }
 
 /// The pin of this name of the cell at a place.
-fn pin_at(design: &Design<'_>, cell: usize, port: &[u8]) -> Option<KeptJoint>
+fn pin_at(design: &Design<'_>, cell: usize, port: &[u8], place: usize) -> Option<KeptJoint>
     requires within { cell < length design.now.pins.now }
     requires pins { AreOfCells design.now.pins.now }
     ensures joint { (cells : List NamedCells) → AreAllPins cells (length cells) design.now.pins.now
@@ -185,11 +186,17 @@ fn pin_at(design: &Design<'_>, cell: usize, port: &[u8]) -> Option<KeptJoint>
         → AreDistinct (pin_names (pins_of cells cell))
         → IfSome result (λ joint. joint.number ≡ position_or_len (λ pin. bytes_eq port.now pin.name) (pins_of cells cell)) }
 {
-    pin_of(&design.pins[cell], port)
+    pin_of(&design.pins[cell], port, place)
 }
 
 /// The port or the pin of this name of an instance that is met; the place is that of its cell where it is an instance of a cell.
-fn joint_at(design: &Design<'_>, i: usize, cell: usize, port: &[u8]) -> Option<KeptJoint>
+fn joint_at(
+    design: &Design<'_>,
+    i: usize,
+    cell: usize,
+    port: &[u8],
+    place: usize,
+) -> Option<KeptJoint>
     requires sound { IsSound design.now }
     requires within { i < length design.now.walk.now.met }
     requires cell { IsOfCell design.now i → cell < length design.now.pins.now }
@@ -204,8 +211,8 @@ fn joint_at(design: &Design<'_>, i: usize, cell: usize, port: &[u8]) -> Option<K
 {
     let met = design.walk.met();
     match met[i].lower {
-        Some(visit) => port_at(design, visit as usize, port),
-        None => pin_at(design, cell, port),
+        Some(visit) => port_at(design, visit as usize, port, place),
+        None => pin_at(design, cell, port, place),
     }
 }
 
@@ -250,8 +257,8 @@ fn join_instance(
     let (m, k) = place_of(design, i);
     for c in 0..design.modules.connection_count(m, k) {
         let port = design.modules.port(m, k, c);
-        let joint = joint_at(design, i, cell, port);
         let bits = design.modules.bit_count(m, k, c);
+        let joint = joint_at(design, i, cell, port, c);
         let number = match number_of_joint(alloc, design, i, port, joint, bits) {
             Ok(number) => number,
             Err(end) => return Err(end),

@@ -254,7 +254,7 @@ impl FlatBits {
 }
 
 // The number of the port of this name of a visited module.
-fn port_number(design: &Design<'_>, v: usize, port: &[u8]) -> Option<usize>
+fn port_number(design: &Design<'_>, v: usize, port: &[u8], place: usize) -> Option<usize>
     requires sound { IsSound design.now }
     requires visited { v < length design.now.walk.now.visits }
     requires within { module_of design.now v < length design.now.modules.now }
@@ -262,7 +262,7 @@ fn port_number(design: &Design<'_>, v: usize, port: &[u8]) -> Option<usize>
 {
     let visits = design.walk.visits();
     let m = visits[v].module as usize;
-    design.ports[m].find(port)
+    design.ports[m].find(port, place)
 }
 
 // Keeps the connection of this number for the port to which it joins something.
@@ -286,7 +286,7 @@ fn join_port(
     if design.modules.bit_count(around, k, c) == 0 {
         return Ok(());
     }
-    let Some(number) = port_number(design, v, design.modules.port(around, k, c)) else {
+    let Some(number) = port_number(design, v, design.modules.port(around, k, c), c) else {
         return Ok(());
     };
     joined[number] = Some(to_u32(c)?);

@@ -1,5 +1,5 @@
 //! Ports of modules and pins of cells by their names.
-ghost use Rattle.std.specs.Prelude.{◌≡◌, ◌<◌, length, map, IfOk};
+ghost use Rattle.std.specs.Prelude.{◌≡◌, ◌<◌, length, map, Some, IfOk, IfSome};
 ghost use Rattle.std.specs.Map.{lookup};
 ghost use Rattle.std.specs.Str.{bytes_eq};
 ghost use Rattle.cell_models.specs.CornerCells.{pins_at};
@@ -9,7 +9,7 @@ ghost use Rattle.netlist_link.specs.PortTables.{ArePortNumbers, ArePinNumbers};
 
 use cell_models::CellSet;
 use corner_set::CornerSet;
-use edge_io::OutOfMemory;
+use edge_io::{OutOfMemory, are_equal};
 use indexmap::IndexMap;
 use std::alloc::Global;
 use verilog_netlist::{Modules, Way};
@@ -21,11 +21,27 @@ pub(crate) struct PortNumbers<'a> {
 }
 
 impl<'a> PortNumbers<'a> {
-    /// The number of the port or pin of this name, if there is one. It is one look-up.
-    pub fn find(&self, name: &[u8]) -> Option<usize>
+    // The number of the port or pin at a place of the table, where it has this name.
+    fn number_at(&self, place: usize, name: &[u8]) -> Option<usize>
+        ensures { IfSome result (λ number. lookup (λ other. bytes_eq name.now other.now) self.now.numbers.entries ≡ Some number) }
+    {
+        let entries = self.numbers.as_slice();
+        let (other, number) = entries.get_index(place)?;
+        if are_equal(other, name) {
+            return Some(*number);
+        }
+        None
+    }
+
+    /// The number of the port or pin of this name, if there is one. Most connections are written in the order of ports or pins, so the one
+    /// at the place of the connection is looked at first. It is one look-up at most.
+    pub fn find(&self, name: &[u8], place: usize) -> Option<usize>
         ensures { result ≡ lookup (λ other. bytes_eq name.now other.now) self.now.numbers.entries }
     {
-        self.numbers.get(&name).copied()
+        match self.number_at(place, name) {
+            Some(number) => Some(number),
+            None => self.numbers.get(&name).copied(),
+        }
     }
 }
 
