@@ -27,14 +27,26 @@ impl Model for FlatTexts {
     ghost invariant = { λ t. AreWithin (length t.bytes.items) t.pieces.items };
 }
 
+// Puts a piece of a text at the end. Many are empty: the path in the top module, and the suffix of a name without a range.
+fn append(bytes: &mut Vec<u8>, piece: &[u8]) -> Result<(), OutOfMemory>
+    ensures ok { OnOk result (bytes.new.items ≡ bytes.old.items ++ piece.now) }
+    ensures kept { (more : List ℕ) × (bytes.new.items ≡ bytes.old.items ++ more) }
+{
+    if piece.is_empty() {
+        return Ok(());
+    }
+    bytes.extend_from_slice(piece)?;
+    Ok(())
+}
+
 // Puts three pieces of a text at the end. Where memory is short some of them may be there.
 fn extend(bytes: &mut Vec<u8>, path: &[u8], name: &[u8], suffix: &[u8]) -> Result<(), OutOfMemory>
     ensures ok { OnOk result (bytes.new.items ≡ bytes.old.items ++ (path.now ++ name.now ++ suffix.now)) }
     ensures kept { (more : List ℕ) × (bytes.new.items ≡ bytes.old.items ++ more) }
 {
-    bytes.extend_from_slice(path)?;
-    bytes.extend_from_slice(name)?;
-    bytes.extend_from_slice(suffix)?;
+    append(bytes, path)?;
+    append(bytes, name)?;
+    append(bytes, suffix)?;
     Ok(())
 }
 
