@@ -32,6 +32,11 @@ one_part first after more (Take n k) parts is le are =
     (take-append-le n (first ∷ after) more le)
     (and_token n k is (subst (λ (l : List ℕ). AreParts cut_at l parts) (sym (drop-append-le n (first ∷ after) more le)) are))
 
+-- bytes that are passed over are the part of their cut
+pub passed_over : {now : Progress} (before : List (Part Kind)) (bytes : List ℕ) (cut : Cut Kind) (count : ℕ) → cut ≡ Skip count
+    → LeadsTo (before ++ gap bytes ∷ []) now → LeadsTo (before ++ part_of cut bytes ∷ []) now
+passed_over {now} before bytes cut count is leads = subst (λ (c : Cut Kind). LeadsTo (before ++ part_of c bytes ∷ []) now) (sym is) leads
+
 module _ {all : List ℕ} (p : Progress) where
   part_read : (rest : List ℕ) (now : Progress) (cut : Cut Kind) (h : HasRead all rest p) → Begins rest cut → size_of cut ≤ length rest
       → now.start ≡ p.start + size_of cut → LeadsTo (h.before ++ part_of cut (take (size_of cut) rest) ∷ []) now
@@ -127,18 +132,13 @@ module _ (p now : Progress) (bytes : List ℕ) where
       record { sound = subst (λ (n : ℕ). IsSound n now.reader) (sym number) sound; bound = omega (arith, bound, number, start, some) }
 
   module _ (before : List (Part Kind)) where
-    past : LeadsTo before p → now.number ≡ p.number → now.start ≡ p.start + length bytes
+    pub past : LeadsTo before p → now.number ≡ p.number → now.start ≡ p.start + length bytes
         → Leads (before ++ gap bytes ∷ []) now.reader → LeadsTo (before ++ gap bytes ∷ []) now
     past leads number start after =
         let more : byte_count (before ++ gap bytes ∷ []) ≡ byte_count before + (length bytes + 0) = bytes_behind before (gap bytes ∷ []) in
         let same = no_token_more before bytes in
         let next = leads.next in
         record { next = record { count = omega arith; place = omega arith }; leads = after }
-
-    pub leads_past : (cut : Cut Kind) (count : ℕ) → cut ≡ Skip count → LeadsTo before p → now.number ≡ p.number
-        → now.start ≡ p.start + length bytes → Leads (before ++ gap bytes ∷ []) now.reader → LeadsTo (before ++ part_of cut bytes ∷ []) now
-    leads_past cut count is leads number start after =
-        subst (λ (c : Cut Kind). LeadsTo (before ++ part_of c bytes ∷ []) now) (sym is) (past leads number start after)
 
     taken : (k : Kind) → LeadsTo before p → now.number ≡ p.number + 1 → now.start ≡ p.start + length bytes
         → Leads (before ++ token (record { kind = k; bytes = bytes }) ∷ []) now.reader

@@ -239,6 +239,15 @@ module _ (waiting : List ℕ) where
             (led p (waiting ++ rest) bound h.read more) split cut (sym (take_all _ ((waiting ++ rest) ++ more) (omega arith)))
             (λ before next leads. bad_stops before p ((waiting ++ rest) ++ more) (record { next = next; leads = leads }))
 
+-- bytes that begin no token
+pub bad_bytes : {all : List ℕ} (bytes : List ℕ) (scan : Scanned) (p : Progress) (line : ℕ) → HasShown bytes scan → (scan ≡ shown.Bad → 0 < length bytes)
+    → scan ≡ shown.Bad → p.number ≤ p.start + 1 → HasReadTo all bytes p line
+    → IsFaultOfAny all (record { token = p.number; line = line; cause = BadByte })
+bad_bytes {all} bytes scan p line has some is bound h =
+    bad_fault bytes [] shown.Bad (some is) (subst (HasShown bytes) is has) p line
+    (λ more. let e : length bytes + length more ≡ length bytes + 0 + length more = omega arith in ap (λ n. Take n Bad) e) bound
+    (subst (λ (l : List ℕ). HasReadTo all l p line) (sym (append-nil bytes)) h)
+
 -- all of the bytes that wait
 module _ (waiting rest : List ℕ) (cut : Cut Kind) (size : size_of cut ≡ length waiting) where
   pub all_front : waiting ≡ take (size_of cut) (waiting ++ rest)

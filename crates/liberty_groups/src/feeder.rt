@@ -13,6 +13,7 @@ use crate::places::{Place, Scanned, ended, scan_front, scan_on, whole};
 use crate::progress::{Progress, size_of};
 use crate::scan::Kind;
 use crate::tree::GroupTree;
+use memchr::memchr;
 use std::alloc::Global;
 use token_texts::{Cut, ReadEnd, TokenReader};
 
@@ -36,11 +37,12 @@ pub(crate) fn line_at(bytes: &[u8], place: usize) -> u64
     ensures value { result ≡ line_at bytes.now place }
     ensures within { result ≤ place + 1 }
 {
+    let before = bytes.split_at(place).0;
     let mut line = 1;
-    for byte in bytes.split_at(place).0 {
-        if *byte == b'\n' {
-            line += 1;
-        }
+    let mut index = 0;
+    while let Some(end) = memchr(b'\n', before.split_at(index).1) {
+        line += 1;
+        index += end + 1;
     }
     line
 }
@@ -50,6 +52,19 @@ fn fault(token: u64, line: u64, cause: Cause) -> ParseEnd
     ensures { result ≡ ParseEnd.Syntax (record { token = token; line = line; cause = cause }) }
 {
     ParseEnd::Syntax(SyntaxFault { token, line, cause })
+}
+
+/// What some bytes show, from the first on.
+fn scan_bytes(bytes: &[u8]) -> Scanned
+    requires { length bytes.now < 2 ^ 32 }
+    ensures shown { HasShown bytes.now result }
+    ensures within { IsOpenWithin (length bytes.now) result }
+    ensures some { result ≡ Scanned.Bad → 0 < length bytes.now }
+{
+    match bytes {
+        [first, behind @ ..] => scan_front(*first, behind),
+        [] => Scanned::Begun(Place::Slash),
+    }
 }
 
 impl Feeder {
@@ -159,18 +174,6 @@ impl Feeder {
         }
     }
 
-    /// What the bytes that wait show, from the first on.
-    fn scan_waiting(&self) -> Scanned
-        requires { length self.now.waiting.items < 2 ^ 32 }
-        ensures shown { HasShown self.now.waiting.items result }
-        ensures within { IsOpenWithin (length self.now.waiting.items) result }
-    {
-        match self.waiting.as_slice() {
-            [first, behind @ ..] => scan_front(*first, behind),
-            [] => Scanned::Bad,
-        }
-    }
-
     /// Goes on with the scan of the bytes that wait, which has shown this, up to where nothing waits, and answers what is left of
     /// the piece. Where they do not end in it, nothing is left.
     fn go_on<'a>(&mut self, scan: Scanned, piece: &'a [u8]) -> Result<&'a [u8], ParseEnd>
@@ -206,7 +209,7 @@ impl Feeder {
                     let count = size_of(cut);
                     if count < self.waiting.len() {
                         match self.take_front(cut) {
-                            Ok(()) => now = self.scan_waiting(),
+                            Ok(()) => now = scan_bytes(self.waiting.as_slice()),
                             Err(end) => return Err(end),
                         }
                     } else {
@@ -250,7 +253,8 @@ impl Feeder {
         }
     }
 
-    /// Lets bytes wait that begin a token or a comment. What they end is read.
+    /// Lets bytes wait that begin a token or a comment. What they end is read. A byte that begins no token is refused without
+    /// a copy of what stands behind it.
     fn keep(&mut self, bytes: &[u8]) -> Result<(), ParseEnd>
         requires empty { self.old.waiting.items ≡ [] }
         requires bytes { self.old.progress.start + length bytes.now < 2 ^ 32 }
@@ -263,11 +267,14 @@ impl Feeder {
         ensures fault { (all : List ℕ) → HasReadTo all bytes.now self.old.progress self.old.line
             → IfSyntax result (IsFaultOfAny all) }
     {
+        let scan = match scan_bytes(bytes) {
+            Scanned::Bad => return Err(fault(self.progress.number, self.line, Cause::BadByte)),
+            scan => scan,
+        };
         match self.waiting.extend_from_slice(bytes) {
             Ok(()) => {}
             Err(_) => return Err(ParseEnd::OutOfMemory),
         }
-        let scan = self.scan_waiting();
         match self.go_on(scan, &[]) {
             Ok(_) => Ok(()),
             Err(end) => Err(end),

@@ -1,6 +1,6 @@
 //! What the reader has made of the parts of a file so far.
 ghost use Rattle.std.specs.Prelude.{◌≡◌, ◌+◌, ◌<◌, ◌≤◌, ◌^◌, ◌∷◌, [], ◌++◌, ℕ, List, length, IfOk, OnOk};
-ghost use Rattle.token_texts.specs.Cuts.{Part};
+ghost use Rattle.token_texts.specs.Cuts.{Part, gap};
 ghost use Rattle.token_texts.specs.Readings.{IfRefused};
 ghost use Rattle.liberty_groups.specs.Places.{size_of};
 ghost use Rattle.liberty_groups.specs.Feeding.{part_of, LeadsTo, RefusesAt, CanGoOn, HasRead, StopsAny};
@@ -47,8 +47,21 @@ impl Progress {
         }
     }
 
-    /// Goes on behind a part, which has these bytes.
+    /// Goes on behind bytes that are passed over.
     #[inline]
+    fn skip(&mut self, bytes: &[u8])
+        requires some { 0 < length bytes.now }
+        requires bytes { self.old.start + length bytes.now < 2 ^ 32 }
+        requires goes_on { CanGoOn self.old }
+        ensures start { self.new.start ≡ self.old.start + length bytes.now }
+        ensures goes_on { CanGoOn self.new }
+        ensures ok { (before : List (Part Kind)) → LeadsTo before self.old → LeadsTo (before ++ gap bytes.now ∷ []) self.new }
+    {
+        self.reader.pass(bytes);
+        self.start += bytes.len();
+    }
+
+    /// Goes on behind a part, which has these bytes.
     pub(crate) fn take(&mut self, cut: Cut<Kind>, bytes: &[u8]) -> Result<(), ReadEnd<Cause>>
         requires some { 0 < length bytes.now }
         requires bytes { self.old.start + length bytes.now < 2 ^ 32 }
@@ -63,8 +76,7 @@ impl Progress {
     {
         match cut {
             Cut::Skip(_) => {
-                self.reader.pass(bytes);
-                self.start += bytes.len();
+                self.skip(bytes);
                 Ok(())
             }
             Cut::Take(_, kind) => match self.reader.take(self.number, self.start, kind, bytes) {
@@ -99,10 +111,15 @@ impl Progress {
                 break;
             }
             let (part, others) = rest.split_at(count);
-            match self.take(cut, part) {
-                Ok(()) => rest = others,
-                Err(end) => return Err(end),
+            // Each blank is a part: a call of `take` for each would cost more than what it does.
+            match cut {
+                Cut::Skip(_) => self.skip(part),
+                Cut::Take(_, _) => match self.take(cut, part) {
+                    Ok(()) => {}
+                    Err(end) => return Err(end),
+                },
             }
+            rest = others;
         }
         Ok(rest)
     }

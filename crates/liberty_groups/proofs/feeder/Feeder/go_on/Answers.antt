@@ -60,8 +60,8 @@ loop-now-preserved-in-Ok-take_front c =
       left = c.loop-now.invariant.left;
       goes_on = c.in-Ok-take_front.ensures.goes_on;
       lines = c.in-Ok-take_front.ensures.lines;
-      shown = c.scan_waiting-now.ensures.shown;
-      within = λ _. c.scan_waiting-now.ensures.within;
+      shown = subst (λ (l : List ℕ). HasShown l c.scan_bytes-now.result) c.as_slice.ensures.value c.scan_bytes-now.ensures.shown;
+      within = λ _. subst (λ (l : List ℕ). IsOpenWithin (length l) c.scan_bytes-now.result) c.as_slice.ensures.value c.scan_bytes-now.ensures.within;
       read = λ all h. c.in-Ok-take_front.ensures.ok all rest
           (ended_begins w rest c.loop-now.now (omega (arith, some, ok)) c.loop-now.invariant.shown c.in-Ended.cut value) (c.loop-now.invariant.read all h);
     }

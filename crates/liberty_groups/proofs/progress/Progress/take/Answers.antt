@@ -3,15 +3,12 @@ use Rattle.std.proofs.Common.{Option, refl, subst}
 use Rattle.token_texts.specs.Readings.{Follows}
 use Rattle.liberty_groups.specs.Leading.{Leads, Stops}
 use Rattle.liberty_groups.specs.declared.faults.Cause.{Cause}
-use Rattle.liberty_groups.proofs.Feeding.{can_pass, leads_past, leads_behind}
+use Rattle.liberty_groups.proofs.Feeding.{passed_over, leads_behind}
 use Rattle.liberty_groups.proofs.progress.Progress.take.Goals as goal
-
-pub returns-in-Skip-clause-goes_on : goal.returns-in-Skip-clause-goes_on
-returns-in-Skip-clause-goes_on c = can_pass c.args.self.now _ c.args.bytes.now c.requires.some c.requires.goes_on refl refl c.pass.ensures.sound
 
 pub returns-in-Skip-clause-ok : goal.returns-in-Skip-clause-ok
 returns-in-Skip-clause-ok c = λ before leads.
-    leads_past c.args.self.now _ c.args.bytes.now before c.args.cut c.in-Skip.field-0 c.in-Skip.is leads refl refl (c.pass.ensures.state before leads.leads)
+    passed_over before c.args.bytes.now c.args.cut c.in-Skip.field-0 c.in-Skip.is (c.skip.ensures.ok before leads)
 
 pub returns-in-Ok-None-clause-ok : goal.returns-in-Ok-None-clause-ok
 returns-in-Ok-None-clause-ok c = λ before leads.
