@@ -50,7 +50,7 @@ word_ends whole opened unclosed place h le =
     let so_far = h.so_far in
     omega arith
 
-all_five : (p m s l r : Bool) → (p && not m && not s && not l && not r) ≡ true → (p ≡ true) × (m ≡ false) × (s ≡ false) × (l ≡ false) × (r ≡ false)
+pub all_five : (p m s l r : Bool) → (p && not m && not s && not l && not r) ≡ true → (p ≡ true) × (m ≡ false) × (s ≡ false) × (l ≡ false) × (r ≡ false)
 all_five true false false false false e = (refl, refl, refl, refl, refl)
 all_five true true s l r e = cc
 all_five true false true l r e = cc

@@ -3,9 +3,11 @@ ghost use Rattle.std.specs.Prelude.{◌≡◌, ◌+◌, ◌^◌, ◌<◌, ◌≤
 ghost use Rattle.std.specs.List.{list_any};
 ghost use Rattle.token_texts.specs.Blanks.{is_line_end};
 ghost use Rattle.liberty_groups.specs.Tokens.{ends_gap, continuation, mark_of, is_mark, is_plain, begins_comment, goes_on, opened_behind, word_length, backslash_cut, cut_at, breaks};
-ghost use Rattle.liberty_groups.specs.Cuts.{word_cut, is_simple};
+ghost use Rattle.liberty_groups.specs.Cuts.{word_cut, is_simple, is_behind_backslash};
 ghost use Rattle.token_texts.specs.Cuts.{IsWithin};
+ghost use Rattle.token_texts.specs.Quoted.{quoted_cut};
 
+use memchr::memchr;
 use token_texts::{Cut, Escape, begins_with, comment_at, is_blank, quoted_cut};
 
 /// What a token is.
@@ -183,17 +185,41 @@ fn word_cut(first: u8, rest: &[u8]) -> Cut<Kind>
     }
 }
 
-/// What stands at the front of `first` and `rest`.
+/// Whether a backslash stands right before this place.
+#[inline]
+fn is_behind_backslash(bytes: &[u8], place: usize) -> bool
+    requires { place ≤ length bytes.now }
+    ensures { result ≡ is_behind_backslash bytes.now place }
+{
+    place > 0 && bytes[place - 1] == b'\\'
+}
+
+/// Behind a quote: a text, or a token that takes all. Most texts end at the first quote, which is found many bytes at a time.
+#[inline]
+fn text_cut(rest: &[u8]) -> Cut<Kind>
+    requires { length rest.now < 2 ^ 32 }
+    ensures value { result ≡ quoted_cut Escape.NextQuote Kind.Quoted Kind.OpenQuoted rest.now }
+    ensures within { IsWithin (length rest.now + 1) result }
+{
+    match memchr(b'"', rest) {
+        Some(place) if !is_behind_backslash(rest, place) => Cut::Take(place + 2, Kind::Quoted),
+        _ => quoted_cut(Escape::NextQuote, Kind::Quoted, Kind::OpenQuoted, rest),
+    }
+}
+
+/// What stands at the front of `first` and `rest`. Words come first, since they are told by one look-up.
 #[inline]
 pub(crate) fn cut_at(first: u8, rest: &[u8]) -> Cut<Kind>
     requires { length rest.now < 2 ^ 32 }
     ensures value { result ≡ cut_at first rest.now }
     ensures within { IsWithin (length rest.now + 1) result }
 {
-    if is_blank(first) {
+    if is_simple(first) {
+        Cut::Take(word_length(0, rest) + 1, Kind::Word)
+    } else if is_blank(first) {
         Cut::Skip(1)
     } else if first == b'"' {
-        quoted_cut(Escape::NextQuote, Kind::Quoted, Kind::OpenQuoted, rest)
+        text_cut(rest)
     } else if first == b'\\' {
         backslash_cut(rest)
     } else if let Some(comment) = comment_at(Kind::OpenNote, first, rest) {
