@@ -1,6 +1,8 @@
 -- One part more of a file that comes in pieces, and where it is refused.
-use Rattle.std.proofs.Common.{◌≡◌, ℕ, suc, ◌+◌, ◌<◌, ◌≤◌, List, [], ◌∷◌, ◌++◌, length, take, drop, length-drop, Err, sym, ap, ◌∙◌, subst, arith, append_assoc}
-use Rattle.std.proofs.lemmas.List.{take-append-le, drop-append-le, drop-drop, length-append}
+use Rattle.std.proofs.Common.{◌≡◌, ℕ, suc, ◌+◌, ◌<◌, ◌≤◌, Bool, true, false, not, ◌&&◌, ◌||◌, ◌==◌, List, [], ◌∷◌, ◌++◌, length, take, drop, get_or, length-drop, Err, refl, sym, ap, ◌∙◌, subst, arith, append_assoc, eqb-true}
+use Rattle.edge_io.specs.Bytes.{line_end, backslash}
+use Rattle.token_texts.specs.Blanks.{is_blank, is_line_end}
+use Rattle.std.proofs.lemmas.List.{take-append-le, drop-append-le, drop-drop, drop_more, length-append}
 use Rattle.token_texts.specs.Cuts.{Lexeme, Part, gap, token, AreParts, and_gap, and_token, byte_count}
 use Rattle.token_texts.specs.CutLemmas.{bytes_behind, one_token_more, no_token_more}
 use Rattle.token_texts.specs.Readings.{StopsParts, IfRefused}
@@ -9,7 +11,7 @@ use Rattle.token_texts.specs.declared.reading.ReadEnd.TheVariants.{Refused, OutO
 use Rattle.token_texts.specs.declared.cuts.Cut.{Cut}
 use Rattle.token_texts.specs.declared.cuts.Cut.TheVariants.{Skip, Take}
 use Rattle.token_texts.proofs.Loop.{LedTo, led_refuses}
-use Rattle.liberty_groups.specs.Tokens.{cut_at}
+use Rattle.liberty_groups.specs.Tokens.{breaks, cut_at}
 use Rattle.liberty_groups.specs.Leading.{Leads, Stops, IsSound}
 use Rattle.liberty_groups.specs.Within.{cut_within}
 use Rattle.liberty_groups.specs.Places.{size_of}
@@ -17,7 +19,9 @@ use Rattle.liberty_groups.specs.Feeding.{part_of, LeadsTo, StopsAt, RefusesAt, C
 use Rattle.liberty_groups.specs.declared.scan.Kind.{Kind}
 use Rattle.liberty_groups.specs.declared.faults.Cause.{Cause}
 use Rattle.liberty_groups.specs.declared.progress.Progress.{Progress}
+use Rattle.liberty_groups.proofs.Cutting.{cut_blank}
 use Rattle.liberty_groups.proofs.Beginning.{stays}
+use Rattle.liberty_groups.proofs.SoFar.{passed}
 
 -- a part at the front of bytes that begin with it, whatever comes
 pub one_part : (first : ℕ) (after more : List ℕ) (cut : Cut Kind) (parts : List (Part Kind)) → cut_at first (after ++ more) ≡ cut
@@ -165,3 +169,37 @@ begins_short rest first after cut split is lt =
     let long : length rest ≡ suc (length after) = ap length split in
     let size : size_of cut ≡ size_of (cut_at first after) = ap size_of is in
     record { first = first; after = after; parted = split; stays = λ more. stays first after (omega (arith, long, size, lt)) more ∙ sym is }
+
+-- ---- blanks
+
+-- the progress behind so many blanks, with or without a line end since the last token
+abbrev pub behind_blanks : Progress → Bool → ℕ → Progress
+behind_blanks p fresh count = record p { reader = record p.reader { fresh = fresh }; start = p.start + count }
+
+blank_breaks : (b : ℕ) → is_blank b ≡ true → breaks (b ∷ []) ≡ is_line_end b
+blank_breaks b blank = by (b == backslash) refl (b == line_end)
+  where
+    by : (t : Bool) → (b == backslash) ≡ t → (line : Bool) → (not t && (line || false)) ≡ line
+    by true e line = absurd (let same = eqb-true b backslash e in let no : false ≡ true = subst (λ n. is_blank n ≡ true) same blank in cc)
+    by false e true = refl
+    by false e false = refl
+
+module _ (p : Progress) (bytes : List ℕ) (count : ℕ) (fresh : Bool) (within : count < length bytes)
+    (blank : is_blank (get_or bytes count 0) ≡ true) where
+  pub blank_goes_on : CanGoOn (behind_blanks p fresh count) → CanGoOn (behind_blanks p (fresh || is_line_end (get_or bytes count 0)) (count + 1))
+  blank_goes_on goes = can_pass (behind_blanks p fresh count) (behind_blanks p (fresh || is_line_end (get_or bytes count 0)) (count + 1))
+      (get_or bytes count 0 ∷ []) (omega arith) goes refl (omega arith) (λ number sound. record { counted = sound.counted; built = sound.built; few = sound.few })
+
+  pub blank_read : {all : List ℕ} → HasRead all (drop count bytes) (behind_blanks p fresh count)
+      → HasRead all (drop (count + 1) bytes) (behind_blanks p (fresh || is_line_end (get_or bytes count 0)) (count + 1))
+  blank_read {all} h =
+      let b : ℕ = get_or bytes count 0 in
+      let old : Progress = behind_blanks p fresh count in
+      let now : Progress = behind_blanks p (fresh || is_line_end b) (count + 1) in
+      let parted = drop_more bytes count 0 within in
+      let left = length-drop count bytes in
+      read_on old (drop count bytes) (b ∷ []) (drop (count + 1) bytes) now (Skip 1) h
+      (record { first = b; after = drop (count + 1) bytes; parted = parted; stays = λ more. cut_blank b (drop (count + 1) bytes ++ more) blank })
+      (omega arith) (sym (ap (take 1) parted)) (sym (ap (drop 1) parted)) (omega arith)
+      (λ before leads. past old now (b ∷ []) before leads refl (omega arith)
+      (passed before (b ∷ []) old.reader now.reader leads.leads refl (ap (λ t. fresh || t) (sym (blank_breaks b blank)))))

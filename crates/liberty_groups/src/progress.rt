@@ -10,7 +10,7 @@ use crate::faults::Cause;
 use crate::reader::Reader;
 use crate::scan::{Kind, cut_at};
 use std::alloc::Global;
-use token_texts::{Cut, ReadEnd, TokenReader};
+use token_texts::{Cut, ReadEnd, TokenReader, is_blank};
 
 /// The reader, and the number and the place of the token that comes next.
 #[derive(Drop)]
@@ -61,7 +61,35 @@ impl Progress {
         self.start += bytes.len();
     }
 
+    /// Goes on behind the blanks at the front of some bytes, each of which is a part, and answers what is left.
+    #[inline]
+    fn pass_blanks<'a>(&mut self, bytes: &'a [u8]) -> &'a [u8]
+        requires bytes { self.old.start + length bytes.now < 2 ^ 32 }
+        requires goes_on { CanGoOn self.old }
+        ensures goes_on { CanGoOn self.new }
+        ensures shorter { length result.now ≤ length bytes.now }
+        ensures size { self.new.start + length result.now ≡ self.old.start + length bytes.now }
+        ensures read { (all : List ℕ) → HasRead all bytes.now self.old → HasRead all result.now self.new }
+    {
+        let mut fresh = self.reader.fresh;
+        let mut place = 0;
+        while place < bytes.len() {
+            let byte = bytes[place];
+            if !is_blank(byte) {
+                break;
+            }
+            if byte == b'\n' {
+                fresh = true;
+            }
+            place += 1;
+        }
+        self.reader.fresh = fresh;
+        self.start += place;
+        bytes.split_at(place).1
+    }
+
     /// Goes on behind a part, which has these bytes.
+    #[inline(always)]
     pub(crate) fn take(&mut self, cut: Cut<Kind>, bytes: &[u8]) -> Result<(), ReadEnd<Cause>>
         requires some { 0 < length bytes.now }
         requires bytes { self.old.start + length bytes.now < 2 ^ 32 }
@@ -103,7 +131,7 @@ impl Progress {
         ensures ok { (all : List ℕ) → HasRead all bytes.now self.old → IfOk result (λ left. HasRead all left.now self.new) }
         ensures fault { (all : List ℕ) → HasRead all bytes.now self.old → IfRefused result (StopsAny all) }
     {
-        let mut rest = bytes;
+        let mut rest = self.pass_blanks(bytes);
         while let [first, behind @ ..] = rest {
             let cut = cut_at(*first, behind);
             let count = size_of(cut);
@@ -111,15 +139,10 @@ impl Progress {
                 break;
             }
             let (part, others) = rest.split_at(count);
-            // Each blank is a part: a call of `take` for each would cost more than what it does.
-            match cut {
-                Cut::Skip(_) => self.skip(part),
-                Cut::Take(_, _) => match self.take(cut, part) {
-                    Ok(()) => {}
-                    Err(end) => return Err(end),
-                },
+            match self.take(cut, part) {
+                Ok(()) => rest = self.pass_blanks(others),
+                Err(end) => return Err(end),
             }
-            rest = others;
         }
         Ok(rest)
     }

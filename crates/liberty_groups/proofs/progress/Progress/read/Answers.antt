@@ -6,7 +6,7 @@ use Rattle.token_texts.specs.declared.reading.ReadEnd.{ReadEnd}
 use Rattle.token_texts.specs.declared.reading.ReadEnd.TheVariants.{Refused, OutOfMemory}
 use Rattle.liberty_groups.specs.declared.faults.Cause.{Cause}
 use Rattle.token_texts.specs.CutLemmas.{first_and_rest}
-use Rattle.liberty_groups.proofs.Feeding.{read_on, stops_end, begins_short, passed_over}
+use Rattle.liberty_groups.proofs.Feeding.{read_on, stops_end, begins_short}
 use Rattle.liberty_groups.proofs.progress.Progress.read.Goals as goal
 
 pub returns-in-Err-clause-fault : goal.returns-in-Err-clause-fault
@@ -40,35 +40,16 @@ loop-rest-preserved c =
     let back = c.split_at.ensures.back_len in
     let size = c.loop-rest.invariant.size in
     let start = c.in-Ok.ensures.start in
+    let left = c.pass_blanks-rest-in-Ok.ensures.size in
+    let fewer = c.pass_blanks-rest-in-Ok.ensures.shorter in
     record {
       size = omega arith;
       shorter = let shorter = c.loop-rest.invariant.shorter in omega arith;
-      goes_on = c.in-Ok.ensures.goes_on;
-      read = λ all read.
-          read_on c.loop-rest.self rest c.split_at.result.0.now c.split_at.result.1.now c.take.new.self c.cut_at-cut.result
+      goes_on = c.pass_blanks-rest-in-Ok.ensures.goes_on;
+      read = λ all read. c.pass_blanks-rest-in-Ok.ensures.read all
+          (read_on c.loop-rest.self rest c.split_at.result.0.now c.split_at.result.1.now c.take.new.self c.cut_at-cut.result
           (c.loop-rest.invariant.read all read)
           (begins_short rest _ _ c.cut_at-cut.result (first_and_rest rest c.in-len1-up.len_at_least) c.cut_at-cut.ensures.value (omega arith)) (omega arith)
           (c.split_at.ensures.front ∙ ap (λ n. take n rest) count) (c.split_at.ensures.back ∙ ap (λ n. drop n rest) count) (omega arith)
-          c.in-Ok.ensures.ok;
-    }
-
-pub loop-rest-preserved-in-Skip : goal.loop-rest-preserved-in-Skip
-loop-rest-preserved-in-Skip c =
-    let rest : List ℕ = c.loop-rest.rest.now in
-    let count = c.size_of-count.ensures in
-    let lt = c.if-count-rest.false in
-    let front = c.split_at.ensures.front_len in
-    let back = c.split_at.ensures.back_len in
-    let size = c.loop-rest.invariant.size in
-    let start = c.skip.ensures.start in
-    record {
-      size = omega arith;
-      shorter = let shorter = c.loop-rest.invariant.shorter in omega arith;
-      goes_on = c.skip.ensures.goes_on;
-      read = λ all read.
-          read_on c.loop-rest.self rest c.split_at.result.0.now c.split_at.result.1.now c.skip.new.self c.cut_at-cut.result
-          (c.loop-rest.invariant.read all read)
-          (begins_short rest _ _ c.cut_at-cut.result (first_and_rest rest c.in-len1-up.len_at_least) c.cut_at-cut.ensures.value (omega arith)) (omega arith)
-          (c.split_at.ensures.front ∙ ap (λ n. take n rest) count) (c.split_at.ensures.back ∙ ap (λ n. drop n rest) count) (omega arith)
-          (λ before leads. passed_over before c.split_at.result.0.now c.cut_at-cut.result c.in-Skip.field-0 c.in-Skip.is (c.skip.ensures.ok before leads));
+          c.in-Ok.ensures.ok);
     }
