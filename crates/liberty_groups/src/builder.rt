@@ -52,6 +52,7 @@ impl Builder {
     }
 
     /// Takes what a token adds.
+    #[inline(always)]
     pub(crate) fn take(&mut self, event: Event) -> Result<(), OutOfMemory>
         requires sound { IsBuilt self.old }
         ensures built { OnOk result (built_of self.new ≡ behind (built_of self.old) event) }

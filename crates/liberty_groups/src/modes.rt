@@ -210,6 +210,7 @@ impl Mode {
     }
 
     /// What a token does; `deep` says that no group may be opened.
+    #[inline(always)]
     pub fn next(self, deep: bool, kind: Kind, bytes: &[u8]) -> Step
         ensures { result ≡ does self deep kind bytes.now }
     {

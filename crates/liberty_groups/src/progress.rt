@@ -75,11 +75,11 @@ impl Progress {
         let mut place = 0;
         while place < bytes.len() {
             let byte = bytes[place];
-            if !is_blank(byte) {
-                break;
-            }
-            if byte == b'\n' {
-                fresh = true;
+            if byte != b' ' {
+                if !is_blank(byte) {
+                    break;
+                }
+                fresh = fresh | (byte == b'\n');
             }
             place += 1;
         }

@@ -56,6 +56,7 @@ impl Reader {
     }
 
     /// Adds an event; behind it something else is waited for, and so many groups have not ended.
+    #[inline(always)]
     fn add(&mut self, event: Event, mode: Mode, depth: usize) -> Result<(), OutOfMemory>
         requires built { IsBuilt self.old.builder }
         ensures state { OnOk result (state_of self.new ≡ at_mode mode (behind (built_of self.old.builder) event)) }
@@ -99,6 +100,7 @@ impl Reader {
     }
 
     /// Does what a step says that a token of this kind and of these bytes makes, or says why the token is refused.
+    #[inline(always)]
     fn step(&mut self, step: Step, kind: Kind, bytes: &[u8]) -> Result<Option<Cause>, OutOfMemory>
         requires bytes { length bytes.now < 2 ^ 32 }
         requires sound { IsSound self.old }
@@ -131,6 +133,7 @@ impl Reader {
     }
 
     /// Ends an attribute, if the token shows that it has ended.
+    #[inline(always)]
     fn settle(&mut self, kind: Kind, fresh: bool) -> Result<(), OutOfMemory>
         requires sound { IsSound self.old }
         requires built { IsBuilt self.old.builder }
@@ -148,6 +151,7 @@ impl Reader {
 
     /// Takes the token of this kind and of these bytes, or says why it cannot stand here; `fresh` tells of a line end
     /// before it.
+    #[inline(always)]
     fn take_token(
         &mut self,
         kind: Kind,
@@ -196,6 +200,7 @@ impl TokenReader for Reader {
         self.fresh = self.fresh | breaks(bytes);
     }
 
+    #[inline(always)]
     fn take(
         &mut self,
         _number: u64,
