@@ -7,7 +7,7 @@ ghost use Rattle.liberty_groups.specs.Built.{built_of, IsBuilt};
 ghost use Rattle.liberty_groups.specs.declared.events.Event.{Event};
 
 use crate::events::Event;
-use crate::filling::{add_all, add_name};
+use crate::filling::{RecentNames, add_all, add_name};
 use crate::flat::FlatTree;
 use crate::rows::{AttributeRow, OpenGroup, Span};
 use crate::tree::GroupTree;
@@ -18,6 +18,7 @@ use std::alloc::Global;
 #[derive(Drop)]
 pub struct Builder {
     pub flat: FlatTree,
+    pub recent: RecentNames,
     pub open_groups: Vec<OpenGroup>,
     pub name: Vec<u8>,
     pub parts: Vec<Text>,
@@ -32,6 +33,7 @@ impl Builder {
     {
         Builder {
             flat: FlatTree::new(alloc),
+            recent: RecentNames::new(),
             open_groups: Vec::new(alloc),
             name: Vec::new(alloc),
             parts: Vec::new(alloc),
@@ -105,7 +107,7 @@ impl Builder {
         ensures sound { OnOk result (IsBuilt self.new) }
     {
         let row = AttributeRow {
-            name: add_name(&mut self.flat.names, self.name.as_slice())?,
+            name: add_name(&mut self.flat.names, &mut self.recent, self.name.as_slice())?,
             values: add_all(&mut self.flat.texts, &mut self.parts)?,
         };
         self.name.clear();
