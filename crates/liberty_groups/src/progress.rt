@@ -119,7 +119,7 @@ impl Progress {
         }
     }
 
-    /// Reads the parts that have bytes behind them, since these are the same whatever comes, and answers what is left.
+    /// Reads the parts that are the same whatever comes, which are the blanks and what has bytes behind it, and answers what is left.
     pub(crate) fn read<'a>(&mut self, bytes: &'a [u8]) -> Result<&'a [u8], ReadEnd<Cause>>
         requires bytes { self.old.start + length bytes.now < 2 ^ 32 }
         requires goes_on { CanGoOn self.old }
