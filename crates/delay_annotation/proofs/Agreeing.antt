@@ -1,12 +1,10 @@
 -- The parts of an annotated design agree.
-use Rattle.std.proofs.Common.{◌≡◌, ℕ, List, Ok, refl, sym, subst}
+use Rattle.std.proofs.Common.{ℕ, List, Ok, refl, sym, subst}
 use Rattle.std.specs.Prelude.{unsigned_abs}
 use Rattle.cell_models.specs.NamedSets.{NamedCells}
 use Rattle.netlist_link.specs.FlatNetlist.{FlatNetlist}
 use Rattle.nldm_lookup.specs.declared.beyond.Beyond.{Beyond}
 use Rattle.wire_slews.specs.declared.slews.WireSlew.{WireSlew}
-use Rattle.spef_nets.specs.NetElements.{NetElements}
-use Rattle.spef_nets.specs.Sections.{Corners}
 use Rattle.slew_order.specs.NetTimes.{NetTimes, Fits}
 use Rattle.slew_order.specs.Slews.{SlewTables, AreTablesOf, AreSlews}
 use Rattle.slew_order.specs.Timings.{SlewSource, source_of}
@@ -14,10 +12,10 @@ use Rattle.net_parasitics.specs.Inputs.{Inputs}
 use Rattle.net_parasitics.specs.declared.ends.Missing.{Missing}
 use Rattle.delay_core.specs.DesignReading.{LinkedDesign}
 use Rattle.delay_annotation.specs.AnnotatedDesigns.{AreSound, DesignDelays, with_delays_of, PartsAgree}
-use Rattle.delay_annotation.specs.Annotation.{TimesFromText, of_sections}
 use Rattle.delay_annotation.specs.DelayPhase.{FindsDelays, are_delays}
-use Rattle.delay_annotation.specs.DesignTiming.{slew_source, TimesDesign, with_rows}
+use Rattle.delay_annotation.specs.DesignTiming.{slew_source}
 use Rattle.delay_annotation.specs.SlewPhase.{FindsSlews, are_slews}
+use Rattle.delay_annotation.specs.TimingHalves.{TimesNets, gets_rows}
 use Rattle.delay_annotation.specs.declared.settings.Settings.{Settings}
 
 -- what is found fits the netlist
@@ -38,23 +36,12 @@ own_source netlist cells count nets beyond mode slew slews are =
     (subst (λ m. AreSlews (source_of netlist cells count nets slews.beyond m slew) slews) (sym are.mode)
     (subst (λ b. AreSlews (source_of netlist cells count nets b mode slew) slews) (sym are.beyond) are))
 
-timed_agree : (count : ℕ) (design : LinkedDesign) (sections : List NetElements) (settings : Settings) (delays : DesignDelays) → TimesDesign count design sections settings (Ok delays)
+-- the parts of a design with its delays agree
+pub agree : (count : ℕ) (design : LinkedDesign) (nets : NetTimes) (settings : Settings) (delays : DesignDelays) → TimesNets count design nets settings (Ok delays)
     → AreSound count design.cells delays → PartsAgree count (with_delays_of design.netlist design.cells delays)
-timed_agree count design sections settings _ (with_rows nets slews found are) sound = record {
+agree count design nets settings _ (gets_rows slews are) sound = record {
   slews = own_source design.netlist design.cells count nets settings.beyond settings.wire_slew (unsigned_abs settings.input_slew.0) slews (slews_found (slew_source count design nets settings) slews are);
   shaped = sound.shaped;
   small = sound.small;
   rows = refl;
 }
-
--- the parts of what is made of a text agree
-pub agree : {I : Type 0} (corners : Corners I) (design : LinkedDesign) (bytes : List ℕ) (settings : Settings) (delays : DesignDelays) → TimesFromText corners design bytes settings (Ok delays)
-    → AreSound corners.count design.cells delays → PartsAgree corners.count (with_delays_of design.netlist design.cells delays)
-agree corners design bytes settings _ (of_sections nets (Ok delays) reads times) sound = timed_agree corners.count design nets.nets settings delays times sound
-
--- the same of a netlist and cells that the design is taken apart into
-pub parts_agree : {I : Type 0} (corners : Corners I) (design : LinkedDesign) (bytes : List ℕ) (settings : Settings) (delays : DesignDelays) (netlist : FlatNetlist) (cells : List NamedCells) → TimesFromText corners design bytes settings (Ok delays)
-    → AreSound corners.count design.cells delays → netlist ≡ design.netlist → cells ≡ design.cells → PartsAgree corners.count (with_delays_of netlist cells delays)
-parts_agree corners design bytes settings delays netlist cells times sound is are =
-    subst (λ (n : FlatNetlist). PartsAgree corners.count (with_delays_of n cells delays)) (sym is)
-    (subst (λ (c : List NamedCells). PartsAgree corners.count (with_delays_of design.netlist c delays)) (sym are) (agree corners design bytes settings delays times sound))

@@ -1,13 +1,13 @@
 -- The files of a design are read one after another, and a fault at one of them has its cause.
-use Rattle.std.proofs.Common.{◌≡◌, ℕ, zero, suc, ◌+◌, ◌<◌, ◌≤◌, ◌==◌, if◌then◌else◌, ◌⊎◌, inl, inr, List, [], ◌∷◌, ◌++◌, length, Option, Some, refl, sym, ap, subst, ◌∙◌, arith}
+use Rattle.std.proofs.Common.{◌≡◌, ℕ, zero, suc, ◌+◌, ◌<◌, ◌≤◌, ◌⊎◌, inl, inr, List, [], ◌∷◌, ◌++◌, length, Option, Some, refl, ap, subst, ◌∙◌, arith}
 use Rattle.std.specs.Prelude.{slice_get}
 use Rattle.std.proofs.lemmas.Bool.Decides.{nat_tests}
+use Rattle.std.proofs.lemmas.Option.{slice_get_within}
 use Rattle.edge_io.specs.Counts.{Rose, RoseBy}
 use Rattle.edge_io.specs.Holding.{Held, TellsMissing}
-use Rattle.delay_core.specs.DesignReading.{input_key}
-use Rattle.delay_core.specs.LibraryReading.{IsLibraryFault}
+use Rattle.delay_core.specs.DesignReading.{input_key, IsInputFault}
 use Rattle.delay_core.specs.declared.refusal.FileKey.{FileKey}
-use Rattle.delay_core.specs.declared.refusal.FileKey.TheVariants.{Netlist, Spef}
+use Rattle.delay_core.specs.declared.refusal.FileKey.TheVariants.{Spef}
 use Rattle.delay_annotation.specs.Annotation.{key_of_file, files_read, IsAnnotationFault, IsSpefFault}
 use Rattle.delay_annotation.specs.declared.settings.Files.{Files}
 
@@ -35,22 +35,18 @@ in_front [] more k name at = cc
 in_front (text ∷ texts) more zero name at = at
 in_front (text ∷ texts) more (suc k) name at = in_front texts more k name at
 
--- a fault at the netlist
-pub netlist_fault : (held : Option Held) (corners : ℕ) (files : Files) (faults faults' opens opens' : ℕ) → Rose faults faults' ⊎ TellsMissing held files.netlist → RoseBy 1 opens opens'
-    → IsAnnotationFault held corners files faults faults' opens opens' Netlist
-netlist_fault held corners files faults faults' opens opens' cause opened =
-    record { before = 0; name = files.netlist; named = refl; keyed = key_before corners 0 (omega arith); cause = cause; opened = opened }
-
--- at a library, which is read behind it
-pub library_fault : (held held' : Option Held) (corners : ℕ) (files : Files) (faults faults' now opens opens' last : ℕ) (key : FileKey) → held' ≡ held → faults ≤ faults' → RoseBy 1 opens opens'
-    → IsLibraryFault held' corners files.libraries faults' now opens' last key → IsAnnotationFault held corners files faults now opens last key
-library_fault held held' corners files faults faults' now opens opens' last key same later opened fault = record {
-  before = suc fault.corner;
+-- a fault at the netlist or a library
+pub input_fault : (held : Option Held) (corners : ℕ) (files : Files) (faults now opens last : ℕ) (key : FileKey) → length files.libraries ≡ corners
+    → IsInputFault held corners (files.netlist ∷ files.libraries) faults now opens last key → IsAnnotationFault held corners files faults now opens last key
+input_fault held corners files faults now opens last key many fault = record {
+  before = fault.before;
   name = fault.name;
-  named = in_front files.libraries (files.spef ∷ []) fault.corner fault.name fault.named;
-  keyed = let within = fault.within in fault.keyed ∙ key_before corners (suc fault.corner) (omega (arith, within));
-  cause = cause_later held held' fault.name faults faults' now same later fault.cause;
-  opened = let more = fault.opened in omega (arith, opened, more);
+  named = in_front (files.netlist ∷ files.libraries) (files.spef ∷ []) fault.before fault.name fault.named;
+  keyed =
+      let within = slice_get_within (files.netlist ∷ files.libraries) fault.before fault.name fault.named in
+      fault.keyed ∙ key_before corners fault.before (omega (arith, within, many));
+  cause = fault.cause;
+  opened = fault.opened;
 }
 
 -- and at the SPEF file, which is read behind all libraries

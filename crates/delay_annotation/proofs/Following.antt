@@ -7,22 +7,28 @@ use Rattle.spef_nets.specs.Sections.{Corners}
 use Rattle.spef_text.specs.Heads.{HeadText}
 use Rattle.spef_text.specs.SpefFiles.{SpefText}
 use Rattle.verdict_phases.specs.Lifting.{IsLifted}
-use Rattle.verdict_phases.specs.Phases.{Stop, RefusedBy, Reads, Step, Go, Halt, Follows}
+use Rattle.verdict_phases.specs.Phases.{Stop, RefusedBy, Reads, Step, Go, Halt, Follows, FollowsNoFile}
 use Rattle.verdict_phases.specs.declared.ends.NoFileEnd.{NoFileEnd}
 use Rattle.verdict_phases.specs.declared.ends.NoFileEnd.TheVariants as no_file
 use Rattle.verdict_phases.specs.declared.ends.PhaseEnd.{PhaseEnd}
 use Rattle.verdict_phases.specs.declared.ends.PhaseEnd.TheVariants as phase
-use Rattle.delay_core.specs.DesignReading.{ReadsNetlistFile, ReadInputs, LinkedDesign, ReadsInputs, LinksInputs}
+use Rattle.slew_order.specs.NetTimes.{NetTimes, Fits}
+use Rattle.delay_core.specs.DesignReading.{LinkedDesign, ReadsDesign, with_design}
+use Rattle.delay_core.specs.DesignReading.{at_netlist as design_at_netlist, at_inputs as design_at_inputs, at_design as design_at_design}
 use Rattle.delay_core.specs.Refused.{OnRefusal, AtReadFault}
 use Rattle.delay_core.specs.SpefPhases.{ParsesSpef, HeadsSpef, NetsSpef, at_sections, through}
 use Rattle.delay_core.specs.SpefWork.{is_early, OnEarly}
 use Rattle.delay_core.specs.declared.refusal.FileKey.{FileKey}
 use Rattle.delay_core.specs.declared.refusal.Refusal.{Refusal}
 use Rattle.delay_annotation.specs.AnnotatedDesigns.{AnnotatedDesign, DesignDelays, with_delays_of}
-use Rattle.delay_annotation.specs.Annotation.{ReadsSpefFile, TimesFromText, at_reading, of_sections, AnnotatesFrom, at_timing, with_delays, Annotates, at_inputs, at_design, is_annotated}
-use Rattle.delay_annotation.specs.DesignTiming.{TimesDesign}
+use Rattle.delay_annotation.specs.Annotation.{ReadsSpefFile, TimesFromText, at_reading, of_sections, AnnotatesFrom, at_link, at_spef, at_timing, with_delays, Annotates, at_netlist, at_inputs, at_design, is_annotated}
+use Rattle.delay_annotation.specs.DelayPhase.{FindsDelays}
+use Rattle.delay_annotation.specs.DesignTiming.{net_inputs, TimesDesign, at_delays, at_slews, with_rows}
+use Rattle.delay_annotation.specs.TimingHalves.{FindsNets, by_sections, ReadsNetTimes, at_file, at_nets, are_read, TimesNets, stops_at_slews, gets_rows, AnnotatesDesign}
+use Rattle.delay_annotation.specs.TimingHalves.{at_sections as found_at_sections}
 use Rattle.delay_annotation.specs.declared.settings.Files.{Files}
 use Rattle.delay_annotation.specs.declared.settings.Settings.{Settings}
+use Rattle.delay_annotation.proofs.Agreeing.{delays_fit}
 
 -- the end of phases, handed on
 on_halt : (A B : Type 0) (end : PhaseEnd Refusal FileKey) (P : Step Refusal FileKey A → Type 0) (Q : Step Refusal FileKey B → Type 0) → Follows P (Err end) → ((why : Stop Refusal FileKey) → P (Halt why) → Q (Halt why)) → Follows Q (Err end)
@@ -56,45 +62,79 @@ lifted_no_fault B (Ok value) end Q is = tt
 lifted_no_fault B (Err other) (no_file.Refused refusal) Q is = subst (λ (e : PhaseEnd Refusal FileKey). AtReadFault {A = B} (Err e) Q) (sym is) tt
 lifted_no_fault B (Err other) no_file.OutOfMemory Q is = subst (λ (e : PhaseEnd Refusal FileKey). AtReadFault {A = B} (Err e) Q) (sym is) tt
 
-module _ {I : Type 0} (held : Option Held) (corners : Corners I) (settings : Settings) where
-  -- the bytes of the SPEF file, as they are lent
-  pub timing_stops : (inputs : ReadInputs) (spef : List ℕ) (design : LinkedDesign) (text bytes : List ℕ) (refusal : Refusal) → LinksInputs inputs settings.top (Ok design) → ReadsSpefFile held spef (Go text) → bytes ≡ text
-      → TimesFromText corners design bytes settings (Err refusal) → AnnotatesFrom held corners inputs spef settings (Halt (RefusedBy refusal))
-  timing_stops inputs spef design text bytes refusal links reads is times =
-      at_timing design text refusal links reads (subst (λ (b : List ℕ). TimesFromText corners design b settings (Err refusal)) is times)
+-- a refusal of a phase that reads no file and never refuses early, handed on
+pub lifted_late : (A B : Type 0) (result : Result B (PhaseEnd Refusal FileKey)) (end : NoFileEnd Refusal) (P : Result A Refusal → Type 0) (fact : Type 0) → IsErrAnd result (λ other. IsLifted end other) → FollowsNoFile P (Err end)
+    → ((refusal : Refusal) → P (Err refusal) → IsTrue (is_early refusal) → ⊥) → OnEarly result fact
+lifted_late A B (Ok value) end P fact is holds late = tt
+lifted_late A B (Err other) (no_file.Refused refusal) P fact is holds late = subst (λ (e : PhaseEnd Refusal FileKey). OnEarly {A = B} (Err e) fact) (sym is) (λ early. absurd (late refusal holds early))
+lifted_late A B (Err other) no_file.OutOfMemory P fact is holds late = subst (λ (e : PhaseEnd Refusal FileKey). OnEarly {A = B} (Err e) fact) (sym is) tt
 
-  pub timing_goes : (inputs : ReadInputs) (spef : List ℕ) (design : LinkedDesign) (text bytes : List ℕ) (delays : DesignDelays) → LinksInputs inputs settings.top (Ok design) → ReadsSpefFile held spef (Go text) → bytes ≡ text
-      → TimesFromText corners design bytes settings (Ok delays) → AnnotatesFrom held corners inputs spef settings (Go (with_delays_of design.netlist design.cells delays))
-  timing_goes inputs spef design text bytes delays links reads is times =
-      with_delays design text delays links reads (subst (λ (b : List ℕ). TimesFromText corners design b settings (Ok delays)) is times)
-
-  -- the inputs of the netlist's bytes, as they are lent to a shelf that holds the same
-  pub are_inputs : (files : Files) (held' : Option Held) (text bytes : List ℕ) (step : Step Refusal FileKey ReadInputs) → held' ≡ held → bytes ≡ text → ReadsInputs held' corners.count bytes settings.top files.libraries step
-      → ReadsInputs held corners.count text settings.top files.libraries step
-  are_inputs files held' text bytes step same is are =
-      subst (λ (b : List ℕ). ReadsInputs held corners.count b settings.top files.libraries step) is
-      (subst (λ (h : Option Held). ReadsInputs h corners.count bytes settings.top files.libraries step) same are)
-
-  pub inputs_stop : (files : Files) (held' : Option Held) (text bytes : List ℕ) (why : Stop Refusal FileKey) → held' ≡ held → bytes ≡ text → ReadsNetlistFile held files.netlist (Go text)
-      → ReadsInputs held' corners.count bytes settings.top files.libraries (Halt why) → Annotates held corners files settings (Halt why)
-  inputs_stop files held' text bytes why same is reads stop = at_inputs text why reads (are_inputs files held' text bytes (Halt why) same is stop)
-
-  pub design_stops : (files : Files) (held' held₂ : Option Held) (text bytes : List ℕ) (inputs : ReadInputs) (why : Stop Refusal FileKey) → held' ≡ held → held₂ ≡ held → bytes ≡ text → ReadsNetlistFile held files.netlist (Go text)
-      → ReadsInputs held' corners.count bytes settings.top files.libraries (Go inputs) → AnnotatesFrom held₂ corners inputs files.spef settings (Halt why) → Annotates held corners files settings (Halt why)
-  design_stops files held' held₂ text bytes inputs why same also is reads are stop =
-      at_design text inputs why reads (are_inputs files held' text bytes (Go inputs) same is are) (subst (λ (h : Option Held). AnnotatesFrom h corners inputs files.spef settings (Halt why)) also stop)
-
-  pub design_goes : (files : Files) (held' held₂ : Option Held) (text bytes : List ℕ) (inputs : ReadInputs) (annotated : AnnotatedDesign) → held' ≡ held → held₂ ≡ held → bytes ≡ text → ReadsNetlistFile held files.netlist (Go text)
-      → ReadsInputs held' corners.count bytes settings.top files.libraries (Go inputs) → AnnotatesFrom held₂ corners inputs files.spef settings (Go annotated) → Annotates held corners files settings (Go annotated)
-  design_goes files held' held₂ text bytes inputs annotated same also is reads are goes =
-      is_annotated text inputs annotated reads (are_inputs files held' text bytes (Go inputs) same is are) (subst (λ (h : Option Held). AnnotatesFrom h corners inputs files.spef settings (Go annotated)) also goes)
-
--- the delays come behind the sections of the text
+-- the loads and the Elmore sums come behind the sections of the text
 pub text_refused : {I : Type 0} (corners : Corners I) (design : LinkedDesign) (bytes : List ℕ) (settings : Settings) (file : SpefText) (head : HeadText) (refusal : Refusal) → ParsesSpef bytes (Ok file) → HeadsSpef file (Ok head)
-    → NetsSpef corners file head (Err refusal) → TimesFromText corners design bytes settings (Err refusal)
-text_refused corners design bytes settings file head refusal parses heads says = at_reading refusal (at_sections file head refusal parses heads says)
+    → NetsSpef corners file head (Err refusal) → FindsNets corners design bytes settings (Err refusal)
+text_refused corners design bytes settings file head refusal parses heads says = found_at_sections refusal (at_sections file head refusal parses heads says)
 
-pub text_timed : {I : Type 0} (corners : Corners I) (design : LinkedDesign) (bytes : List ℕ) (settings : Settings) (file : SpefText) (head : HeadText) (nets : List NetElements) (answer : Result DesignDelays Refusal) → ParsesSpef bytes (Ok file)
-    → HeadsSpef file (Ok head) → NetsSpef corners file head (Ok nets) → TimesDesign corners.count design nets settings answer → TimesFromText corners design bytes settings answer
-text_timed corners design bytes settings file head nets answer parses heads says times =
-    of_sections (record { design = head.design; nets = nets }) answer (through file head nets parses heads says) times
+pub text_found : {I : Type 0} (corners : Corners I) (design : LinkedDesign) (bytes : List ℕ) (settings : Settings) (file : SpefText) (head : HeadText) (nets : List NetElements) (answer : Result NetTimes Refusal) → ParsesSpef bytes (Ok file)
+    → HeadsSpef file (Ok head) → NetsSpef corners file head (Ok nets) → FindsDelays (net_inputs corners.count design nets settings) settings.missing answer → FindsNets corners design bytes settings answer
+text_found corners design bytes settings file head nets answer parses heads says finds =
+    by_sections (record { design = head.design; nets = nets }) answer (through file head nets parses heads says) finds
+
+module _ {I : Type 0} (held : Option Held) (corners : Corners I) (design : LinkedDesign) (spef : List ℕ) (settings : Settings) where
+  -- the bytes of the SPEF file, as they are lent
+  pub nets_stop : (text bytes : List ℕ) (refusal : Refusal) → ReadsSpefFile held spef (Go text) → bytes ≡ text → FindsNets corners design bytes settings (Err refusal)
+      → ReadsNetTimes held corners design spef settings (Halt (RefusedBy refusal))
+  nets_stop text bytes refusal reads is finds = at_nets text refusal reads (subst (λ (b : List ℕ). FindsNets corners design b settings (Err refusal)) is finds)
+
+  pub nets_go : (text bytes : List ℕ) (nets : NetTimes) → ReadsSpefFile held spef (Go text) → bytes ≡ text → FindsNets corners design bytes settings (Ok nets) → ReadsNetTimes held corners design spef settings (Go nets)
+  nets_go text bytes nets reads is finds = are_read text nets reads (subst (λ (b : List ℕ). FindsNets corners design b settings (Ok nets)) is finds)
+
+  -- what is found fits the netlist
+  found_fit : (bytes : List ℕ) (nets : NetTimes) → FindsNets corners design bytes settings (Ok nets) → Fits design.netlist nets
+  found_fit bytes _ (by_sections sections (Ok nets) reads finds) = delays_fit (net_inputs corners.count design sections.nets settings) settings.missing nets finds
+
+  pub read_fit : (nets : NetTimes) → ReadsNetTimes held corners design spef settings (Go nets) → Fits design.netlist nets
+  read_fit _ (are_read bytes nets reads finds) = found_fit bytes nets finds
+
+  -- where the nets have no loads and Elmore sums, the design has no delays
+  nets_refused : (bytes : List ℕ) (refusal : Refusal) → FindsNets corners design bytes settings (Err refusal) → TimesFromText corners design bytes settings (Err refusal)
+  nets_refused bytes _ (found_at_sections refusal reads) = at_reading refusal reads
+  nets_refused bytes _ (by_sections sections (Err refusal) reads finds) = of_sections sections (Err refusal) reads (at_delays refusal finds)
+
+  pub unread : (why : Stop Refusal FileKey) → ReadsNetTimes held corners design spef settings (Halt why) → AnnotatesDesign held corners design spef settings (Halt why)
+  unread _ (at_file why reads) = λ inputs links. at_spef design why links reads
+  unread _ (at_nets bytes refusal reads finds) = λ inputs links. at_timing design bytes refusal links reads (nets_refused bytes refusal finds)
+
+  -- the slews and the rows come behind them
+  sections_timed : (sections : List NetElements) (nets : NetTimes) (answer : Result DesignDelays Refusal) → FindsDelays (net_inputs corners.count design sections settings) settings.missing (Ok nets)
+      → TimesNets corners.count design nets settings answer → TimesDesign corners.count design sections settings answer
+  sections_timed sections nets _ finds (stops_at_slews refusal found) = at_slews nets refusal finds found
+  sections_timed sections nets _ finds (gets_rows slews found) = with_rows nets slews finds found
+
+  nets_timed : (bytes : List ℕ) (nets : NetTimes) (answer : Result DesignDelays Refusal) → FindsNets corners design bytes settings (Ok nets) → TimesNets corners.count design nets settings answer
+      → TimesFromText corners design bytes settings answer
+  nets_timed bytes _ answer (by_sections sections (Ok nets) reads finds) times = of_sections sections answer reads (sections_timed sections.nets nets answer finds times)
+
+  pub untimed : (nets : NetTimes) (refusal : Refusal) → ReadsNetTimes held corners design spef settings (Go nets) → TimesNets corners.count design nets settings (Err refusal)
+      → AnnotatesDesign held corners design spef settings (Halt (RefusedBy refusal))
+  untimed _ refusal (are_read bytes nets reads finds) times = λ inputs links. at_timing design bytes refusal links reads (nets_timed bytes nets (Err refusal) finds times)
+
+  pub timed : (nets : NetTimes) (delays : DesignDelays) → ReadsNetTimes held corners design spef settings (Go nets) → TimesNets corners.count design nets settings (Ok delays)
+      → AnnotatesDesign held corners design spef settings (Go (with_delays_of design.netlist design.cells delays))
+  timed _ delays (are_read bytes nets reads finds) times = λ inputs links. with_delays design bytes delays links reads (nets_timed bytes nets (Ok delays) finds times)
+
+-- a design is read, on a shelf that holds the same before and behind it, and then it gets its delays
+module _ {I : Type 0} (held : Option Held) (corners : Corners I) (files : Files) (settings : Settings) where
+  pub design_refused : (why : Stop Refusal FileKey) → ReadsDesign held corners.count files.netlist settings.top files.libraries (Halt why) → Annotates held corners files settings (Halt why)
+  design_refused _ (design_at_netlist why reads) = at_netlist why reads
+  design_refused _ (design_at_inputs bytes why reads are) = at_inputs bytes why reads are
+  design_refused _ (design_at_design bytes inputs refusal reads are links) = at_design bytes inputs (RefusedBy refusal) reads are (at_link refusal links)
+
+  pub design_stops : (held' : Option Held) (design : LinkedDesign) (why : Stop Refusal FileKey) → held' ≡ held → ReadsDesign held corners.count files.netlist settings.top files.libraries (Go design)
+      → AnnotatesDesign held' corners design files.spef settings (Halt why) → Annotates held corners files settings (Halt why)
+  design_stops held' _ why same (with_design bytes inputs design reads are links) stops =
+      at_design bytes inputs why reads are (subst (λ (h : Option Held). AnnotatesFrom h corners inputs files.spef settings (Halt why)) same (stops inputs links))
+
+  pub design_goes : (held' : Option Held) (design : LinkedDesign) (annotated : AnnotatedDesign) → held' ≡ held → ReadsDesign held corners.count files.netlist settings.top files.libraries (Go design)
+      → AnnotatesDesign held' corners design files.spef settings (Go annotated) → Annotates held corners files settings (Go annotated)
+  design_goes held' _ annotated same (with_design bytes inputs design reads are links) goes =
+      is_annotated bytes inputs annotated reads are (subst (λ (h : Option Held). AnnotatesFrom h corners inputs files.spef settings (Go annotated)) same (goes inputs links))

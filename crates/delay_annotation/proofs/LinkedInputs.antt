@@ -1,5 +1,5 @@
 -- What the linked inputs of a design keep: no two of its names are one, and its pins are small.
-use Rattle.std.proofs.Common.{◌≡◌, ℕ, ◌<◌, ◌≤◌, List, [], ◌∷◌, length, get_or, slice_get, Some, Ok, refl, arith}
+use Rattle.std.proofs.Common.{ℕ, ◌≤◌, List, [], ◌∷◌, get_or, Option, Ok, arith}
 use Rattle.std.specs.Prelude.{All}
 use Rattle.std.specs.List.{AllZip}
 use Rattle.std.proofs.lemmas.List.Elements.{All-nil, All-cons}
@@ -14,8 +14,10 @@ use Rattle.liberty_groups.specs.Groups.{Group}
 use Rattle.timing_arcs.specs.PinModel.{PinEntry, IsPin, IsPinCapacitance}
 use Rattle.net_parasitics.specs.Inputs.{AreNamedApart, HaveSmallPins}
 use Rattle.net_parasitics.proofs.NamedApart.{named_apart}
-use Rattle.delay_core.specs.CellPhase.{AreFirstModels, ModelsCorners, at_all, AreFirstCells, ModelsCells, all_cells}
-use Rattle.delay_core.specs.DesignReading.{ReadInputs, LinkedDesign, LinksInputs, with_netlist}
+use Rattle.edge_io.specs.Holding.{Held}
+use Rattle.verdict_phases.specs.Phases.{Go}
+use Rattle.delay_core.specs.CellPhase.{ModelsCorners, at_all, ModelsCells, all_cells}
+use Rattle.delay_core.specs.DesignReading.{ReadInputs, LinkedDesign, LinksInputs, with_netlist, ReadsDesign, with_design}
 use Rattle.delay_core.specs.LibraryPhases.{ModelsCell, has_model}
 use Rattle.delay_core.specs.LinkPhase.{LinksDesign, is_linked}
 use Rattle.netlist_link.specs.FlatNetlist.{FlatNetlist}
@@ -64,3 +66,10 @@ linked_apart modules top cells _ (is_linked netlist flat) = named_apart modules 
 
 pub are_named_apart : (inputs : ReadInputs) (top : List ℕ) (design : LinkedDesign) → LinksInputs inputs top (Ok design) → AreNamedApart design.netlist
 are_named_apart inputs top _ (with_netlist cells netlist models links) = linked_apart inputs.modules top cells netlist links
+
+-- and so do those that are read
+pub read_small_pins : (held : Option Held) (corners : ℕ) (file top : List ℕ) (libraries : List (List ℕ)) (design : LinkedDesign) → ReadsDesign held corners file top libraries (Go design) → HaveSmallPins design.cells
+read_small_pins held corners file top libraries _ (with_design bytes inputs design reads are links) = have_small_pins inputs top design links
+
+pub read_apart : (held : Option Held) (corners : ℕ) (file top : List ℕ) (libraries : List (List ℕ)) (design : LinkedDesign) → ReadsDesign held corners file top libraries (Go design) → AreNamedApart design.netlist
+read_apart held corners file top libraries _ (with_design bytes inputs design reads are links) = are_named_apart inputs top design links

@@ -1,6 +1,6 @@
 -- What the end of the slews names is there, and its refusal comes behind the first tree.
-use Rattle.std.proofs.Common.{◌≡◌, ℕ, ◌<◌, ◌≤◌, List, [], ◌∷◌, length, Result, Ok, Err, refl, sym, subst, arith}
-use Rattle.std.specs.Prelude.{All, IsTrue, IsErrAnd}
+use Rattle.std.proofs.Common.{◌≡◌, ℕ, ◌<◌, List, [], ◌∷◌, length, Err, refl, subst, sym, arith}
+use Rattle.std.specs.Prelude.{All, IsTrue}
 use Rattle.std.proofs.lemmas.List.Elements.{All-nil, All-cons, All-get_or}
 use Rattle.cell_models.specs.NamedSets.{NamedCells}
 use Rattle.netlist_link.specs.FlatNetlist.{FlatNetlist}
@@ -8,20 +8,20 @@ use Rattle.netlist_link.specs.Linked.{IsLinked}
 use Rattle.slew_order.specs.Cycles.{ArcsJoin}
 use Rattle.slew_order.specs.FlatArcs.{IsArcAt}
 use Rattle.slew_order.specs.SlewEnds.{IsSlewEnd}
-use Rattle.slew_order.specs.Slews.{SlewTables}
+use Rattle.slew_order.specs.NetTimes.{NetTimes}
 use Rattle.slew_order.specs.Timings.{SlewSource, arcs_in, arc_number, no_arc_at}
 use Rattle.slew_order.specs.declared.arcs.ArcAt.{ArcAt}
 use Rattle.slew_order.specs.declared.ends.SlewEnd.{SlewEnd}
 use Rattle.slew_order.specs.declared.ends.SlewEnd.TheVariants.{Loop, Outside, PastTime, SlewLimit, OutOfMemory}
 use Rattle.slew_order.proofs.Links.{arcs_there}
-use Rattle.verdict_phases.specs.Phases.{FollowsNoFile}
-use Rattle.verdict_phases.specs.declared.ends.NoFileEnd.{NoFileEnd}
-use Rattle.verdict_phases.specs.declared.ends.NoFileEnd.TheVariants as no_file
-use Rattle.delay_core.specs.Refused.{OnRefusal}
+use Rattle.delay_core.specs.DesignReading.{LinkedDesign}
 use Rattle.delay_core.specs.SpefWork.{is_early}
 use Rattle.delay_core.specs.declared.refusal.Refusal.{Refusal}
+use Rattle.delay_annotation.specs.DesignTiming.{slew_source}
 use Rattle.delay_annotation.specs.EndsThere.{IsEndThere}
 use Rattle.delay_annotation.specs.SlewPhase.{IsSlewRefusal, is_loop, is_outside, is_past_time, is_slew_limit, FindsSlews, no_slews}
+use Rattle.delay_annotation.specs.TimingHalves.{TimesNets, stops_at_slews}
+use Rattle.delay_annotation.specs.declared.settings.Settings.{Settings}
 
 -- the arcs of a cycle are there
 joined_there : (netlist : FlatNetlist) (cells : List NamedCells) (a b : ℕ) (walk : List ArcAt) → ArcsJoin netlist cells a walk b → All (IsArcAt netlist cells) walk
@@ -53,16 +53,6 @@ is_late netlist cells _ _ (is_slew_limit net sink instance pin edge corner slew 
 slews_late : (source : SlewSource) (refusal : Refusal) → FindsSlews source (Err refusal) → IsTrue (is_early refusal) → ⊥
 slews_late source _ (no_slews end refusal is refused) early = is_late source.netlist source.cells end refusal refused early
 
--- an end without slews, as an answer
-abbrev without_slews : NoFileEnd Refusal → Result SlewTables (NoFileEnd Refusal)
-without_slews end = Err end
-
--- so a refusal of the slews, handed on, is late
-pub late_slews : (A : Type 0) (source : SlewSource) (result : Result A (NoFileEnd Refusal)) (end : NoFileEnd Refusal) (before after : ℕ) → IsErrAnd result (λ other. other ≡ end) → FollowsNoFile (FindsSlews source) (without_slews end)
-    → OnRefusal result (λ refusal. IsTrue (is_early refusal) → after ≡ before)
-late_slews A source (Ok value) end before after is finds = tt
-late_slews A source (Err other) end before after is finds = by other (subst (λ (e : NoFileEnd Refusal). FollowsNoFile (FindsSlews source) (without_slews e)) (sym is) finds)
-  where
-    by : (end : NoFileEnd Refusal) → FollowsNoFile (FindsSlews source) (without_slews end) → OnRefusal {A = A} (Err end) (λ refusal. IsTrue (is_early refusal) → after ≡ before)
-    by (no_file.Refused refusal) finds = λ early. absurd (slews_late source refusal finds early)
-    by no_file.OutOfMemory finds = tt
+-- so each refusal of what follows the loads and the Elmore sums is late
+pub timing_late : (count : ℕ) (design : LinkedDesign) (nets : NetTimes) (settings : Settings) (refusal : Refusal) → TimesNets count design nets settings (Err refusal) → IsTrue (is_early refusal) → ⊥
+timing_late count design nets settings _ (stops_at_slews refusal finds) early = slews_late (slew_source count design nets settings) refusal finds early

@@ -1,8 +1,7 @@
 -- The phases of the delays of a design, one after another.
-use Rattle.std.proofs.Common.{◌≡◌, ℕ, ◌+◌, ◌*◌, ◌≤◌, List, length, Result, Ok, Err, sym, subst, arith}
+use Rattle.std.proofs.Common.{◌≡◌, ℕ, Result, Ok, Err, sym, subst}
 use Rattle.std.specs.Prelude.{IsErrAnd}
 use Rattle.sdf_writer.specs.SdfText.{SdfRows}
-use Rattle.spef_nets.specs.NetElements.{NetElements}
 use Rattle.slew_order.specs.NetTimes.{NetTimes}
 use Rattle.slew_order.specs.Slews.{SlewTables}
 use Rattle.annotation_rows.specs.Annotation.{annotation_of}
@@ -12,10 +11,9 @@ use Rattle.verdict_phases.specs.declared.ends.NoFileEnd.{NoFileEnd}
 use Rattle.verdict_phases.specs.declared.ends.NoFileEnd.TheVariants as no_file
 use Rattle.delay_core.specs.DesignReading.{LinkedDesign}
 use Rattle.delay_core.specs.declared.refusal.Refusal.{Refusal}
-use Rattle.delay_annotation.specs.AnnotatedDesigns.{DesignDelays}
-use Rattle.delay_annotation.specs.DelayPhase.{FindsDelays}
-use Rattle.delay_annotation.specs.DesignTiming.{net_inputs, slew_source, TimesDesign, at_slews, with_rows}
+use Rattle.delay_annotation.specs.DesignTiming.{slew_source}
 use Rattle.delay_annotation.specs.SlewPhase.{FindsSlews}
+use Rattle.delay_annotation.specs.TimingHalves.{TimesNets, gets_rows}
 use Rattle.delay_annotation.specs.declared.settings.Settings.{Settings}
 
 -- the end of a phase that reads no file, handed on
@@ -30,10 +28,7 @@ refused_on A B (Ok value) end P Q is holds more = absurd is
 refused_on A B (Err other) end P Q is holds more = no_file_on A B other P Q (subst (λ (e : NoFileEnd Refusal). FollowsNoFile P (Err e)) (sym is) holds) more
 
 -- the rows are those of the loads, the Elmore sums and the slews
-pub timed_by : (count : ℕ) (design : LinkedDesign) (sections : List NetElements) (settings : Settings) (nets : NetTimes) (slews : SlewTables) (rows : SdfRows)
-    → FindsDelays (net_inputs count design sections settings) settings.missing (Ok nets) → FindsSlews (slew_source count design nets settings) (Ok slews)
-    → rows ≡ annotation_of settings.top (timed_of design.netlist design.cells count nets slews)
-    → TimesDesign count design sections settings (Ok (record { rows = rows; nets = nets; slews = slews }))
-timed_by count design sections settings nets slews rows finds found is =
-    subst (λ (r : SdfRows). TimesDesign count design sections settings (Ok (record { rows = r; nets = nets; slews = slews }))) (sym is)
-    (with_rows nets slews finds found)
+pub timed_by : (count : ℕ) (design : LinkedDesign) (settings : Settings) (nets : NetTimes) (slews : SlewTables) (rows : SdfRows) → FindsSlews (slew_source count design nets settings) (Ok slews)
+    → rows ≡ annotation_of settings.top (timed_of design.netlist design.cells count nets slews) → TimesNets count design nets settings (Ok (record { rows = rows; nets = nets; slews = slews }))
+timed_by count design settings nets slews rows found is =
+    subst (λ (r : SdfRows). TimesNets count design nets settings (Ok (record { rows = r; nets = nets; slews = slews }))) (sym is) (gets_rows slews found)

@@ -7,3 +7,4 @@ pub mod EndsThere
 pub mod OneAnnotation
 pub mod OneTiming
 pub mod SlewPhase
+pub mod TimingHalves

@@ -1,6 +1,7 @@
 //! The delays of a design, from its files.
 ghost use Rattle.std.specs.Prelude.{◌≡◌, ◌≤◌, ◌+◌, length, Ok, OnOk};
 ghost use Rattle.edge_io.specs.Counts.{RoseBy};
+ghost use Rattle.net_parasitics.specs.Inputs.{AreNamedApart, HaveSmallPins};
 ghost use Rattle.spef_nets.specs.Drafts.{corners_of};
 ghost use Rattle.verdict_phases.specs.Phases.{Follows};
 ghost use Rattle.delay_core.specs.DesignReading.{inputs_of};
@@ -11,15 +12,17 @@ ghost use Rattle.delay_annotation.specs.AnnotatedDesigns.{PartsAgree, with_delay
 ghost use Rattle.delay_annotation.specs.Annotation.{AnnotatesFrom, Annotates, IsAnnotationFault, IsSpefFault};
 ghost use Rattle.delay_annotation.specs.AnnotationWork.{InputsWork, FilesWork};
 ghost use Rattle.delay_annotation.specs.DesignTiming.{AreInRange};
+ghost use Rattle.delay_annotation.specs.TimingHalves.{slews_work, ReadsNetTimes, AnnotatesDesign, DesignWork};
 
 use crate::annotated::Annotated;
-use crate::design_timing::{Delays, time_from_text};
+use crate::design_timing::{Delays, nets_from_text, time_design};
 use crate::settings::{Files, Settings};
 use corner_set::CornerSet;
 use delay_core::{
-    Design, FILE_LIMIT, FileKey, Inputs, LimitKind, Refusal, link_inputs, read_inputs,
+    Design, FILE_LIMIT, FileKey, Inputs, LimitKind, Refusal, link_inputs, read_design,
 };
-use edge_io::{Shelf, Steps};
+use edge_io::{Shelf, Steps, Text};
+use slew_order::NetDelays;
 use std::alloc::Global;
 use std::sync::ledger::Ledger;
 use verdict_phases::{PhaseEnd, read_phase};
@@ -40,13 +43,75 @@ fn annotated_of<C: CornerSet>(design: Design<C>, delays: Delays<C>) -> Annotated
     }
 }
 
+// The loads and the Elmore sums of a design's nets, from its SPEF file. Its bytes and what was read of them are let go of before the
+// slews and the rows take memory.
+#[tactic(auto, using(crate::specs::TimingHalves::at_file, crate::proofs::Following::nets_go, crate::proofs::Work::no_design_work, crate::proofs::Work::lent_work, crate::proofs::Work::lent_ahead))]
+fn read_nets<C: CornerSet, H: Shelf, L: Ledger>(
+    alloc: Global,
+    shelf: &mut H,
+    design: &Design<C>,
+    spef: &Text,
+    settings: &Settings,
+    steps: &mut Steps<L>,
+) -> Result<NetDelays<C>, PhaseEnd<Refusal, FileKey>>
+    requires apart { AreNamedApart design.now.netlist }
+    requires small_pins { HaveSmallPins design.now.cells }
+    requires settings { AreInRange settings.now }
+    ensures follows { Follows (ReadsNetTimes (H.held shelf.old) (corners_of C.COUNT C.number_of C.member_of settings.now.pick)
+        design.now spef.now settings.now) result }
+    ensures fault { AtReadFault result (IsSpefFault (H.held shelf.old) spef.now (H.faults shelf.old) (H.faults shelf.new)
+        (H.opens shelf.old) (H.opens shelf.new)) }
+    ensures later { H.faults shelf.old ≤ H.faults shelf.new }
+    ensures opens { RoseBy 1 (H.opens shelf.old) (H.opens shelf.new) }
+    ensures held { H.held shelf.new ≡ H.held shelf.old }
+    ensures steps { IsWithin (DesignWork (H.held shelf.old) (corners_of C.COUNT C.number_of C.member_of settings.now.pick)
+        design.now spef.now settings.now) steps.old steps.new }
+    ensures ahead { OnOk result (IsWithin (λ work. DesignWork (H.held shelf.old) (corners_of C.COUNT C.number_of C.member_of
+        settings.now.pick) design.now spef.now settings.now (work + slews_work C.COUNT design.now)) steps.old steps.new) }
+    ensures no_steps { OnEarly result (steps.new ≡ steps.old) }
+{
+    let too_long = Refusal::Limit(LimitKind::File(FileKey::Spef));
+    let text = read_phase(alloc, shelf, spef, FILE_LIMIT, FileKey::Spef, too_long)?;
+    let nets = nets_from_text(alloc, design, text.bytes(), settings, steps)?;
+    Ok(nets)
+}
+
+// Reads the SPEF file of a linked design, and gives the design its delays.
+#[tactic(auto, using(crate::proofs::Following::unread, crate::proofs::Following::timed, crate::proofs::Following::read_fit, crate::proofs::Agreeing::agree, crate::proofs::Work::with_rest))]
+fn annotate_design<C: CornerSet, H: Shelf, L: Ledger>(
+    alloc: Global,
+    shelf: &mut H,
+    design: Design<C>,
+    spef: &Text,
+    settings: &Settings,
+    steps: &mut Steps<L>,
+) -> Result<Annotated<C>, PhaseEnd<Refusal, FileKey>>
+    requires apart { AreNamedApart design.netlist }
+    requires small_pins { HaveSmallPins design.cells }
+    requires settings { AreInRange settings.now }
+    ensures follows { Follows (AnnotatesDesign (H.held shelf.old) (corners_of C.COUNT C.number_of C.member_of settings.now.pick)
+        design spef.now settings.now) result }
+    ensures fault { AtReadFault result (IsSpefFault (H.held shelf.old) spef.now (H.faults shelf.old) (H.faults shelf.new)
+        (H.opens shelf.old) (H.opens shelf.new)) }
+    ensures later { H.faults shelf.old ≤ H.faults shelf.new }
+    ensures opens { OnOk result (RoseBy 1 (H.opens shelf.old) (H.opens shelf.new)) }
+    ensures held { H.held shelf.new ≡ H.held shelf.old }
+    ensures steps { IsWithin (DesignWork (H.held shelf.old) (corners_of C.COUNT C.number_of C.member_of settings.now.pick)
+        design spef.now settings.now) steps.old steps.new }
+    ensures no_steps { OnEarly result (steps.new ≡ steps.old) }
+{
+    let nets = read_nets::<C, H, L>(alloc, shelf, &design, spef, settings, steps)?;
+    let delays = time_design(alloc, &design, nets, settings, steps)?;
+    Ok(annotated_of(design, delays))
+}
+
 /// Links the inputs of a design, reads its SPEF file, and gives the design its delays. It opens the SPEF file alone, and only where the
 /// design is linked.
 ///
 /// It makes at most 16 steps at each corner for each resistor, each capacitance to ground and each pin of the nets with a driver and a
 /// sink, and 160 for each pair of an arc of an instance and an edge that it has, whatever it answers; and none before all sections of the
 /// file are read.
-#[tactic(auto, using(crate::specs::Annotation::at_link, crate::specs::Annotation::at_spef, crate::specs::Annotation::at_timing, crate::specs::Annotation::with_delays, crate::proofs::LinkedInputs::have_small_pins, crate::proofs::LinkedInputs::are_named_apart, crate::proofs::Following::timing_goes, crate::proofs::Agreeing::agree, crate::proofs::Work::no_inputs_work, crate::proofs::Work::inputs_work))]
+#[tactic(auto, using(crate::specs::Annotation::at_link, crate::proofs::LinkedInputs::have_small_pins, crate::proofs::LinkedInputs::are_named_apart, crate::proofs::Work::no_inputs_work))]
 pub fn annotate_from<C: CornerSet, H: Shelf, L: Ledger>(
     alloc: Global,
     shelf: &mut H,
@@ -70,23 +135,14 @@ pub fn annotate_from<C: CornerSet, H: Shelf, L: Ledger>(
     ensures no_steps { OnEarly result (steps.new ≡ steps.old) }
 {
     let design = link_inputs::<C>(alloc, inputs, &settings.top)?;
-    let too_long = Refusal::Limit(LimitKind::File(FileKey::Spef));
-    let text = read_phase(
-        alloc,
-        shelf,
-        &files.spef,
-        FILE_LIMIT,
-        FileKey::Spef,
-        too_long,
-    )?;
-    let delays = time_from_text(alloc, &design, text.bytes(), settings, steps)?;
-    Ok(annotated_of(design, delays))
+    let annotated = annotate_design::<C, H, L>(alloc, shelf, design, &files.spef, settings, steps)?;
+    Ok(annotated)
 }
 
 /// Reads a netlist, the libraries of all corners and a SPEF file, in this order, and gives the design its delays.
 ///
 /// It makes no more steps than [`annotate_from`] does of the inputs.
-#[tactic(auto, using(crate::specs::Annotation::at_netlist, crate::specs::Annotation::at_inputs, crate::specs::Annotation::at_design, crate::specs::Annotation::is_annotated, crate::proofs::Faults::netlist_fault, crate::proofs::Following::inputs_stop, crate::proofs::Following::design_goes, crate::proofs::Work::no_files_work, crate::proofs::Work::files_work))]
+#[tactic(auto, using(crate::proofs::LinkedInputs::read_small_pins, crate::proofs::LinkedInputs::read_apart, crate::proofs::Work::no_files_work))]
 pub fn annotate<C: CornerSet, H: Shelf, L: Ledger>(
     alloc: Global,
     shelf: &mut H,
@@ -107,16 +163,13 @@ pub fn annotate<C: CornerSet, H: Shelf, L: Ledger>(
         files.now settings.now) steps.old steps.new }
     ensures no_steps { OnEarly result (steps.new ≡ steps.old) }
 {
-    let too_long = Refusal::Limit(LimitKind::File(FileKey::Netlist));
-    let text = read_phase(
+    let design = read_design::<C, H>(
         alloc,
         shelf,
         &files.netlist,
-        FILE_LIMIT,
-        FileKey::Netlist,
-        too_long,
+        &settings.top,
+        &files.libraries,
     )?;
-    let inputs = read_inputs::<C, H>(alloc, shelf, text.bytes(), &settings.top, &files.libraries)?;
-    let annotated = annotate_from::<C, H, L>(alloc, shelf, &inputs, files, settings, steps)?;
+    let annotated = annotate_design::<C, H, L>(alloc, shelf, design, &files.spef, settings, steps)?;
     Ok(annotated)
 }

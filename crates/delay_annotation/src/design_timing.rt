@@ -1,16 +1,19 @@
 //! The delays of a linked design, from a SPEF file.
-ghost use Rattle.std.specs.Prelude.{◌≡◌, ◌^◌, ◌<◌, length, IfOk, IsTrue};
+ghost use Rattle.std.specs.Prelude.{◌≡◌, ◌^◌, ◌<◌, ◌≤◌, ◌+◌, length, IfOk, OnOk, IsTrue};
 ghost use Rattle.netlist_link.specs.Linked.{IsLinked};
+ghost use Rattle.slew_order.specs.NetTimes.{Fits};
 ghost use Rattle.net_parasitics.specs.Inputs.{AreNamedApart, HaveSmallPins};
+ghost use Rattle.net_parasitics.specs.WorkCounts.{IsWithin as IsNetsWithin};
 ghost use Rattle.spef_nets.specs.Drafts.{corners_of};
 ghost use Rattle.spef_text.specs.Heads.{IsHeadOf};
 ghost use Rattle.verdict_phases.specs.Phases.{FollowsNoFile};
 ghost use Rattle.delay_core.specs.Refused.{OnRefusal};
 ghost use Rattle.delay_core.specs.SpefWork.{IsWithin, is_early};
 ghost use Rattle.delay_annotation.specs.AnnotatedDesigns.{AreSound};
-ghost use Rattle.delay_annotation.specs.Annotation.{TimesFromText};
-ghost use Rattle.delay_annotation.specs.AnnotationWork.{TimingWork, BytesWork};
-ghost use Rattle.delay_annotation.specs.DesignTiming.{AreInRange, TimesDesign};
+ghost use Rattle.delay_annotation.specs.AnnotationWork.{BytesWork};
+ghost use Rattle.delay_annotation.specs.DelayPhase.{FindsDelays};
+ghost use Rattle.delay_annotation.specs.DesignTiming.{net_inputs, AreInRange};
+ghost use Rattle.delay_annotation.specs.TimingHalves.{slews_work, FindsNets, TimesNets};
 
 use crate::delay_phase::find_delays;
 use crate::settings::Settings;
@@ -45,51 +48,23 @@ impl<C: CornerSet> Model for Delays<C> {
     ghost view = { λ d. record { rows = d.rows; nets = d.nets; slews = d.slews } };
 }
 
-// The delays of a netlist that is linked with its cells, from the sections of a SPEF file: the loads and the Elmore sums are found, then
-// the slews, and then the rows.
-#[tactic(auto, using(crate::specs::DesignTiming::at_delays, crate::specs::DesignTiming::at_slews, crate::specs::DesignTiming::with_rows, crate::proofs::Agreeing::delays_fit, crate::proofs::Agreeing::tables_fit, crate::proofs::Work::timing_work))]
-fn time_netlist<C: CornerSet, L: Ledger>(
-    alloc: Global,
-    netlist: &Netlist,
-    cells: &CellSets<C>,
-    sections: &Sections<'_, '_, C>,
-    settings: &Settings,
-    steps: &mut Steps<L>,
-) -> Result<Delays<C>, NoFileEnd<Refusal>>
-    requires linked { IsLinked cells.now netlist.now }
-    requires apart { AreNamedApart netlist.now }
-    requires small_pins { HaveSmallPins cells.now }
-    requires settings { AreInRange settings.now }
-    ensures follows { FollowsNoFile (TimesDesign C.COUNT (record { netlist = netlist.now; cells = cells.now }) sections.now settings.now)
-        result }
-    ensures steps { IsWithin (TimingWork C.COUNT (record { netlist = netlist.now; cells = cells.now }) sections.now settings.now)
-        steps.old steps.new }
-    ensures sound { IfOk result (AreSound C.COUNT cells.now) }
-    ensures no_steps { OnRefusal result (λ refusal. IsTrue (is_early refusal) → steps.new ≡ steps.old) }
-{
-    let nets = find_delays(alloc, netlist, cells, sections, settings, steps)?;
-    let slews = find_slews(alloc, netlist, cells, &nets, settings, steps)?;
-    let rows = annotation_rows(alloc, &settings.top, netlist, cells, &nets, &slews, steps)?;
-    Ok(Delays { rows, nets, slews })
-}
-
-// The delays of a design, from the sections of a SPEF file.
-fn time_design<C: CornerSet, L: Ledger>(
+// The loads and the Elmore sums of a design's nets, from the sections of a SPEF file.
+fn find_design_delays<C: CornerSet, L: Ledger>(
     alloc: Global,
     design: &Design<C>,
     sections: &Sections<'_, '_, C>,
     settings: &Settings,
     steps: &mut Steps<L>,
-) -> Result<Delays<C>, NoFileEnd<Refusal>>
+) -> Result<NetDelays<C>, NoFileEnd<Refusal>>
     requires apart { AreNamedApart design.now.netlist }
     requires small_pins { HaveSmallPins design.now.cells }
     requires settings { AreInRange settings.now }
-    ensures follows { FollowsNoFile (TimesDesign C.COUNT design.now sections.now settings.now) result }
-    ensures steps { IsWithin (TimingWork C.COUNT design.now sections.now settings.now) steps.old steps.new }
-    ensures sound { IfOk result (AreSound C.COUNT design.now.cells) }
+    ensures follows { FollowsNoFile (FindsDelays (net_inputs C.COUNT design.now sections.now settings.now) settings.now.missing) result }
+    ensures work { IsNetsWithin (net_inputs C.COUNT design.now sections.now settings.now) (length design.now.netlist.nets)
+        steps.old steps.new }
     ensures no_steps { OnRefusal result (λ refusal. IsTrue (is_early refusal) → steps.new ≡ steps.old) }
 {
-    time_netlist(
+    find_delays(
         alloc,
         design.netlist(),
         design.cells(),
@@ -99,30 +74,78 @@ fn time_design<C: CornerSet, L: Ledger>(
     )
 }
 
-/// The delays of a design, from the bytes of a SPEF file: its grammar and its head are read, then all its sections, and then the design
-/// gets its delays.
-#[tactic(auto, using(delay_core::specs::SpefPhases::at_grammar, delay_core::specs::SpefPhases::at_head, crate::specs::Annotation::at_reading, crate::proofs::Following::text_refused, crate::proofs::Following::text_timed, crate::proofs::Work::no_bytes_work, crate::proofs::Work::bytes_work))]
-pub fn time_from_text<C: CornerSet, L: Ledger>(
+/// The loads and the Elmore sums of a design's nets, from the bytes of a SPEF file: its grammar and its head are read, then all its
+/// sections, and then the nets get theirs. Nothing of the file is kept. Its work leaves the slews and the rows their steps (`ahead`).
+#[tactic(auto, using(delay_core::specs::SpefPhases::at_grammar, delay_core::specs::SpefPhases::at_head, crate::specs::TimingHalves::at_sections, crate::proofs::Following::text_refused, crate::proofs::Following::text_found, crate::proofs::Work::no_bytes_work, crate::proofs::Work::bytes_work))]
+pub fn nets_from_text<C: CornerSet, L: Ledger>(
     alloc: Global,
     design: &Design<C>,
     bytes: &[u8],
     settings: &Settings,
     steps: &mut Steps<L>,
-) -> Result<Delays<C>, NoFileEnd<Refusal>>
+) -> Result<NetDelays<C>, NoFileEnd<Refusal>>
     requires bytes { length bytes.now < 2 ^ 30 }
     requires apart { AreNamedApart design.now.netlist }
     requires small_pins { HaveSmallPins design.now.cells }
     requires settings { AreInRange settings.now }
-    ensures follows { FollowsNoFile (TimesFromText (corners_of C.COUNT C.number_of C.member_of settings.now.pick) design.now bytes.now
+    ensures follows { FollowsNoFile (FindsNets (corners_of C.COUNT C.number_of C.member_of settings.now.pick) design.now bytes.now
         settings.now) result }
     ensures steps { IsWithin (BytesWork (corners_of C.COUNT C.number_of C.member_of settings.now.pick) design.now bytes.now settings.now)
         steps.old steps.new }
-    ensures sound { IfOk result (AreSound C.COUNT design.now.cells) }
+    ensures ahead { OnOk result (IsWithin (λ work. BytesWork (corners_of C.COUNT C.number_of C.member_of settings.now.pick) design.now
+        bytes.now settings.now (work + slews_work C.COUNT design.now)) steps.old steps.new) }
     ensures no_steps { OnRefusal result (λ refusal. IsTrue (is_early refusal) → steps.new ≡ steps.old) }
 {
     let file = parse_spef(alloc, bytes)?;
     let head = head_of(alloc, &file)?;
     let sections = nets_of::<C>(alloc, &file, &head, settings.pick)?;
-    let delays = time_design(alloc, design, &sections, settings, steps)?;
-    Ok(delays)
+    let nets = find_design_delays(alloc, design, &sections, settings, steps)?;
+    Ok(nets)
+}
+
+// The delays of a netlist that is linked with its cells, from the loads and the Elmore sums of its nets: the slews are found, and then the
+// rows are made.
+#[tactic(auto, using(crate::specs::TimingHalves::stops_at_slews, crate::specs::TimingHalves::gets_rows, crate::proofs::Agreeing::tables_fit))]
+fn time_netlist<C: CornerSet, L: Ledger>(
+    alloc: Global,
+    netlist: &Netlist,
+    cells: &CellSets<C>,
+    nets: NetDelays<C>,
+    settings: &Settings,
+    steps: &mut Steps<L>,
+) -> Result<Delays<C>, NoFileEnd<Refusal>>
+    requires linked { IsLinked cells.now netlist.now }
+    requires fits { Fits netlist.now nets }
+    requires settings { AreInRange settings.now }
+    ensures follows { FollowsNoFile (TimesNets C.COUNT (record { netlist = netlist.now; cells = cells.now }) nets settings.now) result }
+    ensures steps { steps.new ≤ steps.old + slews_work C.COUNT (record { netlist = netlist.now; cells = cells.now }) }
+    ensures sound { IfOk result (AreSound C.COUNT cells.now) }
+{
+    let slews = find_slews(alloc, netlist, cells, &nets, settings, steps)?;
+    let rows = annotation_rows(alloc, &settings.top, netlist, cells, &nets, &slews, steps)?;
+    Ok(Delays { rows, nets, slews })
+}
+
+/// The delays of a design, from the loads and the Elmore sums of its nets. No refusal of it is an early one.
+pub fn time_design<C: CornerSet, L: Ledger>(
+    alloc: Global,
+    design: &Design<C>,
+    nets: NetDelays<C>,
+    settings: &Settings,
+    steps: &mut Steps<L>,
+) -> Result<Delays<C>, NoFileEnd<Refusal>>
+    requires fits { Fits design.now.netlist nets }
+    requires settings { AreInRange settings.now }
+    ensures follows { FollowsNoFile (TimesNets C.COUNT design.now nets settings.now) result }
+    ensures steps { steps.new ≤ steps.old + slews_work C.COUNT design.now }
+    ensures sound { IfOk result (AreSound C.COUNT design.now.cells) }
+{
+    time_netlist(
+        alloc,
+        design.netlist(),
+        design.cells(),
+        nets,
+        settings,
+        steps,
+    )
 }
