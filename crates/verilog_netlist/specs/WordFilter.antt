@@ -1,6 +1,7 @@
--- A quick test that most names do not pass: reserved words begin with two letters of these, and have at most twelve bytes.
-use Rattle.std.specs.Prelude.{ℕ, Bool, false, ◌&&◌, ◌==◌, ◌-◌, nat_le, List, [], ◌∷◌, length, slice_get, Option, Some, None, codes}
-use Rattle.std.specs.List.{list_any}
+-- A quick test that most names do not pass: reserved words begin with two small letters, of these, go on with small letters, 0 and 1, and
+-- have at most twelve bytes.
+use Rattle.std.specs.Prelude.{ℕ, Bool, false, ◌&&◌, ◌||◌, ◌==◌, ◌-◌, nat_le, List, [], ◌∷◌, length, slice_get, Option, Some, None, codes}
+use Rattle.std.specs.List.{list_all, list_any}
 use Rattle.verilog_netlist.specs.Tokens.{is_within}
 
 abbrev pub is_small : ℕ → Bool
@@ -44,7 +45,11 @@ is_among (Some letters) letter = list_any (λ other. other == letter) letters
 abbrev pub may_begin : List (List ℕ) → ℕ → ℕ → Bool
 may_begin table first second = is_among (slice_get table (first - 97)) second
 
+abbrev pub goes_on_reserved : ℕ → Bool
+goes_on_reserved byte = is_small byte || byte == 48 || byte == 49
+
 abbrev pub may_be_reserved : List ℕ → Bool
 may_be_reserved [] = false
 may_be_reserved (first ∷ []) = false
-may_be_reserved (first ∷ second ∷ rest) = is_small first && may_begin second_letters first second && nat_le (length rest) 10
+may_be_reserved (first ∷ second ∷ rest) =
+    is_small first && is_small second && nat_le (length rest) 10 && may_begin second_letters first second && list_all goes_on_reserved rest

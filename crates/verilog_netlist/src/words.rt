@@ -1,7 +1,8 @@
 //! Reserved words.
 ghost use Rattle.std.specs.Prelude.{◌≡◌, map};
+ghost use Rattle.std.specs.List.{list_all};
 ghost use Rattle.verilog_netlist.specs.Words.{look_up, word_kind};
-ghost use Rattle.verilog_netlist.specs.WordFilter.{may_begin, may_be_reserved};
+ghost use Rattle.verilog_netlist.specs.WordFilter.{may_begin, goes_on_reserved, may_be_reserved};
 
 use crate::kinds::Kind;
 
@@ -141,8 +142,24 @@ fn may_begin(table: &[&[u8]], first: u8, second: u8) -> bool
     }
 }
 
-/// Whether a word may be reserved, by its first two letters and its length: a reserved word has at most twelve bytes. Most names of a
-/// netlist may not, so the table is looked through for few.
+/// What a reserved word has behind its first two letters: small letters, `0` and `1`.
+#[inline]
+fn goes_on_reserved(byte: u8) -> bool
+    ensures { result ≡ goes_on_reserved byte }
+{
+    matches!(byte, b'a'..=b'z' | b'0' | b'1')
+}
+
+/// Whether all of these bytes may stand in a reserved word.
+#[inline]
+fn may_go_on(bytes: &[u8]) -> bool
+    ensures { result ≡ list_all goes_on_reserved bytes.now }
+{
+    bytes.iter().all(|byte| goes_on_reserved(*byte))
+}
+
+/// Whether a word may be reserved, by its first two letters, its length and its other bytes: a reserved word has at most twelve. Most
+/// names of a netlist may not, so the table is looked through for few: not for `n12`, whose second byte is no letter, nor for `net_12`.
 #[inline]
 fn may_be_reserved(word: &[u8]) -> bool
     ensures { result ≡ may_be_reserved word.now }
@@ -150,8 +167,10 @@ fn may_be_reserved(word: &[u8]) -> bool
     match word {
         [first, second, rest @ ..] => {
             matches!(*first, b'a'..=b'z')
-                && may_begin(&SECOND_LETTERS, *first, *second)
+                && matches!(*second, b'a'..=b'z')
                 && rest.len() <= 10
+                && may_begin(&SECOND_LETTERS, *first, *second)
+                && may_go_on(rest)
         }
         _ => false,
     }
