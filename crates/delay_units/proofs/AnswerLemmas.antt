@@ -105,13 +105,13 @@ zero_same (negsuc k) m n em en = (suc k, 0, omega (arith, ints), ap (λ x. x *�
 -- ---- the literal
 
 abbrev pub the_literal : {text u rest : List ℕ} {negative : Bool} {t : Tally} {places : ℕ} {power : Power} → SplitsSign text negative u → SplitsMantissa u t places rest → IsPowerOf rest power → Literal
-the_literal s m p = record { sign = s.sign; whole = m.whole; fraction = m.fraction; exponent = p.exponent }
+the_literal s m p = record { sign = s.sign; whole = m.parts.whole; fraction = m.parts.fraction; exponent = p.exponent }
 
 pub spells_from : (text u rest : List ℕ) (negative : Bool) (t : Tally) (places : ℕ) (power : Power) → (s : SplitsSign text negative u) → (m : SplitsMantissa u t places rest) → 0 < t.digits → (p : IsPowerOf rest power) → Spells text (the_literal s m p)
 spells_from text u rest negative t places power s m some p = record {
-  writes = s.split ∙ ap (λ x. sign_text s.sign ++ x) (m.split ∙ ap (λ x. m.whole ++ (fraction_text m.fraction ++ x)) p.split);
-  whole = m.whole_are_digits;
-  fraction = m.fraction_are_digits;
+  writes = s.split ∙ ap (λ x. sign_text s.sign ++ x) (m.parts.split ∙ ap (λ x. m.parts.whole ++ (fraction_text m.parts.fraction ++ x)) p.split);
+  whole = m.parts.whole_are_digits;
+  fraction = m.parts.fraction_are_digits;
   some_digit = omega (arith, some, m.tally.digits);
   exponent = p.formed;
 }

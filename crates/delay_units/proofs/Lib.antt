@@ -1,5 +1,7 @@
 pub mod AmountLemmas
 pub mod AnswerLemmas
+pub mod FrontLemmas
+pub mod FrontSteps
 pub mod LiteralLemmas
 pub mod LiteralReading
 pub mod LiteralShape

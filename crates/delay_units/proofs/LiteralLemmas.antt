@@ -65,29 +65,33 @@ sized_still text size d (c ∷ cs) h some e low high many =
 
 pub whole_only : (text : List ℕ) (t : Tally) (rest : List ℕ) → SplitsDigits [] text t rest → NotFirst 46 rest → SplitsMantissa text t 0 rest
 whole_only text t rest h np = record {
-  whole = h.digits;
-  fraction = None;
-  split = h.split;
-  whole_are_digits = h.are_digits;
-  fraction_are_digits = tt;
-  stops = h.stops;
-  no_point = λ _. np;
+  parts = record {
+    whole = h.digits;
+    fraction = None;
+    split = h.split;
+    whole_are_digits = h.are_digits;
+    fraction_are_digits = tt;
+    stops = h.stops;
+    no_point = λ _. np;
+  };
   tally = let P : List ℕ → Type 0 = λ x. IsTallyOf x t in subst P (sym (append-nil h.digits)) h.tally;
   counted = refl;
 }
 
-some_not_none : (xs : List ℕ) → Some xs ≡ None → ⊥
+pub some_not_none : (xs : List ℕ) → Some xs ≡ None → ⊥
 some_not_none xs e = cc
 
 pub with_fraction : (text : List ℕ) (t : Tally) (rest fraction : List ℕ) (t2 : Tally) (rest2 : List ℕ) → (h : SplitsDigits [] text t rest) → rest ≡ 46 ∷ fraction → SplitsDigits h.digits fraction t2 rest2 → SplitsMantissa text t2 (t2.digits - t.digits) rest2
 with_fraction text t rest fraction t2 rest2 h e g = record {
-  whole = h.digits;
-  fraction = Some g.digits;
-  split = h.split ∙ ap (λ x. h.digits ++ x) (e ∙ ap (λ x. 46 ∷ x) g.split);
-  whole_are_digits = h.are_digits;
-  fraction_are_digits = g.are_digits;
-  stops = g.stops;
-  no_point = λ n. absurd (some_not_none g.digits n);
+  parts = record {
+    whole = h.digits;
+    fraction = Some g.digits;
+    split = h.split ∙ ap (λ x. h.digits ++ x) (e ∙ ap (λ x. 46 ∷ x) g.split);
+    whole_are_digits = h.are_digits;
+    fraction_are_digits = g.are_digits;
+    stops = g.stops;
+    no_point = λ n. absurd (some_not_none g.digits n);
+  };
   tally = g.tally;
   counted = omega (arith, h.tally.digits, g.tally.digits, length-append h.digits g.digits);
 }

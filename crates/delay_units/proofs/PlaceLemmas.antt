@@ -17,7 +17,7 @@ pub none_stays : (ys : List ℕ) → place_behind None ys ≡ None
 none_stays [] = refl
 none_stays (c ∷ cs) = refl
 
-behind-append : (p : Option Place) (xs ys : List ℕ) → place_behind p (xs ++ ys) ≡ place_behind (place_behind p xs) ys
+pub behind-append : (p : Option Place) (xs ys : List ℕ) → place_behind p (xs ++ ys) ≡ place_behind (place_behind p xs) ys
 behind-append p [] ys = refl
 behind-append None (c ∷ cs) ys = sym (none_stays ys)
 behind-append (Some p) (c ∷ cs) ys = behind-append (place_after p c) cs ys
@@ -131,7 +131,7 @@ mark_leads None c (inr e) = ap (λ x. place_after in_whole x) e
 mark_leads (Some ds) c (inl e) = ap (λ x. place_after in_fraction x) e
 mark_leads (Some ds) c (inr e) = ap (λ x. place_after in_fraction x) e
 
-exponent_leads : (fraction : Option (List ℕ)) (e : Exponent) → ((e.mark ≡ 101) ⊎ (e.mark ≡ 69)) → AreDigits e.digits → 0 < length e.digits → Leads (place_past_mantissa fraction) (exponent_text (Some e)) in_exponent
+pub exponent_leads : (fraction : Option (List ℕ)) (e : Exponent) → ((e.mark ≡ 101) ⊎ (e.mark ≡ 69)) → AreDigits e.digits → 0 < length e.digits → Leads (place_past_mantissa fraction) (exponent_text (Some e)) in_exponent
 exponent_leads fraction e is_e h some =
     leads_first (place_past_mantissa fraction) e.mark past_mark (sign_text e.sign ++ e.digits) in_exponent (mark_leads fraction e.mark is_e)
     (leads_then past_mark (sign_text e.sign) (place_past_exponent_sign e.sign) e.digits in_exponent (exponent_sign_leads e.sign)
@@ -151,7 +151,7 @@ front_leads s whole fraction hw hf some =
     (mantissa_leads (place_past_sign s) (sign_enters s) (sign_then_point s) whole fraction hw hf some)
 
 -- the front of a literal and the rest
-regrouped : (a b c d : List ℕ) → a ++ (b ++ (c ++ d)) ≡ (a ++ (b ++ c)) ++ d
+pub regrouped : (a b c d : List ℕ) → a ++ (b ++ (c ++ d)) ≡ (a ++ (b ++ c)) ++ d
 regrouped a b c d = sym (append_assoc a (b ++ c) d ∙ ap (λ x. a ++ x) (append_assoc b c d))
 
 pub literal_leads : (text : List ℕ) (l : Literal) → Spells text l → (q : Place) × Leads at_start text q × (may_end q ≡ true)
@@ -190,7 +190,7 @@ longest_of text front (c ∷ cs) q k e leads stuck within b more =
     let P : ℕ → Type 0 = λ x. BeginsLiteral (take x text) in
     longer_is_no_literal text front c cs q (k - length front - 1) e leads stuck (subst P (sym d) b)
 
-le_of_not : (k p : ℕ) → (p < k → ⊥) → k ≤ p
+pub le_of_not : (k p : ℕ) → (p < k → ⊥) → k ≤ p
 le_of_not k p h = ⊎_elim (λ l. absurd (h l)) (λ l. l) (cases_lt p k)
 
 pub stops_at : (text front rest : List ℕ) (q : Place) (p : ℕ) → text ≡ front ++ rest → Leads at_start front q → IsStuck q rest → BeginsLiteral front → p ≡ length text - length rest → IsFaultOf text (NotANumber p)

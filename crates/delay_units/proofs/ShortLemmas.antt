@@ -13,7 +13,7 @@ use Rattle.delay_units.specs.declared.numbers.Decimal.{Decimal}
 use Rattle.delay_units.specs.declared.numbers.Unit.{Unit}
 use Rattle.delay_units.proofs.PowerLemmas.{ten_le, ten_suc, ten_is_positive, power_up}
 use Rattle.delay_units.proofs.NormalNumbers.{strip}
-use Rattle.delay_units.proofs.TallyLemmas.{AreDigits-push, rest_is, no_length}
+use Rattle.delay_units.proofs.TallyLemmas.{AreDigits-push, rest_is}
 use Rattle.delay_units.specs.ShortLiterals.{written_behind, TakesDigits, IsShort}
 use Rattle.delay_units.specs.declared.short_literals.Short.{Short}
 
@@ -54,26 +54,54 @@ no_longer before text number rest h = let e = ap length h.split in let f = lengt
 
 -- ---- the whole literal
 
-pub fraction_short : (text rest fraction left : List ℕ) (whole number : ℕ) (short : Short) → TakesDigits 0 text whole rest → rest ≡ 46 ∷ fraction → TakesDigits whole fraction number left → length left ≡ 0
-    → length text ≢ 1 → length text ≤ 18 → short.digits ≡ number → short.places ≡ length fraction → IsShort text short
-fraction_short text rest fraction left whole number short h point g none some few digits places = record {
-  whole = h.digits;
-  fraction = Some g.digits;
-  writes = h.split ∙ ap (λ x. h.digits ++ x) (point ∙ ap (λ x. 46 ∷ x) all);
-  are_whole = h.are_digits;
-  are_fraction = g.are_digits;
-  some_digit = let a = length-append h.digits g.digits in let e = lengths in omega (arith, a, e, some);
-  few_digits = let a = length-append h.digits g.digits in let e = lengths in omega (arith, a, e, few);
-  digits = digits ∙ g.number_is ∙ ap (λ n. written_behind n g.digits) h.number_is ∙ sym (fold-append (λ n c. n * 10 + (c - 48)) 0 h.digits g.digits);
-  small = let s = is_small number (length left) g.small in omega (arith, s, digits);
-  places = places ∙ ap length all;
-}
+-- digits with a point among them, in front of the rest
+pub pointed_short : (text rest fraction left : List ℕ) (whole number : ℕ) (short : Short) → TakesDigits 0 text whole rest → rest ≡ 46 ∷ fraction → TakesDigits whole fraction number left → length left + 1 ≢ length text
+    → length text ≤ 18 → short.digits ≡ number → short.places ≡ length fraction - length left → (front : List ℕ) × (text ≡ front ++ left) × IsShort front short
+pointed_short text rest fraction left whole number short h point g some few digits places = (
+  h.digits ++ (46 ∷ g.digits),
+  split,
+  record {
+    whole = h.digits;
+    fraction = Some g.digits;
+    writes = refl;
+    are_whole = h.are_digits;
+    are_fraction = g.are_digits;
+    some_digit = let a = length-append h.digits g.digits in let e = lengths in omega (arith, a, e, some);
+    few_digits = let a = length-append h.digits g.digits in let e = lengths in omega (arith, a, e, few);
+    digits = digits ∙ g.number_is ∙ ap (λ n. written_behind n g.digits) h.number_is ∙ sym (fold-append (λ n c. n * 10 + (c - 48)) 0 h.digits g.digits);
+    small = let s = is_small number (length left) g.small in omega (arith, s, digits);
+    places = let a = ap length g.split in let b = length-append g.digits left in omega (arith, places, a, b);
+  },
+)
   where
-    all : fraction ≡ g.digits
-    all = g.split ∙ ap (λ x. g.digits ++ x) (no_length left none) ∙ append-nil g.digits
+    split : text ≡ (h.digits ++ (46 ∷ g.digits)) ++ left
+    split = h.split ∙ ap (λ x. h.digits ++ x) (point ∙ ap (λ x. 46 ∷ x) g.split) ∙ sym (append_assoc h.digits (46 ∷ g.digits) left)
 
-    lengths : length text ≡ length h.digits + suc (length g.digits)
-    lengths = ap length (h.split ∙ ap (λ x. h.digits ++ x) (point ∙ ap (λ x. 46 ∷ x) all)) ∙ length-append h.digits (46 ∷ g.digits)
+    lengths : length text ≡ length h.digits + suc (length g.digits) + length left
+    lengths = ap length split ∙ length-append (h.digits ++ (46 ∷ g.digits)) left ∙ ap (λ n. n + length left) (length-append h.digits (46 ∷ g.digits))
+
+-- digits alone
+pub pointless_short : (text rest : List ℕ) (whole : ℕ) (short : Short) → TakesDigits 0 text whole rest → length rest ≢ length text → length text ≤ 18 → short.digits ≡ whole → short.places ≡ 0
+    → (front : List ℕ) × (text ≡ front ++ rest) × IsShort front short
+pointless_short text rest whole short h some few digits places = (
+  h.digits,
+  h.split,
+  record {
+    whole = h.digits;
+    fraction = None;
+    writes = sym (append-nil h.digits);
+    are_whole = h.are_digits;
+    are_fraction = tt;
+    some_digit = let a = length-append h.digits [] in let e = lengths in omega (arith, a, e, some);
+    few_digits = let a = length-append h.digits [] in let e = lengths in omega (arith, a, e, few);
+    digits = digits ∙ h.number_is ∙ ap (written_behind 0) (sym (append-nil h.digits));
+    small = let s = is_small whole (length rest) h.small in omega (arith, s, digits);
+    places = places;
+  },
+)
+  where
+    lengths : length text ≡ length h.digits + length rest
+    lengths = ap length h.split ∙ length-append h.digits rest
 
 -- ---- what the code owes
 

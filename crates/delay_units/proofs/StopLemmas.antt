@@ -14,7 +14,7 @@ neither : (p q : Bool) → p ≡ false → q ≡ false → p || q ≡ false
 neither true q e f = cc
 neither false q e f = f
 
-stuck_past_sign : (s : Sign) (rest : List ℕ) → NoDigitFirst rest → NotFirst 46 rest → (s ≡ unsigned → NotFirst 43 rest) → (s ≡ unsigned → NotFirst 45 rest) → IsStuck (place_past_sign s) rest
+pub stuck_past_sign : (s : Sign) (rest : List ℕ) → NoDigitFirst rest → NotFirst 46 rest → (s ≡ unsigned → NotFirst 43 rest) → (s ≡ unsigned → NotFirst 45 rest) → IsStuck (place_past_sign s) rest
 stuck_past_sign unsigned [] d p a b = refl
 stuck_past_sign plus [] d p a b = refl
 stuck_past_sign minus [] d p a b = refl
@@ -23,15 +23,15 @@ stuck_past_sign unsigned (c ∷ cs) d p a b =
 stuck_past_sign plus (c ∷ cs) d p a b = not_chosen (is_ascii_digit c) _ _ d ∙ not_chosen (eqb c 46) _ _ p
 stuck_past_sign minus (c ∷ cs) d p a b = not_chosen (is_ascii_digit c) _ _ d ∙ not_chosen (eqb c 46) _ _ p
 
-stuck_past_point : (rest : List ℕ) → NoDigitFirst rest → IsStuck past_point rest
+pub stuck_past_point : (rest : List ℕ) → NoDigitFirst rest → IsStuck past_point rest
 stuck_past_point [] d = refl
 stuck_past_point (c ∷ cs) d = not_chosen (is_ascii_digit c) _ _ d
 
-stuck_past_mantissa : (fraction : Option (List ℕ)) (c : ℕ) (cs : List ℕ) → NoDigitFirst (c ∷ cs) → (fraction ≡ None → NotFirst 46 (c ∷ cs)) → is_mark c ≡ false → IsStuck (place_past_mantissa fraction) (c ∷ cs)
+pub stuck_past_mantissa : (fraction : Option (List ℕ)) (c : ℕ) (cs : List ℕ) → NoDigitFirst (c ∷ cs) → (fraction ≡ None → NotFirst 46 (c ∷ cs)) → is_mark c ≡ false → IsStuck (place_past_mantissa fraction) (c ∷ cs)
 stuck_past_mantissa None c cs d p m = not_chosen (is_ascii_digit c) _ _ d ∙ not_chosen (eqb c 46) _ _ (p refl) ∙ not_chosen (is_mark c) _ _ m
 stuck_past_mantissa (Some ds) c cs d p m = not_chosen (is_ascii_digit c) _ _ d ∙ not_chosen (is_mark c) _ _ m
 
-stuck_past_exponent_sign : (s : Sign) (rest : List ℕ) → NoDigitFirst rest → (s ≡ unsigned → NotFirst 43 rest × NotFirst 45 rest) → IsStuck (place_past_exponent_sign s) rest
+pub stuck_past_exponent_sign : (s : Sign) (rest : List ℕ) → NoDigitFirst rest → (s ≡ unsigned → NotFirst 43 rest × NotFirst 45 rest) → IsStuck (place_past_exponent_sign s) rest
 stuck_past_exponent_sign unsigned [] d a = refl
 stuck_past_exponent_sign plus [] d a = refl
 stuck_past_exponent_sign minus [] d a = refl
@@ -41,7 +41,7 @@ stuck_past_exponent_sign unsigned (c ∷ cs) d a =
 stuck_past_exponent_sign plus (c ∷ cs) d a = not_chosen (is_ascii_digit c) _ _ d
 stuck_past_exponent_sign minus (c ∷ cs) d a = not_chosen (is_ascii_digit c) _ _ d
 
-stuck_in_exponent : (rest : List ℕ) → NoDigitFirst rest → 0 < length rest → IsStuck in_exponent rest
+pub stuck_in_exponent : (rest : List ℕ) → NoDigitFirst rest → 0 < length rest → IsStuck in_exponent rest
 stuck_in_exponent [] d some = absurd (omega (arith, some))
 stuck_in_exponent (c ∷ cs) d some = not_chosen (is_ascii_digit c) _ _ d
 
@@ -80,7 +80,7 @@ stops_without text u rest s [] (Some []) p et eu none d np a b ep =
 
 pub stops_without_digits : (text u rest : List ℕ) (negative : Bool) (t : Tally) (places p : ℕ) → SplitsSign text negative u → SplitsMantissa u t places rest → t.digits ≡ 0 → p ≡ length text - length rest → IsFaultOf text (NotANumber p)
 stops_without_digits text u rest negative t places p s m none ep =
-    stops_without text u rest s.sign m.whole m.fraction p s.split m.split (sym m.tally.digits ∙ none) m.stops m.no_point s.no_plus s.no_minus ep
+    stops_without text u rest s.sign m.parts.whole m.parts.fraction p s.split m.parts.split (sym m.tally.digits ∙ none) m.parts.stops m.parts.no_point s.no_plus s.no_minus ep
 
 -- ---- behind the digits
 
@@ -152,5 +152,5 @@ tail_stops_at text tail s whole fraction left p hw hf some e d np (no_end x rest
 
 pub stops_behind_digits : (text u rest : List ℕ) (negative : Bool) (t : Tally) (places left p : ℕ) → SplitsSign text negative u → SplitsMantissa u t places rest → 0 < t.digits → StopsIn rest left → p ≡ length text - left → IsFaultOf text (NotANumber p)
 stops_behind_digits text u rest negative t places left p s m some stops ep =
-    tail_stops_at text rest s.sign m.whole m.fraction left p m.whole_are_digits m.fraction_are_digits (omega (arith, some, m.tally.digits))
-    (front_and_rest text u rest s.sign m.whole m.fraction s.split m.split) m.stops m.no_point stops ep
+    tail_stops_at text rest s.sign m.parts.whole m.parts.fraction left p m.parts.whole_are_digits m.parts.fraction_are_digits (omega (arith, some, m.tally.digits))
+    (front_and_rest text u rest s.sign m.parts.whole m.parts.fraction s.split m.parts.split) m.parts.stops m.parts.no_point stops ep

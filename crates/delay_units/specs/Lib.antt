@@ -1,8 +1,8 @@
 pub mod Amounts
 pub mod Bounds
 pub mod Literal
+pub mod LiteralFronts
 pub mod Parts
-pub mod PlaceSteps
 pub mod Places
 pub mod Printing
 pub mod Reading

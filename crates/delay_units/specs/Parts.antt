@@ -1,7 +1,7 @@
 -- The parts of a text that may be a literal: what the steps of reading say.
 use Rattle.std.specs.Prelude.{◌≡◌, ℕ, ◌<◌, ◌≤◌, ◌⊎◌, Bool, true, false, ℤ, pos, ◌+ℤ◌, ◌-ℤ◌, neg_ℤ, Result, Ok, Err, List, [], ◌∷◌, ◌++◌, length, Option, Some, None, ◌==◌, ⊤}
 use Rattle.std.specs.Char.{is_ascii_digit}
-use Rattle.delay_units.specs.Literal.{AreDigits, Sign, unsigned, plus, minus, sign_text, Exponent, fraction_text, fraction_digits, exponent_text, IsExponent, exponent_size, number_of}
+use Rattle.delay_units.specs.Literal.{AreDigits, Sign, unsigned, plus, minus, sign_text, Exponent, fraction_text, fraction_digits, exponent_text, IsExponent, exponent_size, number_of, IsNumber, IsFaultOf}
 use Rattle.delay_units.specs.Places.{Place, is_mark, place_after, may_end}
 use Rattle.delay_units.specs.Tallies.{IsTallyOf}
 use Rattle.delay_units.specs.declared.literal.Power.{Power}
@@ -61,8 +61,15 @@ pub record SplitsDigits (before text : List ℕ) (t : Tally) (rest : List ℕ) :
   pub stops : NoDigitFirst rest
   pub tally : IsTallyOf (before ++ digits) t
 
+-- the text is digits and the rest, which begins with none
+pub record DropsDigits (text rest : List ℕ) : Type 0 where
+  pub digits : List ℕ
+  pub split : text ≡ digits ++ rest
+  pub are_digits : AreDigits digits
+  pub stops : NoDigitFirst rest
+
 -- the text is digits with at most one point, as many as there are, and the rest
-pub record SplitsMantissa (text : List ℕ) (t : Tally) (places : ℕ) (rest : List ℕ) : Type 0 where
+pub record DropsMantissa (text rest : List ℕ) : Type 0 where
   pub whole : List ℕ
   pub fraction : Option (List ℕ)
   pub split : text ≡ whole ++ (fraction_text fraction ++ rest)
@@ -70,8 +77,23 @@ pub record SplitsMantissa (text : List ℕ) (t : Tally) (places : ℕ) (rest : L
   pub fraction_are_digits : AreDigits (fraction_digits fraction)
   pub stops : NoDigitFirst rest
   pub no_point : fraction ≡ None → NotFirst 46 rest
-  pub tally : IsTallyOf (whole ++ fraction_digits fraction) t
-  pub counted : places ≡ length (fraction_digits fraction)
+
+-- there is a digit among them
+pub record HasMantissa (text rest : List ℕ) : Type 0 where
+  pub parts : DropsMantissa text rest
+  pub some_digit : 0 < length (parts.whole ++ fraction_digits parts.fraction)
+
+-- there is none, so that no mantissa is in front of the text
+pub record HasNoMantissa (text : List ℕ) : Type 0 where
+  pub rest : List ℕ
+  pub parts : DropsMantissa text rest
+  pub no_digit : length (parts.whole ++ fraction_digits parts.fraction) ≡ 0
+
+-- the same, with the tally of the digits and how many of them stand behind the point
+pub record SplitsMantissa (text : List ℕ) (t : Tally) (places : ℕ) (rest : List ℕ) : Type 0 where
+  pub parts : DropsMantissa text rest
+  pub tally : IsTallyOf (parts.whole ++ fraction_digits parts.fraction) t
+  pub counted : places ≡ length (fraction_digits parts.fraction)
 
 -- size is n, or both are past 99
 pub record IsCapped (n size : ℕ) : Type 0 where
@@ -93,6 +115,24 @@ pub record IsPowerOf (text : List ℕ) (power : Power) : Type 0 where
   pub formed : IsExponent exponent
   pub negative : power.negative ≡ has_minus exponent
   pub size : IsCapped (exponent_size exponent) power.size
+
+-- an exponent that is there stops before the rest, and one that is not there is none in front of the rest: no mark is there, or no
+-- digit behind the mark and its sign
+pub data StopsExponent : Option Exponent → List ℕ → Type 0 where
+  no_more : (e : Exponent) {rest : List ℕ} → NoDigitFirst rest → StopsExponent (Some e) rest
+  unmarked : {rest : List ℕ} → NoMarkFirst rest → StopsExponent None rest
+  no_digit : {rest : List ℕ} (mark : ℕ) (sign : Sign) (left : List ℕ) → rest ≡ mark ∷ (sign_text sign ++ left)
+      → ((mark ≡ 101) ⊎ (mark ≡ 69)) → NoDigitFirst left
+      → (sign ≡ unsigned → NotFirst 43 left × NotFirst 45 left) → StopsExponent None rest
+
+-- the text is the exponent in front of it, or none, and the rest; the power has its sign and its size, or both sizes are past 99
+pub record SplitsExponent (text : List ℕ) (power : Power) (rest : List ℕ) : Type 0 where
+  pub exponent : Option Exponent
+  pub split : text ≡ exponent_text exponent ++ rest
+  pub formed : IsExponent exponent
+  pub negative : power.negative ≡ has_minus exponent
+  pub size : IsCapped (exponent_size exponent) power.size
+  pub stops : StopsExponent exponent rest
 
 -- no exponent and no more than an exponent is the text, and no exponent goes on with the last `left` bytes of it
 pub data StopsIn (text : List ℕ) (left : ℕ) : Type 0 where
@@ -123,3 +163,8 @@ DecidesDecimal negative t places power (Ok d) = IsValueOf negative t places powe
 DecidesDecimal negative t places power (Err (NotANumber p)) = ⊥
 DecidesDecimal negative t places power (Err TooManyDigits) = 30 < t.significant
 DecidesDecimal negative t places power (Err ExponentTooLarge) = (t.significant ≤ 30) × (99 < power.size)
+
+-- the number that the text is read as, or why it is not read
+abbrev pub DecidesNumber : List ℕ → Result Decimal NumberFault → Type 0
+DecidesNumber text (Ok d) = IsNumber text d
+DecidesNumber text (Err fault) = IsFaultOf text fault

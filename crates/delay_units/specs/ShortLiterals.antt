@@ -1,6 +1,7 @@
 -- Short literals: a few digits with at most one point, as most values of a SPEF file (IEEE 1481) are written.
 use Rattle.std.specs.Prelude.{◌≡◌, ℕ, ◌+◌, ◌-◌, ◌*◌, ◌^◌, ◌<◌, ◌≤◌, List, ◌++◌, length, fold, Option}
 use Rattle.delay_units.specs.Literal.{AreDigits, fraction_text, fraction_digits, number_of}
+use Rattle.delay_units.specs.Parts.{NoDigitFirst, NotFirst, NoMarkFirst}
 use Rattle.delay_units.specs.declared.short_literals.Short.{Short}
 
 -- the number that digits write behind those of another
@@ -27,3 +28,7 @@ pub record IsShort (text : List ℕ) (short : Short) : Type 0 where
   pub digits : short.digits ≡ number_of (whole ++ fraction_digits fraction)
   pub small : short.digits < 10 ^ 18
   pub places : short.places ≡ length (fraction_digits fraction)
+
+-- no literal of digits with a point among them goes on with the text
+abbrev pub EndsPlainly : List ℕ → Type 0
+EndsPlainly text = NoDigitFirst text × NotFirst 46 text × NoMarkFirst text

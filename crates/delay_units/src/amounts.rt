@@ -1,11 +1,14 @@
 //! The reading of a text as a size: in a unit, from 0 to a bound.
-ghost use Rattle.std.specs.Prelude.{◌≡◌, ℕ, ◌≤◌, ◌<◌, ◌^◌, List, pos, unsigned_abs};
+ghost use Rattle.std.specs.Prelude.{◌≡◌, ℕ, ◌≤◌, ◌<◌, ◌^◌, List, pos, unsigned_abs, IfSome, IfNone};
 ghost use Rattle.delay_units.specs.Reading.{ReadsAs};
+ghost use Rattle.delay_units.specs.LiteralFronts.{IsLiteralFront, HasNoLiteralFront};
+ghost use Rattle.delay_units.specs.Parts.{DecidesNumber};
 ghost use Rattle.delay_units.specs.Amounts.{IsAmountOf};
 
-use crate::numbers::Unit;
-use crate::short_literals::short_reading;
-use crate::signed_amounts::{SignedAmount, read_any_signed};
+use crate::literal::{read_decimal, read_leading_decimal};
+use crate::numbers::{Decimal, NumberFault, Unit};
+use crate::short_literals::{leading_short, short_reading};
+use crate::signed_amounts::{SignedAmount, signed_amount_of};
 
 /// What a text reads as in a unit, rounded half up to whole grains.
 #[derive(Clone, Copy)]
@@ -34,6 +37,20 @@ pub fn read_amount(unit: &Unit, most: u64, text: &[u8]) -> Amount
     }
 }
 
+/// What the literal in front of `text` reads as in `unit`, with a bound of `most` grains, and the text behind it. The literal is the
+/// longest front of the text that is one: nothing where no front is.
+#[inline]
+pub fn read_leading_amount<'a>(unit: &Unit, most: u64, text: &'a [u8]) -> Option<(Amount, &'a [u8])>
+    ensures some { IfSome result (λ read. (front : List ℕ) × IsLiteralFront text.now front read.1.now
+        × IsAmountOf unit.now most front read.0) }
+    ensures none { IfNone result (HasNoLiteralFront text.now) }
+{
+    match leading_short(unit, text) {
+        Some((grains, rest)) => Some((up_to(most, grains), rest)),
+        None => read_any_leading(unit, most, text),
+    }
+}
+
 /// What a reading of so many grains is.
 #[inline]
 #[tactic(auto, using(crate::proofs::AmountLemmas::amount_within, crate::proofs::AmountLemmas::amount_past))]
@@ -48,11 +65,31 @@ fn up_to(most: u64, grains: u64) -> Amount
 }
 
 /// The same as [`read_amount`], for each literal.
-#[tactic(auto, using(crate::proofs::AmountLemmas::signed_is_unread, crate::proofs::AmountLemmas::signed_is_below, crate::proofs::AmountLemmas::signed_is_past))]
 fn read_any(unit: &Unit, most: u64, text: &[u8]) -> Amount
     ensures { IsAmountOf unit.now most text.now result }
 {
-    match read_any_signed(unit, most as u128, text) {
+    amount_of(unit, most, &read_decimal(text))
+}
+
+/// The same as [`read_leading_amount`], for each literal.
+#[inline(never)]
+fn read_any_leading<'a>(unit: &Unit, most: u64, text: &'a [u8]) -> Option<(Amount, &'a [u8])>
+    ensures some { IfSome result (λ read. (front : List ℕ) × IsLiteralFront text.now front read.1.now
+        × IsAmountOf unit.now most front read.0) }
+    ensures none { IfNone result (HasNoLiteralFront text.now) }
+{
+    match read_leading_decimal(text) {
+        Some((number, rest)) => Some((amount_of(unit, most, &number), rest)),
+        None => None,
+    }
+}
+
+/// What a text reads as that is this number, or is not read for this fault.
+#[tactic(auto, using(crate::proofs::AmountLemmas::signed_is_unread, crate::proofs::AmountLemmas::signed_is_below, crate::proofs::AmountLemmas::signed_is_past))]
+fn amount_of(unit: &Unit, most: u64, number: &Result<Decimal, NumberFault>) -> Amount
+    ensures { (text : List ℕ) → DecidesNumber text number.now → IsAmountOf unit.now most text result }
+{
+    match signed_amount_of(unit, most as u128, number) {
         SignedAmount::Unread => Amount::Unread,
         SignedAmount::Below => Amount::Below,
         SignedAmount::Within(grains) => from_zero(grains),

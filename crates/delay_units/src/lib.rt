@@ -4,9 +4,9 @@
 #![tactic(auto)]
 
 mod amounts;
+mod fronts;
 mod literal;
 mod numbers;
-mod places;
 mod printing;
 mod quantities;
 mod readings;
@@ -15,10 +15,10 @@ mod short_literals;
 mod signed_amounts;
 mod tally;
 
-pub use amounts::{Amount, read_amount};
-pub use literal::read_decimal;
+pub use amounts::{Amount, read_amount, read_leading_amount};
+pub use fronts::{begins_as_literal, behind_literal, is_literal};
+pub use literal::{read_decimal, strip};
 pub use numbers::{Decimal, NumberFault, Unit};
-pub use places::{begins_as_literal, is_literal};
 pub use printing::{Text32, write_atto, write_femto};
 pub use quantities::{Atto, Farads, Femto, Ohms};
 pub use readings::{scale, unit};

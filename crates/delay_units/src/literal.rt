@@ -1,7 +1,8 @@
 //! Decimal literals, read exactly.
-ghost use Rattle.std.specs.Prelude.{◌≡◌, ℕ, ◌^◌, ◌<◌, ◌≤◌, List, IfOk, IfErr, MatchOption, ◌∷◌, unsigned_abs};
+ghost use Rattle.std.specs.Prelude.{◌≡◌, ℕ, ◌^◌, ◌<◌, ◌≤◌, List, IfOk, IfErr, IfSome, IfNone, MatchOption, ◌∷◌, unsigned_abs};
 ghost use Rattle.delay_units.specs.Literal.{Literal, Spells, IsNumber, IsFaultOf, IsAnswerTo};
-ghost use Rattle.delay_units.specs.Parts.{SplitsSign, SplitsMantissa, SplitsSize, IsPowerOf, StopsIn, DecidesDecimal, signed_by, NotFirst, NoMarkFirst, BeginsWithMark};
+ghost use Rattle.delay_units.specs.LiteralFronts.{IsLiteralFront, HasNoLiteralFront};
+ghost use Rattle.delay_units.specs.Parts.{SplitsSign, SplitsMantissa, SplitsSize, SplitsExponent, DecidesNumber, IsPowerOf, StopsIn, DecidesDecimal, signed_by, NotFirst, NoMarkFirst, BeginsWithMark};
 
 use crate::numbers::{Decimal, NumberFault};
 use crate::tally::Tally;
@@ -26,7 +27,24 @@ pub fn read_decimal(text: &[u8]) -> Result<Decimal, NumberFault>
     }
 }
 
-fn split_sign(text: &[u8]) -> (bool, &[u8])
+/// What the literal in front of a text is read as, as [`read_decimal`] reads it alone, and the text behind it. It is the longest
+/// front that is a literal: nothing where no front is one.
+pub fn read_leading_decimal(text: &[u8]) -> Option<(Result<Decimal, NumberFault>, &[u8])>
+    ensures some { IfSome result (λ read. (front : List ℕ) × IsLiteralFront text.now front read.1.now × DecidesNumber front read.0) }
+    ensures none { IfNone result (HasNoLiteralFront text.now) }
+{
+    let (negative, unsigned) = split_sign(text);
+    let (tally, places, rest) = read_mantissa(unsigned);
+    if tally.digits == 0 {
+        return None;
+    }
+    let (power, rest) = leading_exponent(rest);
+    Some((decimal_of(negative, &tally, places, &power), rest))
+}
+
+/// Whether a minus is in front of a text, and the text behind its sign, which may be missing.
+#[inline]
+pub fn split_sign(text: &[u8]) -> (bool, &[u8])
     ensures { SplitsSign text.now result.0 result.1.now }
 {
     match text {
@@ -93,6 +111,26 @@ fn read_exponent(text: &[u8]) -> Result<Power, usize>
         return Err(rest.len());
     }
     Ok(Power { negative, size })
+}
+
+/// The exponent in front of a text, which is 0 where none is there, and the text behind it. Most numbers have none.
+#[inline(never)]
+pub fn leading_exponent(text: &[u8]) -> (Power, &[u8])
+    ensures { SplitsExponent text.now result.0 result.1.now }
+{
+    let none = Power {
+        negative: false,
+        size: 0,
+    };
+    let Some(signed) = strip_mark(text) else {
+        return (none, text);
+    };
+    let (negative, digits) = split_sign(signed);
+    let (size, rest) = read_size(digits);
+    if rest.len() == digits.len() {
+        return (none, text);
+    }
+    (Power { negative, size }, rest)
 }
 
 fn strip_mark(text: &[u8]) -> Option<&[u8]>

@@ -1,6 +1,7 @@
 //! Reads short literals: a few digits with at most one point, as most values are written; and their readings in a unit.
-ghost use Rattle.std.specs.Prelude.{◌≡◌, ◌+◌, ◌-◌, ◌^◌, ◌<◌, ◌≤◌, ◌∷◌, length, pos, IfSome};
-ghost use Rattle.delay_units.specs.ShortLiterals.{TakesDigits, IsShort};
+ghost use Rattle.std.specs.Prelude.{◌≡◌, ◌+◌, ◌-◌, ◌^◌, ◌<◌, ◌≤◌, ◌∷◌, ◌++◌, ℕ, List, IsTrue, length, pos, IfSome};
+ghost use Rattle.delay_units.specs.LiteralFronts.{IsLiteralFront};
+ghost use Rattle.delay_units.specs.ShortLiterals.{TakesDigits, IsShort, EndsPlainly};
 ghost use Rattle.delay_units.specs.Reading.{ReadsAs};
 
 use crate::literal::strip;
@@ -32,30 +33,63 @@ fn take_digits(before: u64, text: &[u8]) -> (u64, &[u8])
     (number, rest)
 }
 
-/// Reads a literal of at most 18 bytes that has digits and at most one point: nothing where the text is another.
+/// The digits in front of a text of at most 18 bytes, with at most one point among them, and the text behind them: nothing where there
+/// is no digit.
 #[inline]
-fn read_short(text: &[u8]) -> Option<Short>
-    ensures { IfSome result (IsShort text.now) }
+fn short_within(text: &[u8]) -> Option<(Short, &[u8])>
+    requires few { length text.now ≤ 18 }
+    ensures { IfSome result (λ taken. (front : List ℕ) × (text.now ≡ front ++ taken.1.now) × IsShort front taken.0) }
 {
-    if text.is_empty() || text.len() > 18 {
-        return None;
-    }
     let (whole, rest) = take_digits(0, text);
-    if rest.is_empty() {
-        return Some(Short {
-            digits: whole,
-            places: 0,
-        });
+    match strip(rest, b'.') {
+        Some(fraction) => {
+            let (digits, left) = take_digits(whole, fraction);
+            if left.len() + 1 == text.len() {
+                return None;
+            }
+            let places = (fraction.len() - left.len()) as u32;
+            Some((Short { digits, places }, left))
+        }
+        None => {
+            if rest.len() == text.len() {
+                return None;
+            }
+            let short = Short {
+                digits: whole,
+                places: 0,
+            };
+            Some((short, rest))
+        }
     }
-    let fraction = strip(rest, b'.')?;
-    let (digits, left) = take_digits(whole, fraction);
-    if !left.is_empty() || text.len() == 1 {
-        return None;
+}
+
+/// Whether no literal goes on with the text: it is empty, or begins with no digit, no point and no mark of an exponent.
+#[inline]
+fn goes_on_with_none(text: &[u8]) -> bool
+    ensures { IsTrue result → EndsPlainly text.now }
+{
+    match text {
+        [] => true,
+        [first, ..] => {
+            !(first.is_ascii_digit() || *first == b'.' || *first == b'e' || *first == b'E')
+        }
     }
-    Some(Short {
-        digits,
-        places: fraction.len() as u32,
-    })
+}
+
+/// The literal in front of a text, where it has at most 18 bytes, digits with at most one point, and the text behind it: nothing where
+/// the literal is another.
+#[inline]
+fn take_short(text: &[u8]) -> Option<(Short, &[u8])>
+    ensures { IfSome result (λ taken. (front : List ℕ) × IsLiteralFront text.now front taken.1.now × IsShort front taken.0) }
+{
+    let (window, _) = text.split_at(text.len().min(18));
+    let (short, left) = short_within(window)?;
+    let (_, rest) = text.split_at(window.len() - left.len());
+    if goes_on_with_none(rest) {
+        Some((short, rest))
+    } else {
+        None
+    }
 }
 
 /// A unit's exponent, if it is not below 0.
@@ -80,14 +114,35 @@ fn power_behind(unit: &Unit, places: u32) -> Option<u32>
     if power > 18 { None } else { Some(power) }
 }
 
-/// The reading of a short literal, where it needs no rounding: nothing for other texts. Most values are such, and this
-/// takes a third of the time.
+/// The reading of a short literal, where it needs no rounding.
+#[inline]
+fn exactly(unit: &Unit, short: &Short) -> Option<u64>
+    ensures { (text : List ℕ) → IsShort text short.now → IfSome result (λ grains. ReadsAs unit.now text (pos grains)) }
+{
+    let power = power_behind(unit, short.places)?;
+    let product = short.digits.checked_mul(unit.mantissa as u64)?;
+    product.checked_mul(10u64.pow(power))
+}
+
+/// The reading of the literal in front of a text, where it is short and needs no rounding, and the text behind it: nothing for other
+/// literals. Most values are such, and this takes a third of the time.
+#[inline]
+pub fn leading_short<'a>(unit: &Unit, text: &'a [u8]) -> Option<(u64, &'a [u8])>
+    ensures { IfSome result (λ read. (front : List ℕ) × IsLiteralFront text.now front read.1.now × ReadsAs unit.now front (pos read.0)) }
+{
+    let (short, rest) = take_short(text)?;
+    let grains = exactly(unit, &short)?;
+    Some((grains, rest))
+}
+
+/// The same where that literal is the whole text.
 #[inline]
 pub fn short_reading(unit: &Unit, text: &[u8]) -> Option<u64>
     ensures { IfSome result (λ grains. ReadsAs unit.now text.now (pos grains)) }
 {
-    let short = read_short(text)?;
-    let power = power_behind(unit, short.places)?;
-    let product = short.digits.checked_mul(unit.mantissa as u64)?;
-    product.checked_mul(10u64.pow(power))
+    if text.len() > 18 {
+        return None;
+    }
+    let (grains, rest) = leading_short(unit, text)?;
+    if rest.is_empty() { Some(grains) } else { None }
 }

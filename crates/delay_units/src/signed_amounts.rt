@@ -1,11 +1,12 @@
 //! The reading of a text as a value with a sign: in a unit, up to a bound in size.
 ghost use Rattle.std.specs.Prelude.{◌≡◌, ◌≤◌, ◌^◌, ℕ, List, pos, ◌≤ℤ◌, ◌<ℤ◌};
+ghost use Rattle.delay_units.specs.Parts.{DecidesNumber};
 ghost use Rattle.delay_units.specs.Reading.{ReadsAs};
-ghost use Rattle.delay_units.specs.SignedAmounts.{IsSignedAmountOf};
+ghost use Rattle.delay_units.specs.SignedAmounts.{IsSignedAmountOf, KeepsBound};
 ghost use Rattle.delay_units.specs.declared.signed_amounts.SignedAmount.TheVariants.{Below, Past};
 
 use crate::literal::read_decimal;
-use crate::numbers::{Decimal, Unit};
+use crate::numbers::{Decimal, NumberFault, Unit};
 use crate::readings::scale;
 use crate::short_literals::short_reading;
 
@@ -59,17 +60,30 @@ fn limit(most: u128) -> i128
 }
 
 /// The same as [`read_signed_amount`], for each literal.
-#[tactic(auto, using(crate::proofs::SignedAmountLemmas::signed_unread))]
-pub fn read_any_signed(unit: &Unit, most: u128, text: &[u8]) -> SignedAmount
+fn read_any_signed(unit: &Unit, most: u128, text: &[u8]) -> SignedAmount
     requires { most ≤ 10 ^ 36 }
     ensures { IsSignedAmountOf unit.now most text.now result }
 {
-    let Ok(number) = read_decimal(text) else {
+    signed_amount_of(unit, most, &read_decimal(text))
+}
+
+/// What a text reads as that is this number, or is not read for this fault.
+#[tactic(auto, using(crate::proofs::SignedAmountLemmas::signed_unread))]
+pub fn signed_amount_of(
+    unit: &Unit,
+    most: u128,
+    number: &Result<Decimal, NumberFault>,
+) -> SignedAmount
+    requires { most ≤ 10 ^ 36 }
+    ensures amount { (text : List ℕ) → DecidesNumber text number.now → IsSignedAmountOf unit.now most text result }
+    ensures bound { KeepsBound most result }
+{
+    let Ok(number) = number else {
         return SignedAmount::Unread;
     };
-    match scale(&number, unit, limit(most)) {
+    match scale(number, unit, limit(most)) {
         Some(grains) => SignedAmount::Within(grains),
-        None => past_in_size(&number),
+        None => past_in_size(number),
     }
 }
 

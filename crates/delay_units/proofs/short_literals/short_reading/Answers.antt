@@ -1,9 +1,7 @@
--- The product that fits is the reading.
-use Rattle.std.proofs.Common.{◌≡◌, ◌*◌, rules}
-use Rattle.delay_units.proofs.ShortLemmas.{short_product}
+-- The literal in front is the whole text.
+use Rattle.delay_units.proofs.FrontSteps.{whole_reading}
 use Rattle.delay_units.proofs.short_literals.short_reading.Goals as goal
 
-pub returns : goal.returns
-returns c =
-    let product : c.in_ok-product.product ≡ c.in_ok-short.short.digits * c.args.unit.now.mantissa = search rules in
-    short_product c.args.unit.now c.args.text.now c.in_ok-short.short c.in_ok-power.power c.in_ok-product.product c.pow.result c.checked_mul-2.result _ c.in_ok-short.ensures c.in_ok-power.ensures.exact product c.pow.ensures c.checked_mul-2.ensures
+pub returns-then-is_empty : goal.returns-then-is_empty
+returns-then-is_empty c =
+    whole_reading c.args.unit.now c.args.text.now c.in_ok-grains.rest.now c.in_ok-grains.grains c.is_empty.result c.in_ok-grains.ensures c.is_empty.ensures c.if-is_empty.true

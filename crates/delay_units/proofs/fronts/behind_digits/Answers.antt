@@ -1,6 +1,6 @@
 use Rattle.std.proofs.Common.{◌≤◌, get_or, refl, rules}
 use Rattle.delay_units.proofs.LiteralReading.{nothing_dropped, one_dropped}
-use Rattle.delay_units.proofs.places.behind_digits.Goals as goal
+use Rattle.delay_units.proofs.fronts.behind_digits.Goals as goal
 
 pub loop-rest-init : goal.loop-rest-init
 loop-rest-init c = nothing_dropped c.args.text.now

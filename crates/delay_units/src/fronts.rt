@@ -1,0 +1,88 @@
+//! The literal in front of a text, and whether a text is one.
+ghost use Rattle.std.specs.Prelude.{◌≡◌, ◌↔◌, IsTrue, List, ℕ, IfSome, IfNone};
+ghost use Rattle.delay_units.specs.Literal.{IsLiteral};
+ghost use Rattle.delay_units.specs.LiteralFronts.{IsLiteralFront, HasNoLiteralFront};
+ghost use Rattle.delay_units.specs.Parts.{DropsDigits, HasMantissa, HasNoMantissa};
+ghost use Rattle.delay_units.specs.Places.{is_literal, begins_as_literal};
+
+use crate::literal::{leading_exponent, split_sign, strip};
+
+/// Whether a text begins as a literal may: with a digit, a point or a sign.
+#[inline]
+pub fn begins_as_literal(text: &[u8]) -> bool
+    ensures { result ≡ begins_as_literal text.now }
+{
+    match text {
+        [] => false,
+        [first, ..] => {
+            first.is_ascii_digit() || (*first == b'.' || (*first == b'+' || *first == b'-'))
+        }
+    }
+}
+
+/// The text behind the digits at its front.
+#[inline]
+fn behind_digits(text: &[u8]) -> &[u8]
+    ensures { DropsDigits text.now result.now }
+{
+    let mut rest = text;
+    while let [first, after @ ..] = rest {
+        if !first.is_ascii_digit() {
+            break;
+        }
+        rest = after;
+    }
+    rest
+}
+
+/// The text behind the digits at its front, with at most one point among them: nothing where there is no digit.
+#[inline]
+fn behind_mantissa(text: &[u8]) -> Option<&[u8]>
+    ensures some { IfSome result (λ rest. HasMantissa text.now rest.now) }
+    ensures none { IfNone result (HasNoMantissa text.now) }
+{
+    let rest = behind_digits(text);
+    match strip(rest, b'.') {
+        Some(fraction) => {
+            let left = behind_digits(fraction);
+            if left.len() + 1 == text.len() {
+                None
+            } else {
+                Some(left)
+            }
+        }
+        None => {
+            if rest.len() == text.len() {
+                None
+            } else {
+                Some(rest)
+            }
+        }
+    }
+}
+
+/// The text behind the longest front of it that is a decimal literal: nothing where no front is one.
+#[inline]
+pub fn behind_literal(text: &[u8]) -> Option<&[u8]>
+    ensures some { IfSome result (λ rest. (front : List ℕ) × IsLiteralFront text.now front rest.now) }
+    ensures none { IfNone result (HasNoLiteralFront text.now) }
+{
+    let (_, unsigned) = split_sign(text);
+    match behind_mantissa(unsigned) {
+        Some(rest) => Some(leading_exponent(rest).1),
+        None => None,
+    }
+}
+
+/// Whether a text is a decimal literal: an optional sign, digits with at most one point and at least one digit, and
+/// optionally `e` or `E` with an optional sign and at least one digit.
+#[inline]
+pub fn is_literal(text: &[u8]) -> bool
+    ensures value { result ≡ is_literal text.now }
+    ensures shape { IsTrue result ↔ IsLiteral text.now }
+{
+    match behind_literal(text) {
+        Some(rest) => rest.is_empty(),
+        None => false,
+    }
+}
