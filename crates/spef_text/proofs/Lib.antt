@@ -1,4 +1,3 @@
-pub mod Beginnings
 pub mod Breaking
 pub mod Cutting
 pub mod Keywords

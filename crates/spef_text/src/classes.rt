@@ -9,7 +9,7 @@ ghost use Rattle.delay_units.specs.Places.{is_literal};
 
 use crate::broken::is_broken;
 use crate::words::{Word, word_of};
-use delay_units::{begins_as_literal, is_literal};
+use delay_units::{behind_literal, is_literal, strip};
 
 /// A token that is no keyword of the head, as what stands behind `*DATE`.
 #[tactic(auto, unfolding(crate::specs::Classes::is_other))]
@@ -88,43 +88,30 @@ pub fn is_two_marks(text: &[u8]) -> bool
     }
 }
 
-fn colon_place(text: &[u8]) -> Option<usize>
-    ensures { result ≡ position is_colon text.now }
-{
-    text.iter().position(|byte| *byte == b':')
-}
-
+/// Two literals with a colon between them.
 fn are_two_literals(text: &[u8]) -> bool
     ensures { result ≡ are_two_literals text.now (position is_colon text.now) }
 {
-    match colon_place(text) {
+    let Some(rest) = behind_literal(text) else {
+        return false;
+    };
+    match strip(rest, b':') {
+        Some(last) => is_literal(last),
         None => false,
-        Some(colon) => {
-            let (first, rest) = text.split_at(colon);
-            is_literal(first) && is_literal(rest.split_at(1).1)
-        }
     }
 }
 
-/// A literal, or three with colons between them. Most names are none by their first byte.
-#[tactic(auto, using(crate::proofs::Beginnings::no_value, crate::proofs::Parting::one_literal_is_value))]
+/// A literal, or three with colons between them. Each byte is looked at once: no literal has a colon, so the longest front that is one
+/// ends before the colon.
 pub fn is_value(text: &[u8]) -> bool
     ensures { result ≡ is_value text.now }
 {
-    begins_as_literal(text) && (is_literal(text) || is_any_value(text))
-}
-
-/// The same, also where it has colons.
-#[tactic(auto, unfolding(crate::specs::Classes::is_value))]
-fn is_any_value(text: &[u8]) -> bool
-    ensures { result ≡ is_value text.now }
-{
-    match colon_place(text) {
-        None => is_literal(text),
-        Some(colon) => {
-            let (first, rest) = text.split_at(colon);
-            is_literal(first) && are_two_literals(rest.split_at(1).1)
-        }
+    let Some(rest) = behind_literal(text) else {
+        return false;
+    };
+    match strip(rest, b':') {
+        Some(others) => are_two_literals(others),
+        None => rest.is_empty(),
     }
 }
 

@@ -1,9 +1,14 @@
--- Behind the first literal of two.
+-- The literal in front, and a colon behind it or not.
 use Rattle.std.proofs.Common.{sym, ◌∙◌}
-use Rattle.spef_text.proofs.Parting.{behind_colon, two_parted}
+use Rattle.spef_text.proofs.Parting.{colon_two, no_colon_two, none_two}
 use Rattle.spef_text.proofs.classes.are_two_literals.Goals as goal
 
-pub returns-then-is_literal : goal.returns-then-is_literal
-returns-then-is_literal c =
-    let tail = behind_colon c.args.text.now c.in-Some.colon _ _ c.split_at.ensures.back c.split_at-then-is_literal.ensures.back in
-    c.is_literal-then-is_literal.ensures.value ∙ sym (two_parted c.args.text.now c.in-Some.colon _ _ (sym c.colon_place.ensures ∙ c.in-Some.is) c.split_at.ensures.front tail (sym c.is_literal.ensures.value ∙ c.if-is_literal.true))
+pub returns-in_default : goal.returns-in_default
+returns-in_default c = sym (none_two c.args.text.now c.in_default.ensures.none)
+
+pub returns-in-Some-strip : goal.returns-in-Some-strip
+returns-in-Some-strip c =
+    c.is_literal.ensures.value ∙ sym (colon_two c.args.text.now c.in-Some.ensures.some.0 _ _ c.in-Some.ensures.some.1 c.in-Some-strip.ensures)
+
+pub returns-in-None : goal.returns-in-None
+returns-in-None c = sym (no_colon_two c.args.text.now c.in-Some.ensures.some.0 _ c.in-Some.ensures.some.1 c.in-None.ensures)
