@@ -1,19 +1,15 @@
 -- The sign of a rounded reading, and what the reading of a member says.
-use Rattle.std.proofs.Common.{◌≡◌, ◌↔◌, ℕ, true, false, true≢false, List, length, take, drop, ◌-◌, ℤ, pos, ◌≤ℤ◌, Result, Ok, Err, IfOk, IfErr, sym, ap, ◌∙◌, refl, arith, subst}
-use Rattle.std.proofs.Math.Seq.{take-length}
+use Rattle.std.proofs.Common.{◌≡◌, ◌↔◌, ℕ, true, false, true≢false, List, ℤ, pos, ◌≤ℤ◌, Result, Ok, Err, IfOk, IfErr, sym, ◌∙◌, refl, arith, subst}
 use Rattle.std.proofs.lemmas.Int.{ints}
-use Rattle.std.proofs.lemmas.List.{length-drop}
 use Rattle.corner_set.specs.declared.pick.Pick.{Pick}
 use Rattle.corner_set.specs.declared.pick.Pick.TheVariants.{Min, Typ, Max}
 use Rattle.delay_units.specs.Reading.{ReadsAs}
 use Rattle.delay_units.specs.Amounts.{IsAmountOf, unread as no_number, below as below_zero, within, past}
+use Rattle.delay_units.specs.declared.amounts.Amount.{Amount}
 use Rattle.delay_units.specs.declared.amounts.Amount.TheVariants.{Unread, Below, Within, Past}
 use Rattle.delay_units.specs.declared.numbers.Unit.{Unit}
-use Rattle.delay_units.specs.Places.{is_literal}
 use Rattle.delay_units.proofs.ReadingLemmas.{one_text_reading}
-use Rattle.delay_units.proofs.LiteralReading.{tells_shape}
-use Rattle.spef_text.proofs.Parting.{literal_without_colon}
-use Rattle.spef_nets.specs.Values.{Triple, single, triple_at, triple_of, picked, IsAmount, IsBad, unread, below, IsAmountFault, is_bad, HasBad, IsTripleFault, IsValueFault, AreGrains, grains_at}
+use Rattle.spef_nets.specs.Values.{Triple, single, picked, IsAmount, IsBad, unread, below, IsAmountFault, IsReadAs, is_bad, HasBad, IsTripleFault, IsAnswerOf, AreGrains, grains_at}
 use Rattle.spef_nets.specs.declared.amounts.Grains.{Grains}
 use Rattle.spef_nets.specs.declared.amounts.AmountFault.{AmountFault}
 use Rattle.spef_nets.specs.declared.amounts.AmountFault.TheVariants.{BadNumber, ValueTooLarge}
@@ -64,10 +60,6 @@ large_among unit most triple pick r fault none e err = by fault (subst (λ (x : 
     by BadNumber is = absurd (none (pick, is))
     by ValueTooLarge is = (none, (pick, is))
 
--- a fault of some members is one of the same
-pub same_fault : (unit : Unit) (most : ℕ) (some other : Triple) (r : Result Grains AmountFault) → some ≡ other → IfErr r (IsTripleFault unit most some) → IfErr r (IsTripleFault unit most other)
-same_fault unit most some other r e is = subst (λ (t : Triple). IfErr r (IsTripleFault unit most t)) e is
-
 -- one number stands for all three members
 pub single_fault : (unit : Unit) (most : ℕ) (text : List ℕ) (fault : AmountFault) → IsAmountFault unit most text fault → IsTripleFault unit most (single text) fault
 single_fault unit most text BadNumber is = (Min, is)
@@ -80,24 +72,6 @@ single_fault unit most text ValueTooLarge is =
     each Typ bad = bad
     each Max bad = bad
 
--- what reads as a number has no colon, so that it stands for all three members
-one_number : (unit : Unit) (text : List ℕ) (v : ℤ) → ReadsAs unit text v → triple_of text ≡ single text
-one_number unit text v reads =
-    let is : is_literal text ≡ true = (tells_shape text (is_literal text) refl).1 (reads.reads.literal, reads.reads.spells) in
-    ap (triple_at text) (literal_without_colon text is)
-
-pub one_number_grains : (unit : Unit) (most : ℕ) (text : List ℕ) (grains : ℕ) → IsAmount unit most text grains
-    → AreGrains unit most (triple_of text) (record { min = grains; typ = grains; max = grains })
-one_number_grains unit most text grains is =
-    subst (λ (t : Triple). AreGrains unit most t (record { min = grains; typ = grains; max = grains }))
-    (sym (one_number unit text (pos grains) is.reads)) (record { min = is; typ = is; max = is })
-
-pub one_number_large : (unit : Unit) (most : ℕ) (text : List ℕ) → IsAmountFault unit most text ValueTooLarge
-    → IsValueFault unit most text ValueTooLarge
-one_number_large unit most text is =
-    subst (λ (t : Triple). IsTripleFault unit most t ValueTooLarge) (sym (one_number unit text is.grains is.reads))
-    (single_fault unit most text ValueTooLarge is)
-
 -- three readings, none of them bad, and one of them refused
 pub past_among : (unit : Unit) (most : ℕ) (triple whole : Triple) (pick : Pick) (a b c r : Result ℕ AmountFault) (fault : AmountFault) → triple ≡ whole
     → IfOk a (IsAmount unit most triple.min) × IfErr a (IsAmountFault unit most triple.min)
@@ -109,9 +83,38 @@ past_among unit most triple whole pick a b c r fault view first second third na 
     subst (λ (t : Triple). IsTripleFault unit most t ValueTooLarge) view
     (large_among unit most triple pick r fault (none_bad unit most triple a b c first.0 first.1 second.0 second.1 third.0 third.1 na nb nc) refused err)
 
--- what is left behind a place, as the code cuts it
-pub rest_behind : (text : List ℕ) (k : ℕ) → take (length text - k) (drop k text) ≡ drop k text
-rest_behind text k = ap (λ n. take n (drop k text)) (sym (length-drop k text)) ∙ take-length (drop k text)
+-- ---- the answer of three readings
+
+pub bad_among : (unit : Unit) (most : ℕ) (triple : Triple) (pick : Pick) (r : Result ℕ AmountFault) → is_bad r ≡ true → IsReadAs unit most (picked pick triple) r → IsAnswerOf unit most triple (Err BadNumber)
+bad_among unit most triple pick r e is = (tt, (pick, (bad_exactly unit most (picked pick triple) r is.0 is.1).0 e))
+
+pub good_among : (unit : Unit) (most : ℕ) (triple : Triple) (a b c : Result ℕ AmountFault) (min typ max : ℕ) → a ≡ Ok min → b ≡ Ok typ → c ≡ Ok max → IsReadAs unit most triple.min a → IsReadAs unit most triple.typ b → IsReadAs unit most triple.max c
+    → IsAnswerOf unit most triple (Ok (record { min = min; typ = typ; max = max }))
+good_among unit most triple a b c min typ max ea eb ec first second third =
+    (record { min = good_of triple.min a min ea first; typ = good_of triple.typ b typ eb second; max = good_of triple.max c max ec third }, tt)
+  where
+    good_of : (text : List ℕ) (r : Result ℕ AmountFault) (grains : ℕ) → r ≡ Ok grains → IsReadAs unit most text r → IsAmount unit most text grains
+    good_of text r grains e is = subst (λ (x : Result ℕ AmountFault). IfOk x (IsAmount unit most text)) e is.0
+
+-- what an amount of a member is read as
+
+pub read_unread : (unit : Unit) (most : ℕ) (text : List ℕ) (amount : Amount) → amount ≡ Unread → IsAmountOf unit most text amount → IsReadAs unit most text (Err BadNumber)
+read_unread unit most text amount e is = (tt, bad_unread unit most text (subst (λ (x : Amount). IsAmountOf unit most text x) e is))
+
+pub read_below : (unit : Unit) (most : ℕ) (text : List ℕ) (amount : Amount) → amount ≡ Below → IsAmountOf unit most text amount → IsReadAs unit most text (Err BadNumber)
+read_below unit most text amount e is = (tt, bad_below unit most text (subst (λ (x : Amount). IsAmountOf unit most text x) e is))
+
+pub read_within : (unit : Unit) (most : ℕ) (text : List ℕ) (amount : Amount) (grains : ℕ) → amount ≡ Within grains → IsAmountOf unit most text amount → IsReadAs unit most text (Ok grains)
+read_within unit most text amount grains e is = (good unit most text grains (subst (λ (x : Amount). IsAmountOf unit most text x) e is), tt)
+
+pub read_past : (unit : Unit) (most : ℕ) (text : List ℕ) (amount : Amount) → amount ≡ Past → IsAmountOf unit most text amount → IsReadAs unit most text (Err ValueTooLarge)
+read_past unit most text amount e is = (tt, large unit most text (subst (λ (x : Amount). IsAmountOf unit most text x) e is))
+
+pub alone_good : (unit : Unit) (most : ℕ) (text : List ℕ) (r : Result ℕ AmountFault) (grains : ℕ) → r ≡ Ok grains → IsReadAs unit most text r → IsAnswerOf unit most (single text) (Ok (record { min = grains; typ = grains; max = grains }))
+alone_good unit most text r grains e is = good_among unit most (single text) r r r grains grains grains e e e is is is
+
+pub alone_bad : (unit : Unit) (most : ℕ) (text : List ℕ) (r : Result ℕ AmountFault) (fault : AmountFault) → r ≡ Err fault → IsReadAs unit most text r → IsAnswerOf unit most (single text) (Err fault)
+alone_bad unit most text r fault e is = (tt, single_fault unit most text fault (subst (λ (x : Result ℕ AmountFault). IfErr x (IsAmountFault unit most text)) e is.1))
 
 -- ---- a value that is read has no fault
 

@@ -7,6 +7,7 @@ pub mod FewPlaces
 pub mod Keeping
 pub mod KeyLemmas
 pub mod Lists
+pub mod MemberLemmas
 pub mod Naming
 pub mod NodeLemmas
 pub mod PointLemmas

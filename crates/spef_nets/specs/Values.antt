@@ -1,5 +1,5 @@
 -- A value of a SPEF file (IEEE 1481): one number, or the least, the typical and the greatest of three with colons between them.
-use Rattle.std.specs.Prelude.{ℕ, ℤ, pos, ◌+◌, ◌≤◌, ◌<ℤ◌, List, take, drop, position, Option, Some, None, Result, Ok, Err, Bool, true, false}
+use Rattle.std.specs.Prelude.{ℕ, ℤ, pos, ◌+◌, ◌≤◌, ◌<ℤ◌, List, take, drop, position, Option, Some, None, Result, Ok, Err, IfOk, IfErr, Bool, true, false}
 use Rattle.corner_set.specs.declared.pick.Pick.{Pick}
 use Rattle.corner_set.specs.declared.pick.Pick.TheVariants.{Min, Typ, Max}
 use Rattle.delay_units.specs.Literal.{IsNumber}
@@ -59,6 +59,10 @@ abbrev pub IsAmountFault : Unit → ℕ → List ℕ → AmountFault → Type 0
 IsAmountFault unit most text BadNumber = IsBad unit text
 IsAmountFault unit most text ValueTooLarge = IsLarge unit most text
 
+-- what a member is read as
+abbrev pub IsReadAs : Unit → ℕ → List ℕ → Result ℕ AmountFault → Type 0
+IsReadAs unit most text r = IfOk r (IsAmount unit most text) × IfErr r (IsAmountFault unit most text)
+
 -- an answer that a member is bad
 abbrev pub is_bad : Result ℕ AmountFault → Bool
 is_bad (Err BadNumber) = true
@@ -91,3 +95,7 @@ abbrev pub grains_at : Pick → Grains → ℕ
 grains_at Min grains = grains.min
 grains_at Typ grains = grains.typ
 grains_at Max grains = grains.max
+
+-- what three members are read as
+abbrev pub IsAnswerOf : Unit → ℕ → Triple → Result Grains AmountFault → Type 0
+IsAnswerOf unit most triple r = IfOk r (AreGrains unit most triple) × IfErr r (IsTripleFault unit most triple)

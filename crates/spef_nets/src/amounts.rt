@@ -1,15 +1,12 @@
 //! A value of a SPEF file: its members, and how many grains each of them is.
-ghost use Rattle.std.specs.Prelude.{◌≡◌, ◌+◌, ℕ, ◌<◌, length, position, IfOk, IfErr, IfSome};
-ghost use Rattle.spef_text.specs.Classes.{is_colon};
+ghost use Rattle.std.specs.Prelude.{◌≡◌, ℕ, List, position, IfOk, IfErr};
+ghost use Rattle.delay_units.specs.Amounts.{IsAmountOf};
 ghost use Rattle.delay_units.specs.declared.numbers.Unit.{Unit};
-ghost use Rattle.spef_nets.specs.Values.{Triple, single, triple_of, triple_behind, triple_at, picked, IsAmount, IsAmountFault, is_bad, IsTripleFault, IsValueFault, AreGrains, grains_at};
+ghost use Rattle.spef_text.specs.Classes.{is_colon};
+ghost use Rattle.spef_nets.specs.Values.{Triple, single, triple_of, triple_behind, picked, IsAmount, is_bad, IsValueFault, IsReadAs, IsAnswerOf, AreGrains, grains_at};
 
 use corner_set::Pick;
-use delay_units::{Amount, Unit, read_amount};
-use std::marker::Model;
-
-/// Hardly a number has more bytes, and most values of three numbers do.
-const LONG: usize = 18;
+use delay_units::{Amount, Unit, read_amount, read_leading_amount, strip};
 
 /// Why a member of a value is refused.
 #[derive(Clone, Copy, PartialEq, Eq, Debug)]
@@ -21,53 +18,12 @@ pub enum AmountFault {
     ValueTooLarge,
 }
 
-// The members of a value that has colons: the least, the typical and the greatest.
-#[derive(Drop)]
-struct Members<'a> {
-    min: &'a [u8],
-    typ: &'a [u8],
-    max: &'a [u8],
-}
-
-impl<'a> Model for Members<'a> {
-    ghost Value = { Triple };
-
-    ghost view = { λ m. record { min = m.min.now; typ = m.typ.now; max = m.max.now } };
-}
-
-fn colon_in(text: &[u8]) -> Option<usize>
-    ensures value { result ≡ position is_colon text.now }
-    ensures within { IfSome result (λ place. place < length text.now) }
-{
-    text.iter().position(|byte| *byte == b':')
-}
-
-// The members of a value that begins with this one, and the rest behind the colon.
-fn members_behind<'a>(min: &'a [u8], rest: &'a [u8]) -> Members<'a>
-    ensures { result ≡ triple_behind min.now rest.now (position is_colon rest.now) }
-{
-    match colon_in(rest) {
-        None => Members {
-            min,
-            typ: rest,
-            max: rest,
-        },
-        Some(colon) => Members {
-            min,
-            typ: &rest[..colon],
-            max: &rest[colon + 1..],
-        },
-    }
-}
-
-/// The rounded reading of one member, from 0 to `most` grains.
+/// What a member is that reads as this amount.
 #[inline]
-#[tactic(auto, using(crate::proofs::AmountLemmas::good, crate::proofs::AmountLemmas::large))]
-pub fn amount(unit: &Unit, most: u64, text: &[u8]) -> Result<u64, AmountFault>
-    ensures ok { IfOk result (IsAmount unit.now most text.now) }
-    ensures err { IfErr result (IsAmountFault unit.now most text.now) }
+fn reading(amount: Amount) -> Result<u64, AmountFault>
+    ensures { (unit : Unit) (most : ℕ) (text : List ℕ) → IsAmountOf unit most text amount → IsReadAs unit most text result }
 {
-    match read_amount(unit, most, text) {
+    match amount {
         Amount::Unread => Err(AmountFault::BadNumber),
         Amount::Below => Err(AmountFault::BadNumber),
         Amount::Within(grains) => Ok(grains),
@@ -105,13 +61,14 @@ fn is_bad(reading: &Result<u64, AmountFault>) -> bool
 }
 
 // All three members are examined: a bad one anywhere comes before one past the bound.
-fn read_members(unit: &Unit, most: u64, members: &Members<'_>) -> Result<Grains, AmountFault>
-    ensures ok { IfOk result (AreGrains unit.now most members.now) }
-    ensures err { IfErr result (IsTripleFault unit.now most members.now) }
+fn all_of(
+    min: Result<u64, AmountFault>,
+    typ: Result<u64, AmountFault>,
+    max: Result<u64, AmountFault>,
+) -> Result<Grains, AmountFault>
+    ensures { (unit : Unit) (most : ℕ) (triple : Triple) → IsReadAs unit most triple.min min → IsReadAs unit most triple.typ typ
+        → IsReadAs unit most triple.max max → IsAnswerOf unit most triple result }
 {
-    let min = amount(unit, most, members.min);
-    let typ = amount(unit, most, members.typ);
-    let max = amount(unit, most, members.max);
     if is_bad(&min) || is_bad(&typ) || is_bad(&max) {
         return Err(AmountFault::BadNumber);
     }
@@ -128,12 +85,10 @@ fn read_members(unit: &Unit, most: u64, members: &Members<'_>) -> Result<Grains,
 }
 
 // One number stands for all three members, and is read once.
-#[tactic(auto, using(crate::proofs::AmountLemmas::single_fault))]
-fn read_single(unit: &Unit, most: u64, text: &[u8]) -> Result<Grains, AmountFault>
-    ensures ok { IfOk result (AreGrains unit.now most (single text.now)) }
-    ensures err { IfErr result (IsTripleFault unit.now most (single text.now)) }
+fn alone(number: Result<u64, AmountFault>) -> Result<Grains, AmountFault>
+    ensures { (unit : Unit) (most : ℕ) (text : List ℕ) → IsReadAs unit most text number → IsAnswerOf unit most (single text) result }
 {
-    match amount(unit, most, text) {
+    match number {
         Ok(grains) => Ok(Grains {
             min: grains,
             typ: grains,
@@ -143,38 +98,40 @@ fn read_single(unit: &Unit, most: u64, text: &[u8]) -> Result<Grains, AmountFaul
     }
 }
 
-// Reads a value by its colons, which are looked for first.
-fn read_parted(unit: &Unit, most: u64, text: &[u8]) -> Result<Grains, AmountFault>
-    ensures ok { IfOk result (AreGrains unit.now most (triple_of text.now)) }
-    ensures err { IfErr result (IsValueFault unit.now most text.now) }
+// Reads the members behind the first one and its colon. Where no colon is behind the next one either, that is the last one too.
+fn read_others(
+    unit: &Unit,
+    most: u64,
+    min: Result<u64, AmountFault>,
+    text: &[u8],
+) -> Result<Grains, AmountFault>
+    ensures { (first : List ℕ) → IsReadAs unit.now most first min
+        → IsAnswerOf unit.now most (triple_behind first text.now (position is_colon text.now)) result }
 {
-    match colon_in(text) {
-        None => read_single(unit, most, text),
-        Some(colon) => read_members(
-            unit,
-            most,
-            &members_behind(&text[..colon], &text[colon + 1..]),
-        ),
+    let Some((amount, rest)) = read_leading_amount(unit, most, text) else {
+        return Err(AmountFault::BadNumber);
+    };
+    let typ = reading(amount);
+    match strip(rest, b':') {
+        Some(last) => all_of(min, typ, reading(read_amount(unit, most, last))),
+        None if rest.is_empty() => all_of(min, typ, typ),
+        None => Err(AmountFault::BadNumber),
     }
 }
 
-/// Reads a value. All its members are examined, and a bad one anywhere comes before one past the bound. What reads as a number has no
-/// colon, and is looked at once. Three numbers are longer than one, as a rule: there the colons are looked for first.
-#[tactic(auto, using(crate::proofs::AmountLemmas::one_number_large))]
+/// Reads a value. All its members are examined, and a bad one anywhere comes before one past the bound. Each byte is looked at once:
+/// no number has a colon, so a member ends where the number in front of it ends, or it is bad.
 pub fn grains_of(unit: &Unit, most: u64, text: &[u8]) -> Result<Grains, AmountFault>
     ensures ok { IfOk result (AreGrains unit.now most (triple_of text.now)) }
     ensures err { IfErr result (IsValueFault unit.now most text.now) }
 {
-    if text.len() > LONG {
-        return read_parted(unit, most, text);
-    }
-    match amount(unit, most, text) {
-        Ok(grains) => Ok(Grains {
-            min: grains,
-            typ: grains,
-            max: grains,
-        }),
-        Err(AmountFault::ValueTooLarge) => Err(AmountFault::ValueTooLarge),
-        Err(AmountFault::BadNumber) => read_parted(unit, most, text),
+    let Some((amount, rest)) = read_leading_amount(unit, most, text) else {
+        return Err(AmountFault::BadNumber);
+    };
+    let first = reading(amount);
+    match strip(rest, b':') {
+        Some(others) => read_others(unit, most, first, others),
+        None if rest.is_empty() => alone(first),
+        None => Err(AmountFault::BadNumber),
     }
 }
