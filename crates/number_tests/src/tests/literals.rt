@@ -1,5 +1,5 @@
 //! Texts, and the number that each is or where it stops to be one.
-use delay_units::{NumberFault, read_decimal};
+use delay_units::{NumberFault, behind_literal, is_literal, read_decimal, strip};
 use std::test::Fail;
 
 /// A literal, its digits, and the power of ten that they are of.
@@ -56,6 +56,36 @@ const REFUSED: [(&[u8], NumberFault); 14] = [
         NumberFault::NotANumber(31),
     ),
 ];
+
+/// A text, and how many bytes the longest front of it has that is a literal, where one is.
+const FRONTS: [(&[u8], Option<usize>); 14] = [
+    (b"12", Some(2)),
+    (b"1.5:2.0:2.5", Some(3)),
+    (b"-.5x", Some(3)),
+    (b"5.:", Some(2)),
+    (b"1.2.3", Some(3)),
+    (b"1e5.", Some(3)),
+    (b"+2E-07:", Some(6)),
+    // A mark with no digit behind it and its sign is no exponent.
+    (b"1e+:2", Some(1)),
+    (b"1e", Some(1)),
+    (b"1234567890123456789012345678912:", Some(31)),
+    (b"", None),
+    (b".:1", None),
+    (b"-+1", None),
+    (b"x1", None),
+];
+
+#[test]
+fn the_literal_in_front_is_the_longest(rt: HostRuntime) {
+    for (text, count) in FRONTS {
+        let found = behind_literal(text).map(|rest| text.len().saturating_sub(rest.len()));
+        assert!(rt; found == count, "{text:?}");
+        assert!(rt; is_literal(text) == (count == Some(text.len())), "{text:?}");
+    }
+    assert!(rt; strip(b":2", b':') == Some(b"2"));
+    assert!(rt; strip(b"2:", b':') == None);
+}
 
 #[test]
 fn literals_are_read(rt: HostRuntime) -> Result<(), Fail> {

@@ -1,7 +1,7 @@
 //! Readings in a unit at ties and at the bound, units at their seven digits, and halves rounded up.
 use delay_units::{
     Amount, Farads, Ohms, SignedAmount, Unit, half_up, read_amount, read_decimal,
-    read_signed_amount, scale, unit,
+    read_leading_amount, read_signed_amount, scale, unit,
 };
 use std::test::Fail;
 
@@ -82,6 +82,37 @@ fn amounts_tell_each_case(rt: HostRuntime) -> Result<(), Fail> {
     assert!(rt; scale(&read_decimal(b"-9.5")?, &one, 9) == Some(-9));
     assert!(rt; scale(&read_decimal(b"-9.6")?, &one, 9) == None);
     Ok(())
+}
+
+/// A text, the grains of the literal in front of it where they are from 0 to 9, and how many bytes are behind it.
+const LEADING: [(&[u8], Option<u64>, usize); 9] = [
+    (b"1.5:2.0:2.5", Some(2), 8),
+    (b"7", Some(7), 0),
+    (b"9.4e0:", Some(9), 1),
+    (b"1e-1e", Some(0), 1),
+    (b"0000000000000000003.2.1", Some(3), 2),
+    (b"9.5:1", None, 2),
+    (b"-1:1", None, 2),
+    (b"1e100;", None, 1),
+    (b"1234567890123456789012345678912 ", None, 1),
+];
+
+#[test]
+fn the_literal_in_front_is_read(rt: HostRuntime) {
+    let one = Unit {
+        mantissa: 1,
+        exponent: 0,
+    };
+    for (text, grains, behind) in LEADING {
+        match read_leading_amount(&one, 9, text) {
+            Some((Amount::Within(found), rest)) => {
+                assert!(rt; Some(found) == grains && rest.len() == behind, "{text:?}");
+            }
+            Some((_, rest)) => assert!(rt; grains == None && rest.len() == behind, "{text:?}"),
+            None => assert!(rt; false, "{text:?}"),
+        }
+    }
+    assert!(rt; matches!(read_leading_amount(&one, 9, b":1"), None));
 }
 
 /// A literal and the unit that it names in ohms, kilohms or the like, by mantissa and exponent.
