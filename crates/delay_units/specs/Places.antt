@@ -53,8 +53,3 @@ ends_literal (Some place) = may_end place
 -- a decimal literal: the places of a literal lead over the text to one where it may end
 unfoldable pub is_literal : List ℕ → Bool
 is_literal text = ends_literal (place_behind (Some at_start) text)
-
--- a text that begins with a digit, a point or a sign
-abbrev pub begins_as_literal : List ℕ → Bool
-begins_as_literal [] = false
-begins_as_literal (first ∷ rest) = is_ascii_digit first || (first == 46 || is_sign first)

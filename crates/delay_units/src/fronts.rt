@@ -3,22 +3,9 @@ ghost use Rattle.std.specs.Prelude.{◌≡◌, ◌↔◌, IsTrue, List, ℕ, IfS
 ghost use Rattle.delay_units.specs.Literal.{IsLiteral};
 ghost use Rattle.delay_units.specs.LiteralFronts.{IsLiteralFront, HasNoLiteralFront};
 ghost use Rattle.delay_units.specs.Parts.{DropsDigits, HasMantissa, HasNoMantissa};
-ghost use Rattle.delay_units.specs.Places.{is_literal, begins_as_literal};
+ghost use Rattle.delay_units.specs.Places.{is_literal};
 
 use crate::literal::{leading_exponent, split_sign, strip};
-
-/// Whether a text begins as a literal may: with a digit, a point or a sign.
-#[inline]
-pub fn begins_as_literal(text: &[u8]) -> bool
-    ensures { result ≡ begins_as_literal text.now }
-{
-    match text {
-        [] => false,
-        [first, ..] => {
-            first.is_ascii_digit() || (*first == b'.' || (*first == b'+' || *first == b'-'))
-        }
-    }
-}
 
 /// The text behind the digits at its front.
 #[inline]

@@ -16,7 +16,7 @@ mod signed_amounts;
 mod tally;
 
 pub use amounts::{Amount, read_amount, read_leading_amount};
-pub use fronts::{begins_as_literal, behind_literal, is_literal};
+pub use fronts::{behind_literal, is_literal};
 pub use literal::{read_decimal, strip};
 pub use numbers::{Decimal, NumberFault, Unit};
 pub use printing::{Text32, write_atto, write_femto};
