@@ -60,7 +60,7 @@ significant_is ds t h =
 pub significant_count : (ds : List ℕ) (t : Tally) → IsTallyOf ds t → length (significant ds) ≡ t.significant
 significant_count ds t h = ap length (significant_is ds t h) ∙ sym h.significant
 
-number_is : (ds : List ℕ) (t : Tally) → (h : IsTallyOf ds t) → number_of ds ≡ number_of h.middle * 10 ^ t.zeros
+pub number_is : (ds : List ℕ) (t : Tally) → (h : IsTallyOf ds t) → number_of ds ≡ number_of h.middle * 10 ^ t.zeros
 number_is ds t h =
     ap number_of h.split
     ∙ fold-append (λ n c. n * 10 + (c - 48)) 0 (replicate h.leading 48) (h.middle ++ replicate t.zeros 48)
@@ -132,7 +132,7 @@ not_zero_digits : (n : ℕ) → n % 10 ≢ 0 → n ≡ 0 → ⊥
 not_zero_digits n h e = h (ap (λ x. x % 10) e)
 
 -- a positive number of significant digits, or none
-some_or_none : (n : ℕ) → (n ≡ 0) ⊎ (0 < n)
+pub some_or_none : (n : ℕ) → (n ≡ 0) ⊎ (0 < n)
 some_or_none zero = inl refl
 some_or_none (suc n) = inr (omega arith)
 

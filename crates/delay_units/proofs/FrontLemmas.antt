@@ -121,20 +121,23 @@ front_of_parts text u r rest negative power s m some x = record {
         ∙ sym (append_assoc m.whole (fraction_text m.fraction ++ exponent_text x.exponent) rest))
         ∙ sym (append_assoc (sign_text s.sign) (m.whole ++ (fraction_text m.fraction ++ exponent_text x.exponent)) rest)
 
--- digits with at most one point are the front where the rest goes on with none of a digit, a point and a mark
+-- digits with at most one point are a literal, and the front where the rest goes on with none of a digit, a point and a mark
+pub short_is_literal : (text : List ℕ) (short : Short) → IsShort text short → IsLiteral text
+short_is_literal text short is = (
+  record { sign = unsigned; whole = is.whole; fraction = is.fraction; exponent = None },
+  record {
+    writes = is.writes ∙ ap (λ y. is.whole ++ y) (sym (append-nil (fraction_text is.fraction)));
+    whole = is.are_whole;
+    fraction = is.are_fraction;
+    some_digit = is.some_digit;
+    exponent = tt;
+  },
+)
+
 pub plain_front : (text front rest : List ℕ) (short : Short) → text ≡ front ++ rest → IsShort front short → EndsPlainly rest → IsLiteralFront text front rest
 plain_front text front rest short split is ends = record {
   split = split;
-  literal = (
-    record { sign = unsigned; whole = is.whole; fraction = is.fraction; exponent = None },
-    record {
-      writes = is.writes ∙ ap (λ y. is.whole ++ y) (sym (append-nil (fraction_text is.fraction)));
-      whole = is.are_whole;
-      fraction = is.are_fraction;
-      some_digit = is.some_digit;
-      exponent = tt;
-    },
-  );
+  literal = short_is_literal front short is;
   longest = longest_front text front rest (place_past_mantissa is.fraction) split
       (ap (place_behind (Some at_start)) is.writes ∙ front_leads unsigned is.whole is.fraction is.are_whole is.are_fraction is.some_digit)
       (unmarked_ends is.fraction rest ends.0 (λ _. ends.1) ends.2);

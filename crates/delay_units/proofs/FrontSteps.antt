@@ -1,13 +1,13 @@
 -- The steps to the literal in front of a text: its mantissa, its exponent, and what they are together.
-use Rattle.std.proofs.Common.{◌≡◌, ◌≢◌, ◌↔◌, IsTrue, ℕ, ◌+◌, ◌-◌, ◌<◌, List, [], ◌∷◌, ◌++◌, length, take, drop, sym, ap, ◌∙◌, refl, arith, append_assoc, length-append, ◌==◌, eqb-true, subst, Bool, true, false, true≢false, Some, None, Result, Ok, Err, ℤ, pos, negsuc, ◌<ℤ◌, ◌≤ℤ◌}
+use Rattle.std.proofs.Common.{◌≡◌, ◌≢◌, ◌↔◌, IsTrue, ℕ, ◌+◌, ◌-◌, ◌<◌, List, [], ◌∷◌, ◌++◌, length, take, drop, sym, ap, ◌∙◌, refl, arith, append_assoc, length-append, ◌==◌, eqb-true, subst, Bool, true, false, true≢false, Option, Some, None, IfSome, Result, Ok, Err, ℤ, pos, negsuc, ◌<ℤ◌, ◌≤ℤ◌}
 use Rattle.std.proofs.lemmas.Int.{ints}
 use Rattle.std.proofs.lemmas.List.{append-nil, drop_at, take-append-drop}
 use Rattle.delay_units.specs.Literal.{Literal, sign_text, fraction_text, fraction_digits, exponent_text, Spells, IsLiteral, IsNumber, IsFaultOf, IsAnswerTo, HasFewDigits, HasSmallExponent}
 use Rattle.delay_units.specs.LiteralFronts.{IsLiteralFront, HasNoLiteralFront}
-use Rattle.delay_units.specs.Parts.{NoDigitFirst, NotFirst, NoMarkFirst, BeginsWithMark, SplitsSign, SplitsSize, SplitsMantissa, DropsDigits, DropsMantissa, HasMantissa, HasNoMantissa, StopsExponent, no_more, unmarked, no_digit, SplitsExponent, DecidesDecimal, DecidesNumber}
+use Rattle.delay_units.specs.Parts.{NoDigitFirst, NotFirst, NoMarkFirst, BeginsWithMark, SplitsSign, SplitsSize, SplitsMantissa, DropsDigits, HasMantissa, HasNoMantissa, StopsExponent, no_more, unmarked, no_digit, SplitsExponent, DecidesDecimal, DecidesNumber}
 use Rattle.delay_units.specs.Places.{is_literal}
 use Rattle.delay_units.specs.Reading.{ReadsAs}
-use Rattle.delay_units.specs.ShortLiterals.{IsShort, EndsPlainly}
+use Rattle.delay_units.specs.ShortLiterals.{IsShort, HasShortFront, EndsPlainly}
 use Rattle.delay_units.specs.SignedAmounts.{IsSignedAmountOf, unread, KeepsBound}
 use Rattle.delay_units.specs.declared.literal.Power.{Power}
 use Rattle.delay_units.specs.declared.numbers.Decimal.{Decimal}
@@ -20,34 +20,12 @@ use Rattle.delay_units.specs.declared.signed_amounts.SignedAmount.{SignedAmount}
 use Rattle.delay_units.specs.declared.tally.Tally.{Tally}
 use Rattle.delay_units.proofs.AnswerLemmas.{answer_from, number_from, fault_from}
 use Rattle.delay_units.proofs.FrontLemmas.{front_of_parts, no_front, plain_front, whole_front, literal_is_front}
-use Rattle.delay_units.proofs.LiteralLemmas.{some_not_none}
+use Rattle.delay_units.proofs.LiteralLemmas.{pointless, pointed}
 use Rattle.delay_units.proofs.LiteralReading.{tells_shape}
 use Rattle.delay_units.proofs.LiteralShape.{literal_has_parts}
 use Rattle.delay_units.proofs.OneLiteral.{one_literal}
 
 -- ---- the mantissa
-
-abbrev pointless : (text rest : List ℕ) → DropsDigits text rest → NotFirst 46 rest → DropsMantissa text rest
-pointless text rest h np = record {
-  whole = h.digits;
-  fraction = None;
-  split = h.split;
-  whole_are_digits = h.are_digits;
-  fraction_are_digits = tt;
-  stops = h.stops;
-  no_point = λ _. np;
-}
-
-abbrev pointed : (text rest fraction left : List ℕ) → DropsDigits text rest → rest ≡ 46 ∷ fraction → DropsDigits fraction left → DropsMantissa text left
-pointed text rest fraction left h e g = record {
-  whole = h.digits;
-  fraction = Some g.digits;
-  split = h.split ∙ ap (λ x. h.digits ++ x) (e ∙ ap (λ x. 46 ∷ x) g.split);
-  whole_are_digits = h.are_digits;
-  fraction_are_digits = g.are_digits;
-  stops = g.stops;
-  no_point = λ n. absurd (some_not_none g.digits n);
-}
 
 counted : (text rest : List ℕ) → (h : DropsDigits text rest) → length text ≡ length h.digits + length rest
 counted text rest h = ap length h.split ∙ length-append h.digits rest
@@ -146,7 +124,7 @@ tells_literal text b is = by b (is_literal text) is refl
 
 -- ---- the number
 
-decides : (front : List ℕ) (l : Literal) (r : Result Decimal NumberFault) → Spells front l → IsAnswerTo l r → DecidesNumber front r
+pub decides : (front : List ℕ) (l : Literal) (r : Result Decimal NumberFault) → Spells front l → IsAnswerTo l r → DecidesNumber front r
 decides front l (Ok d) s a = number_from front l (Ok d) s a
 decides front l (Err f) s a = fault_from front l (Err f) s a
 
@@ -168,26 +146,28 @@ no_number text u r negative t places s m none = no_front text u r negative s m.p
 
 -- ---- short literals
 
--- a window at the front of the text has a short literal in front, and the literal ends there
-pub short_in_front : (text window left rest : List ℕ) (n k : ℕ) (short : Short) → window ≡ take n text → (front : List ℕ) × (window ≡ front ++ left) × IsShort front short
-    → k ≡ length window - length left → rest ≡ drop k text → EndsPlainly rest → (front : List ℕ) × IsLiteralFront text front rest × IsShort front short
-short_in_front text window left rest n k short e (front, split, is) ek er ends = (front, plain_front text front rest short whole is ends, is)
+-- what is in front of a window at the front of the text is in front of the text
+pub short_in_front : (text window left rest : List ℕ) (n k : ℕ) (short : Short) → window ≡ take n text → HasShortFront window short left → k ≡ length window - length left → rest ≡ drop k text → HasShortFront text short rest
+short_in_front text window left rest n k short e h ek er = record { front = h.front; split = whole; is_short = h.is_short }
   where
-    parted : text ≡ front ++ (left ++ drop n text)
-    parted = sym (take-append-drop n text) ∙ ap (λ x. x ++ drop n text) (sym e ∙ split) ∙ append_assoc front left (drop n text)
+    parted : text ≡ h.front ++ (left ++ drop n text)
+    parted = sym (take-append-drop n text) ∙ ap (λ x. x ++ drop n text) (sym e ∙ h.split) ∙ append_assoc h.front left (drop n text)
 
-    count : length front ≡ k
-    count = let a = ap length split in let b = length-append front left in omega (arith, a, b, ek)
+    count : length h.front ≡ k
+    count = let a = ap length h.split in let b = length-append h.front left in omega (arith, a, b, ek)
 
-    whole : text ≡ front ++ rest
-    whole = parted ∙ ap (λ x. front ++ x) (sym (drop_at front (left ++ drop n text) k count) ∙ ap (drop k) (sym parted) ∙ sym er)
+    whole : text ≡ h.front ++ rest
+    whole = parted ∙ ap (λ x. h.front ++ x) (sym (drop_at h.front (left ++ drop n text) k count) ∙ ap (drop k) (sym parted) ∙ sym er)
 
--- the reading of a front that is the whole text
-pub whole_reading : (unit : Unit) (text rest : List ℕ) (grains : ℕ) (empty : Bool) → (front : List ℕ) × IsLiteralFront text front rest × ReadsAs unit front (pos grains) → empty ≡ (length rest == 0) → empty ≡ true
-    → ReadsAs unit text (pos grains)
-whole_reading unit text rest grains empty (front, f, reads) e is =
-    let P : List ℕ → Type 0 = λ x. ReadsAs unit x (pos grains) in
-    subst P (whole_front text front rest f (eqb-true (length rest) 0 (sym e ∙ is))) reads
+-- the reading of short digits that are the literal in front, or the whole text
+pub reading_in_front : (unit : Unit) (text rest : List ℕ) (short : Short) (r : Option ℕ) → (h : HasShortFront text short rest) → EndsPlainly rest → IfSome r (λ grains. ReadsAs unit h.front (pos grains))
+    → IfSome r (λ grains. (front : List ℕ) × IsLiteralFront text front rest × ReadsAs unit front (pos grains))
+reading_in_front unit text rest short None h ends reads = reads
+reading_in_front unit text rest short (Some grains) h ends reads = (h.front, plain_front text h.front rest short h.split h.is_short ends, reads)
+
+pub short_whole : (text rest : List ℕ) (short : Short) → HasShortFront text short rest → length rest ≡ 0 → IsShort text short
+short_whole text [] short h none = let P : List ℕ → Type 0 = λ x. IsShort x short in subst P (sym (h.split ∙ append-nil h.front)) h.is_short
+short_whole text (c ∷ cs) short h none = absurd (omega (arith, none))
 
 -- ---- what is not read
 

@@ -14,6 +14,8 @@ pub mod PrintingLemmas
 pub mod ReadingLemmas
 pub mod RoundingLemmas
 pub mod ShortLemmas
+pub mod ShortMantissas
+pub mod ShortTallies
 pub mod SignLemmas
 pub mod SignedAmountLemmas
 pub mod StopLemmas

@@ -4,7 +4,7 @@ use Rattle.std.proofs.lemmas.Bool.{cases_lt}
 use Rattle.std.proofs.lemmas.List.Sums.{fold_push}
 use Rattle.std.proofs.lemmas.List.{append-nil}
 use Rattle.delay_units.specs.Literal.{AreDigits, number_of, sign_text}
-use Rattle.delay_units.specs.Parts.{IsCapped, SplitsSign, SplitsDigits, SplitsMantissa, SplitsSize, NotFirst, NoMarkFirst, BeginsWithMark, IsPowerOf, StopsIn, no_mark, no_end}
+use Rattle.delay_units.specs.Parts.{IsCapped, SplitsSign, SplitsDigits, DropsDigits, DropsMantissa, SplitsMantissa, SplitsSize, NotFirst, NoMarkFirst, BeginsWithMark, IsPowerOf, StopsIn, no_mark, no_end}
 use Rattle.delay_units.specs.Tallies.{IsTallyOf}
 use Rattle.delay_units.specs.declared.tally.Tally.{Tally}
 use Rattle.delay_units.specs.declared.literal.Power.{Power}
@@ -63,35 +63,44 @@ sized_still text size d (c ∷ cs) h some e low high many =
 
 -- ---- the digits before the exponent
 
+pub some_not_none : (xs : List ℕ) → Some xs ≡ None → ⊥
+some_not_none xs e = cc
+
+abbrev pub pointless : (text rest : List ℕ) → DropsDigits text rest → NotFirst 46 rest → DropsMantissa text rest
+pointless text rest h np = record {
+  whole = h.digits;
+  fraction = None;
+  split = h.split;
+  whole_are_digits = h.are_digits;
+  fraction_are_digits = tt;
+  stops = h.stops;
+  no_point = λ _. np;
+}
+
+abbrev pub pointed : (text rest fraction left : List ℕ) → DropsDigits text rest → rest ≡ 46 ∷ fraction → DropsDigits fraction left → DropsMantissa text left
+pointed text rest fraction left h e g = record {
+  whole = h.digits;
+  fraction = Some g.digits;
+  split = h.split ∙ ap (λ x. h.digits ++ x) (e ∙ ap (λ x. 46 ∷ x) g.split);
+  whole_are_digits = h.are_digits;
+  fraction_are_digits = g.are_digits;
+  stops = g.stops;
+  no_point = λ n. absurd (some_not_none g.digits n);
+}
+
+abbrev dropped : {before text rest : List ℕ} {t : Tally} → SplitsDigits before text t rest → DropsDigits text rest
+dropped h = record { digits = h.digits; split = h.split; are_digits = h.are_digits; stops = h.stops }
+
 pub whole_only : (text : List ℕ) (t : Tally) (rest : List ℕ) → SplitsDigits [] text t rest → NotFirst 46 rest → SplitsMantissa text t 0 rest
 whole_only text t rest h np = record {
-  parts = record {
-    whole = h.digits;
-    fraction = None;
-    split = h.split;
-    whole_are_digits = h.are_digits;
-    fraction_are_digits = tt;
-    stops = h.stops;
-    no_point = λ _. np;
-  };
+  parts = pointless text rest (dropped h) np;
   tally = let P : List ℕ → Type 0 = λ x. IsTallyOf x t in subst P (sym (append-nil h.digits)) h.tally;
   counted = refl;
 }
 
-pub some_not_none : (xs : List ℕ) → Some xs ≡ None → ⊥
-some_not_none xs e = cc
-
 pub with_fraction : (text : List ℕ) (t : Tally) (rest fraction : List ℕ) (t2 : Tally) (rest2 : List ℕ) → (h : SplitsDigits [] text t rest) → rest ≡ 46 ∷ fraction → SplitsDigits h.digits fraction t2 rest2 → SplitsMantissa text t2 (t2.digits - t.digits) rest2
 with_fraction text t rest fraction t2 rest2 h e g = record {
-  parts = record {
-    whole = h.digits;
-    fraction = Some g.digits;
-    split = h.split ∙ ap (λ x. h.digits ++ x) (e ∙ ap (λ x. 46 ∷ x) g.split);
-    whole_are_digits = h.are_digits;
-    fraction_are_digits = g.are_digits;
-    stops = g.stops;
-    no_point = λ n. absurd (some_not_none g.digits n);
-  };
+  parts = pointed text rest fraction rest2 (dropped h) e (dropped g);
   tally = g.tally;
   counted = omega (arith, h.tally.digits, g.tally.digits, length-append h.digits g.digits);
 }

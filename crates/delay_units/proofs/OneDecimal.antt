@@ -62,7 +62,7 @@ shifted m e n f x k one other h =
     (is_zero m)
 
 -- numbers in that form are equal only digit by digit
-normal_same : (m e n f : ℤ) (x y : ℕ) → IsNormal m e → IsNormal n f → m *ℤ pos (10 ^ x) ≡ n *ℤ pos (10 ^ y) → e +ℤ pos y ≡ f +ℤ pos x → Same m e n f
+pub normal_same : (m e n f : ℤ) (x y : ℕ) → IsNormal m e → IsNormal n f → m *ℤ pos (10 ^ x) ≡ n *ℤ pos (10 ^ y) → e +ℤ pos y ≡ f +ℤ pos x → Same m e n f
 normal_same m e n f x y one other h g =
     ⊎_elim
     (λ lt.

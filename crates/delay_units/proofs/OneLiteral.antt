@@ -68,7 +68,7 @@ digits_no_sign : (ds : List ℕ) (r : List ℕ) → AreDigits ds → 0 < length 
 digits_no_sign [] r h some = absurd (omega (arith, some))
 digits_no_sign (d ∷ ds) r h some = digit_no_sign d (ds ++ r) h.0
 
-mantissa_no_sign : (whole : List ℕ) (fraction : Option (List ℕ)) (r : List ℕ) → AreDigits whole → 0 < length (whole ++ fraction_digits fraction) → NoSignFirst (whole ++ (fraction_text fraction ++ r))
+pub mantissa_no_sign : (whole : List ℕ) (fraction : Option (List ℕ)) (r : List ℕ) → AreDigits whole → 0 < length (whole ++ fraction_digits fraction) → NoSignFirst (whole ++ (fraction_text fraction ++ r))
 mantissa_no_sign [] None r h some = absurd (omega (arith, some))
 mantissa_no_sign [] (Some ds) r h some = (refl, refl)
 mantissa_no_sign (w ∷ ws) fraction r h some = digit_no_sign w (ws ++ (fraction_text fraction ++ r)) h.0

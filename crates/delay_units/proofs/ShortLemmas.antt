@@ -14,7 +14,7 @@ use Rattle.delay_units.specs.declared.numbers.Unit.{Unit}
 use Rattle.delay_units.proofs.PowerLemmas.{ten_le, ten_suc, ten_is_positive, power_up}
 use Rattle.delay_units.proofs.NormalNumbers.{strip}
 use Rattle.delay_units.proofs.TallyLemmas.{AreDigits-push, rest_is}
-use Rattle.delay_units.specs.ShortLiterals.{written_behind, TakesDigits, IsShort}
+use Rattle.delay_units.specs.ShortLiterals.{written_behind, TakesDigits, IsShort, HasShortFront}
 use Rattle.delay_units.specs.declared.short_literals.Short.{Short}
 
 behind_push : (before : ℕ) (digits : List ℕ) (c : ℕ) → written_behind before (digits ++ c ∷ []) ≡ written_behind before digits * 10 + (c - 48)
@@ -56,11 +56,11 @@ no_longer before text number rest h = let e = ap length h.split in let f = lengt
 
 -- digits with a point among them, in front of the rest
 pub pointed_short : (text rest fraction left : List ℕ) (whole number : ℕ) (short : Short) → TakesDigits 0 text whole rest → rest ≡ 46 ∷ fraction → TakesDigits whole fraction number left → length left + 1 ≢ length text
-    → length text ≤ 18 → short.digits ≡ number → short.places ≡ length fraction - length left → (front : List ℕ) × (text ≡ front ++ left) × IsShort front short
-pointed_short text rest fraction left whole number short h point g some few digits places = (
-  h.digits ++ (46 ∷ g.digits),
-  split,
-  record {
+    → length text ≤ 18 → short.digits ≡ number → short.pointed ≡ true → short.places ≡ length fraction - length left → HasShortFront text short left
+pointed_short text rest fraction left whole number short h point g some few digits pointed places = record {
+  front = h.digits ++ (46 ∷ g.digits);
+  split = split;
+  is_short = record {
     whole = h.digits;
     fraction = Some g.digits;
     writes = refl;
@@ -70,9 +70,10 @@ pointed_short text rest fraction left whole number short h point g some few digi
     few_digits = let a = length-append h.digits g.digits in let e = lengths in omega (arith, a, e, few);
     digits = digits ∙ g.number_is ∙ ap (λ n. written_behind n g.digits) h.number_is ∙ sym (fold-append (λ n c. n * 10 + (c - 48)) 0 h.digits g.digits);
     small = let s = is_small number (length left) g.small in omega (arith, s, digits);
+    pointed = pointed;
     places = let a = ap length g.split in let b = length-append g.digits left in omega (arith, places, a, b);
-  },
-)
+  };
+}
   where
     split : text ≡ (h.digits ++ (46 ∷ g.digits)) ++ left
     split = h.split ∙ ap (λ x. h.digits ++ x) (point ∙ ap (λ x. 46 ∷ x) g.split) ∙ sym (append_assoc h.digits (46 ∷ g.digits) left)
@@ -81,12 +82,12 @@ pointed_short text rest fraction left whole number short h point g some few digi
     lengths = ap length split ∙ length-append (h.digits ++ (46 ∷ g.digits)) left ∙ ap (λ n. n + length left) (length-append h.digits (46 ∷ g.digits))
 
 -- digits alone
-pub pointless_short : (text rest : List ℕ) (whole : ℕ) (short : Short) → TakesDigits 0 text whole rest → length rest ≢ length text → length text ≤ 18 → short.digits ≡ whole → short.places ≡ 0
-    → (front : List ℕ) × (text ≡ front ++ rest) × IsShort front short
-pointless_short text rest whole short h some few digits places = (
-  h.digits,
-  h.split,
-  record {
+pub pointless_short : (text rest : List ℕ) (whole : ℕ) (short : Short) → TakesDigits 0 text whole rest → length rest ≢ length text → length text ≤ 18 → short.digits ≡ whole → short.pointed ≡ false → short.places ≡ 0
+    → HasShortFront text short rest
+pointless_short text rest whole short h some few digits pointed places = record {
+  front = h.digits;
+  split = h.split;
+  is_short = record {
     whole = h.digits;
     fraction = None;
     writes = sym (append-nil h.digits);
@@ -96,9 +97,10 @@ pointless_short text rest whole short h some few digits places = (
     few_digits = let a = length-append h.digits [] in let e = lengths in omega (arith, a, e, few);
     digits = digits ∙ h.number_is ∙ ap (written_behind 0) (sym (append-nil h.digits));
     small = let s = is_small whole (length rest) h.small in omega (arith, s, digits);
+    pointed = pointed;
     places = places;
-  },
-)
+  };
+}
   where
     lengths : length text ≡ length h.digits + length rest
     lengths = ap length h.split ∙ length-append h.digits rest

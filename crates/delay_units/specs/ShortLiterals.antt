@@ -1,5 +1,5 @@
 -- Short literals: a few digits with at most one point, as most values of a SPEF file (IEEE 1481) are written.
-use Rattle.std.specs.Prelude.{◌≡◌, ℕ, ◌+◌, ◌-◌, ◌*◌, ◌^◌, ◌<◌, ◌≤◌, List, ◌++◌, length, fold, Option}
+use Rattle.std.specs.Prelude.{◌≡◌, ℕ, ◌+◌, ◌-◌, ◌*◌, ◌^◌, ◌<◌, ◌≤◌, List, ◌++◌, length, fold, Option, Some, None, Bool, true, false}
 use Rattle.delay_units.specs.Literal.{AreDigits, fraction_text, fraction_digits, number_of}
 use Rattle.delay_units.specs.Parts.{NoDigitFirst, NotFirst, NoMarkFirst}
 use Rattle.delay_units.specs.declared.short_literals.Short.{Short}
@@ -16,6 +16,11 @@ pub record TakesDigits (before : ℕ) (text : List ℕ) (number : ℕ) (rest : L
   pub number_is : number ≡ written_behind before digits
   pub small : number < 10 ^ (18 - length rest)
 
+-- whether digits have a point behind them, and digits behind that, of which there may be none
+abbrev pub has_point : Option (List ℕ) → Bool
+has_point None = false
+has_point (Some _) = true
+
 -- the text has at most 18 digits, which write this number, and so many of them stand behind a point
 pub record IsShort (text : List ℕ) (short : Short) : Type 0 where
   pub whole : List ℕ
@@ -27,7 +32,14 @@ pub record IsShort (text : List ℕ) (short : Short) : Type 0 where
   pub few_digits : length (whole ++ fraction_digits fraction) ≤ 18
   pub digits : short.digits ≡ number_of (whole ++ fraction_digits fraction)
   pub small : short.digits < 10 ^ 18
+  pub pointed : short.pointed ≡ has_point fraction
   pub places : short.places ≡ length (fraction_digits fraction)
+
+-- the text begins with such digits, and this is the rest, which may begin with more of them
+pub record HasShortFront (text : List ℕ) (short : Short) (rest : List ℕ) : Type 0 where
+  pub front : List ℕ
+  pub split : text ≡ front ++ rest
+  pub is_short : IsShort front short
 
 -- no literal of digits with a point among them goes on with the text
 abbrev pub EndsPlainly : List ℕ → Type 0

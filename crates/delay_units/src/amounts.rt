@@ -4,10 +4,12 @@ ghost use Rattle.delay_units.specs.Reading.{ReadsAs};
 ghost use Rattle.delay_units.specs.LiteralFronts.{IsLiteralFront, HasNoLiteralFront};
 ghost use Rattle.delay_units.specs.Parts.{DecidesNumber};
 ghost use Rattle.delay_units.specs.Amounts.{IsAmountOf};
+ghost use Rattle.delay_units.specs.ShortLiterals.{HasShortFront};
 
 use crate::literal::{read_decimal, read_leading_decimal};
 use crate::numbers::{Decimal, NumberFault, Unit};
-use crate::short_literals::{leading_short, short_reading};
+use crate::reading_on::{decimal_behind, leading_decimal_behind};
+use crate::short_literals::{Short, leading_reading, take_short, whole_reading};
 use crate::signed_amounts::{SignedAmount, signed_amount_of};
 
 /// What a text reads as in a unit, rounded half up to whole grains.
@@ -31,9 +33,12 @@ pub fn read_amount(unit: &Unit, most: u64, text: &[u8]) -> Amount
     ensures amount { IsAmountOf unit.now most text.now result }
     ensures only { (other : Amount) → IsAmountOf unit.now most text.now other → other ≡ result }
 {
-    match short_reading(unit, text) {
+    let Some((short, rest)) = take_short(text) else {
+        return read_any(unit, most, text);
+    };
+    match whole_reading(unit, &short, rest) {
         Some(grains) => up_to(most, grains),
-        None => read_any(unit, most, text),
+        None => read_on(unit, most, text, &short, rest),
     }
 }
 
@@ -45,9 +50,12 @@ pub fn read_leading_amount<'a>(unit: &Unit, most: u64, text: &'a [u8]) -> Option
         × IsAmountOf unit.now most front read.0) }
     ensures none { IfNone result (HasNoLiteralFront text.now) }
 {
-    match leading_short(unit, text) {
-        Some((grains, rest)) => Some((up_to(most, grains), rest)),
-        None => read_any_leading(unit, most, text),
+    let Some((short, rest)) = take_short(text) else {
+        return read_any_leading(unit, most, text);
+    };
+    match leading_reading(unit, &short, rest) {
+        Some(grains) => Some((up_to(most, grains), rest)),
+        None => Some(read_leading_on(unit, most, text, &short, rest)),
     }
 }
 
@@ -65,6 +73,7 @@ fn up_to(most: u64, grains: u64) -> Amount
 }
 
 /// The same as [`read_amount`], for each literal.
+#[inline(never)]
 fn read_any(unit: &Unit, most: u64, text: &[u8]) -> Amount
     ensures { IsAmountOf unit.now most text.now result }
 {
@@ -82,6 +91,31 @@ fn read_any_leading<'a>(unit: &Unit, most: u64, text: &'a [u8]) -> Option<(Amoun
         Some((number, rest)) => Some((amount_of(unit, most, &number), rest)),
         None => None,
     }
+}
+
+/// The same as [`read_amount`], where the text begins with these digits: they are not looked at again.
+#[inline(never)]
+fn read_on(unit: &Unit, most: u64, text: &[u8], short: &Short, rest: &[u8]) -> Amount
+    requires { HasShortFront text.now short.now rest.now }
+    ensures { IsAmountOf unit.now most text.now result }
+{
+    amount_of(unit, most, &decimal_behind(text, short, rest))
+}
+
+/// The same as [`read_leading_amount`], where the text begins with these digits: they are not looked at again.
+#[inline(never)]
+fn read_leading_on<'a>(
+    unit: &Unit,
+    most: u64,
+    text: &[u8],
+    short: &Short,
+    rest: &'a [u8],
+) -> (Amount, &'a [u8])
+    requires { HasShortFront text.now short.now rest.now }
+    ensures { (front : List ℕ) × IsLiteralFront text.now front result.1.now × IsAmountOf unit.now most front result.0 }
+{
+    let (number, left) = leading_decimal_behind(text, short, rest);
+    (amount_of(unit, most, &number), left)
 }
 
 /// What a text reads as that is this number, or is not read for this fault.

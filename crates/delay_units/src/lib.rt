@@ -9,6 +9,7 @@ mod literal;
 mod numbers;
 mod printing;
 mod quantities;
+mod reading_on;
 mod readings;
 mod rounding;
 mod short_literals;

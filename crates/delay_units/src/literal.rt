@@ -1,8 +1,8 @@
 //! Decimal literals, read exactly.
-ghost use Rattle.std.specs.Prelude.{◌≡◌, ℕ, ◌^◌, ◌<◌, ◌≤◌, List, IfOk, IfErr, IfSome, IfNone, MatchOption, ◌∷◌, unsigned_abs};
+ghost use Rattle.std.specs.Prelude.{◌≡◌, ℕ, ◌^◌, ◌<◌, ◌≤◌, List, [], length, IfOk, IfErr, IfSome, IfNone, MatchOption, ◌∷◌, unsigned_abs};
 ghost use Rattle.delay_units.specs.Literal.{Literal, Spells, IsNumber, IsFaultOf, IsAnswerTo};
 ghost use Rattle.delay_units.specs.LiteralFronts.{IsLiteralFront, HasNoLiteralFront};
-ghost use Rattle.delay_units.specs.Parts.{SplitsSign, SplitsMantissa, SplitsSize, SplitsExponent, DecidesNumber, IsPowerOf, StopsIn, DecidesDecimal, signed_by, NotFirst, NoMarkFirst, BeginsWithMark};
+ghost use Rattle.delay_units.specs.Parts.{SplitsSign, SplitsDigits, SplitsMantissa, SplitsSize, SplitsExponent, DecidesNumber, IsPowerOf, StopsIn, DecidesDecimal, signed_by, NotFirst, NoMarkFirst, BeginsWithMark};
 
 use crate::numbers::{Decimal, NumberFault};
 use crate::tally::Tally;
@@ -58,15 +58,24 @@ pub fn split_sign(text: &[u8]) -> (bool, &[u8])
 fn read_mantissa(text: &[u8]) -> (Tally, usize, &[u8])
     ensures { SplitsMantissa text.now result.0 result.1 result.2.now }
 {
-    let mut tally = Tally::new();
-    let rest = tally.take_digits(text);
+    let mut whole = Tally::new();
+    let rest = whole.take_digits(text);
+    mantissa_from(whole, rest)
+}
+
+/// The same where the digits in front of the point are taken.
+#[inline]
+pub fn mantissa_from(whole: Tally, rest: &[u8]) -> (Tally, usize, &[u8])
+    requires { (text : List ℕ) × SplitsDigits [] text whole rest.now × (length text < 2 ^ 64) }
+    ensures { (text : List ℕ) → SplitsDigits [] text whole rest.now → SplitsMantissa text result.0 result.1 result.2.now }
+{
     match strip(rest, b'.') {
         Some(fraction) => {
-            let whole = tally.digits;
-            let rest = tally.take_digits(fraction);
-            (tally, tally.digits - whole, rest)
+            let mut tally = whole;
+            let left = tally.take_digits(fraction);
+            (tally, tally.digits - whole.digits, left)
         }
-        None => (tally, 0, rest),
+        None => (whole, 0, rest),
     }
 }
 
@@ -89,7 +98,7 @@ pub struct Power {
 }
 
 /// The exponent that is the whole text, or the length of the part that no exponent goes on with.
-fn read_exponent(text: &[u8]) -> Result<Power, usize>
+pub fn read_exponent(text: &[u8]) -> Result<Power, usize>
     ensures ok { IfOk result (IsPowerOf text.now) }
     ensures stops { IfErr result (StopsIn text.now) }
 {
@@ -161,7 +170,7 @@ fn read_size(text: &[u8]) -> (u32, &[u8])
 }
 
 /// The value of a literal with these digits and this exponent, if they fit.
-fn decimal_of(
+pub fn decimal_of(
     negative: bool,
     tally: &Tally,
     places: usize,

@@ -1,16 +1,17 @@
 //! Reads short literals: a few digits with at most one point, as most values are written; and their readings in a unit.
-ghost use Rattle.std.specs.Prelude.{◌≡◌, ◌+◌, ◌-◌, ◌^◌, ◌<◌, ◌≤◌, ◌∷◌, ◌++◌, ℕ, List, IsTrue, length, pos, IfSome};
+ghost use Rattle.std.specs.Prelude.{◌≡◌, ◌+◌, ◌-◌, ◌^◌, ◌<◌, ◌≤◌, ◌++◌, ℕ, List, IsTrue, length, pos, IfSome};
 ghost use Rattle.delay_units.specs.LiteralFronts.{IsLiteralFront};
-ghost use Rattle.delay_units.specs.ShortLiterals.{TakesDigits, IsShort, EndsPlainly};
+ghost use Rattle.delay_units.specs.ShortLiterals.{TakesDigits, IsShort, HasShortFront, EndsPlainly};
 ghost use Rattle.delay_units.specs.Reading.{ReadsAs};
 
 use crate::literal::strip;
 use crate::numbers::Unit;
 
-/// The digits of a literal as one number, and how many of them stand behind the point.
+/// The digits of a literal as one number, whether a point is among them, and how many of them stand behind it.
 #[derive(Clone, Copy)]
 pub struct Short {
     pub digits: u64,
+    pub pointed: bool,
     pub places: u32,
 }
 
@@ -38,7 +39,7 @@ fn take_digits(before: u64, text: &[u8]) -> (u64, &[u8])
 #[inline]
 fn short_within(text: &[u8]) -> Option<(Short, &[u8])>
     requires few { length text.now ≤ 18 }
-    ensures { IfSome result (λ taken. (front : List ℕ) × (text.now ≡ front ++ taken.1.now) × IsShort front taken.0) }
+    ensures { IfSome result (λ taken. HasShortFront text.now taken.0 taken.1.now) }
 {
     let (whole, rest) = take_digits(0, text);
     match strip(rest, b'.') {
@@ -48,7 +49,12 @@ fn short_within(text: &[u8]) -> Option<(Short, &[u8])>
                 return None;
             }
             let places = (fraction.len() - left.len()) as u32;
-            Some((Short { digits, places }, left))
+            let short = Short {
+                digits,
+                pointed: true,
+                places,
+            };
+            Some((short, left))
         }
         None => {
             if rest.len() == text.len() {
@@ -56,6 +62,7 @@ fn short_within(text: &[u8]) -> Option<(Short, &[u8])>
             }
             let short = Short {
                 digits: whole,
+                pointed: false,
                 places: 0,
             };
             Some((short, rest))
@@ -76,20 +83,16 @@ fn goes_on_with_none(text: &[u8]) -> bool
     }
 }
 
-/// The literal in front of a text, where it has at most 18 bytes, digits with at most one point, and the text behind it: nothing where
-/// the literal is another.
+/// The digits in front of a text, with at most one point among them, as far as they are within 18 bytes, and the text behind them:
+/// nothing where there is no digit.
 #[inline]
-fn take_short(text: &[u8]) -> Option<(Short, &[u8])>
-    ensures { IfSome result (λ taken. (front : List ℕ) × IsLiteralFront text.now front taken.1.now × IsShort front taken.0) }
+pub fn take_short(text: &[u8]) -> Option<(Short, &[u8])>
+    ensures { IfSome result (λ taken. HasShortFront text.now taken.0 taken.1.now) }
 {
     let (window, _) = text.split_at(text.len().min(18));
     let (short, left) = short_within(window)?;
     let (_, rest) = text.split_at(window.len() - left.len());
-    if goes_on_with_none(rest) {
-        Some((short, rest))
-    } else {
-        None
-    }
+    Some((short, rest))
 }
 
 /// A unit's exponent, if it is not below 0.
@@ -124,25 +127,28 @@ fn exactly(unit: &Unit, short: &Short) -> Option<u64>
     product.checked_mul(10u64.pow(power))
 }
 
-/// The reading of the literal in front of a text, where it is short and needs no rounding, and the text behind it: nothing for other
-/// literals. Most values are such, and this takes a third of the time.
+/// The reading of the literal in front of a text, where these digits are all of it and need no rounding: nothing for other literals. Most
+/// values are such, and this takes a third of the time.
 #[inline]
-pub fn leading_short<'a>(unit: &Unit, text: &'a [u8]) -> Option<(u64, &'a [u8])>
-    ensures { IfSome result (λ read. (front : List ℕ) × IsLiteralFront text.now front read.1.now × ReadsAs unit.now front (pos read.0)) }
+pub fn leading_reading(unit: &Unit, short: &Short, rest: &[u8]) -> Option<u64>
+    ensures { (text : List ℕ) → HasShortFront text short.now rest.now
+        → IfSome result (λ grains. (front : List ℕ) × IsLiteralFront text front rest.now × ReadsAs unit.now front (pos grains)) }
 {
-    let (short, rest) = take_short(text)?;
-    let grains = exactly(unit, &short)?;
-    Some((grains, rest))
+    if goes_on_with_none(rest) {
+        exactly(unit, short)
+    } else {
+        None
+    }
 }
 
 /// The same where that literal is the whole text.
 #[inline]
-pub fn short_reading(unit: &Unit, text: &[u8]) -> Option<u64>
-    ensures { IfSome result (λ grains. ReadsAs unit.now text.now (pos grains)) }
+pub fn whole_reading(unit: &Unit, short: &Short, rest: &[u8]) -> Option<u64>
+    ensures { (text : List ℕ) → HasShortFront text short.now rest.now → IfSome result (λ grains. ReadsAs unit.now text (pos grains)) }
 {
-    if text.len() > 18 {
-        return None;
+    if rest.is_empty() {
+        exactly(unit, short)
+    } else {
+        None
     }
-    let (grains, rest) = leading_short(unit, text)?;
-    if rest.is_empty() { Some(grains) } else { None }
 }

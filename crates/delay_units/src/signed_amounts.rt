@@ -2,13 +2,15 @@
 ghost use Rattle.std.specs.Prelude.{◌≡◌, ◌≤◌, ◌^◌, ℕ, List, pos, ◌≤ℤ◌, ◌<ℤ◌};
 ghost use Rattle.delay_units.specs.Parts.{DecidesNumber};
 ghost use Rattle.delay_units.specs.Reading.{ReadsAs};
+ghost use Rattle.delay_units.specs.ShortLiterals.{HasShortFront};
 ghost use Rattle.delay_units.specs.SignedAmounts.{IsSignedAmountOf, KeepsBound};
 ghost use Rattle.delay_units.specs.declared.signed_amounts.SignedAmount.TheVariants.{Below, Past};
 
 use crate::literal::read_decimal;
 use crate::numbers::{Decimal, NumberFault, Unit};
+use crate::reading_on::decimal_behind;
 use crate::readings::scale;
-use crate::short_literals::short_reading;
+use crate::short_literals::{Short, take_short, whole_reading};
 
 /// What a text reads as in a unit, rounded half up to whole grains, up to a bound in size.
 #[derive(Clone, Copy)]
@@ -33,9 +35,12 @@ pub fn read_signed_amount(unit: &Unit, most: u128, text: &[u8]) -> SignedAmount
     ensures amount { IsSignedAmountOf unit.now most text.now result }
     ensures only { (other : SignedAmount) → IsSignedAmountOf unit.now most text.now other → other ≡ result }
 {
-    match short_reading(unit, text) {
+    let Some((short, rest)) = take_short(text) else {
+        return read_any_signed(unit, most, text);
+    };
+    match whole_reading(unit, &short, rest) {
         Some(grains) => up_to(most, grains),
-        None => read_any_signed(unit, most, text),
+        None => read_signed_on(unit, most, text, &short, rest),
     }
 }
 
@@ -65,6 +70,16 @@ fn read_any_signed(unit: &Unit, most: u128, text: &[u8]) -> SignedAmount
     ensures { IsSignedAmountOf unit.now most text.now result }
 {
     signed_amount_of(unit, most, &read_decimal(text))
+}
+
+/// The same as [`read_signed_amount`], where the text begins with these digits: they are not looked at again.
+#[inline(never)]
+fn read_signed_on(unit: &Unit, most: u128, text: &[u8], short: &Short, rest: &[u8]) -> SignedAmount
+    requires bound { most ≤ 10 ^ 36 }
+    requires front { HasShortFront text.now short.now rest.now }
+    ensures { IsSignedAmountOf unit.now most text.now result }
+{
+    signed_amount_of(unit, most, &decimal_behind(text, short, rest))
 }
 
 /// What a text reads as that is this number, or is not read for this fault.

@@ -85,12 +85,22 @@ fn amounts_tell_each_case(rt: HostRuntime) -> Result<(), Fail> {
 }
 
 /// A text, the grains of the literal in front of it where they are from 0 to 9, and how many bytes are behind it.
-const LEADING: [(&[u8], Option<u64>, usize); 9] = [
+const LEADING: [(&[u8], Option<u64>, usize); 19] = [
     (b"1.5:2.0:2.5", Some(2), 8),
     (b"7", Some(7), 0),
     (b"9.4e0:", Some(9), 1),
     (b"1e-1e", Some(0), 1),
     (b"0000000000000000003.2.1", Some(3), 2),
+    (b"0.00000000000000007", Some(0), 0),
+    (b"700000000000000000e-17", Some(7), 0),
+    (b"7000000000000000000e-18.", Some(7), 1),
+    (b"12345678901234567890.5e-19:", Some(1), 1),
+    (b"5.000000000000000000000000000000000000", Some(5), 0),
+    (b"00000000000000000.05e2", Some(5), 0),
+    (b"000000000000000000.7e1", Some(7), 0),
+    (b".5e-3", Some(0), 0),
+    (b"0e5", Some(0), 0),
+    (b"000.e99", Some(0), 0),
     (b"9.5:1", None, 2),
     (b"-1:1", None, 2),
     (b"1e100;", None, 1),

@@ -13,8 +13,8 @@ take_digits-digits-requires-clause-small c =
 pub returns-else-left-text : goal.returns-else-left-text
 returns-else-left-text c =
     pointed_short c.args.text.now c.take_digits-whole.result.1.now c.in-Some.fraction.now c.take_digits-digits.result.1.now c.take_digits-whole.result.0 c.take_digits-digits.result.0 _
-    c.take_digits-whole.ensures c.in-Some.ensures c.take_digits-digits.ensures c.if-left-text.false c.requires.few refl refl
+    c.take_digits-whole.ensures c.in-Some.ensures c.take_digits-digits.ensures c.if-left-text.false c.requires.few refl refl refl
 
 pub returns-else-rest-text : goal.returns-else-rest-text
 returns-else-rest-text c =
-    pointless_short c.args.text.now c.take_digits-whole.result.1.now c.take_digits-whole.result.0 _ c.take_digits-whole.ensures c.if-rest-text.false c.requires.few refl refl
+    pointless_short c.args.text.now c.take_digits-whole.result.1.now c.take_digits-whole.result.0 _ c.take_digits-whole.ensures c.if-rest-text.false c.requires.few refl refl refl
