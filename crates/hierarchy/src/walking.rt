@@ -68,7 +68,17 @@ struct Frame {
     next: usize,
 }
 
-/// Walks through a design that can be walked through. The memory is linear in the number of the instances that are met.
+// No instance is met yet; there is room for those of the top.
+fn none_met(alloc: Global, modules: &Modules, top: usize) -> Result<Vec<MetInstance>, OutOfMemory>
+    requires { top < length modules.now }
+    ensures { IfOk result (λ met. met.items ≡ []) }
+{
+    let met = Vec::with_capacity(alloc, modules.instance_count(top))?;
+    Ok(met)
+}
+
+/// Walks through a design that can be walked through. The memory is linear in the number of the instances that are met, which are at
+/// least those of the top.
 pub fn walk_modules(
     alloc: Global,
     modules: &Modules,
@@ -81,7 +91,7 @@ pub fn walk_modules(
     ensures ok { IfOk result (λ walk. AreTablesOfWalk modules.now top walk) }
 {
     let mut visits = Vec::new(alloc);
-    let mut met = Vec::new(alloc);
+    let mut met = none_met(alloc, modules, top)?;
     let mut frames = Vec::new(alloc);
     enter(0, 0, top, &mut visits, &mut frames)?;
     while let Some(frame) = frames.pop() {

@@ -1,14 +1,16 @@
 -- The drivers of nets, one net more.
-use Rattle.std.proofs.Common.{◌≡◌, ℕ, ◌+◌, ◌<◌, ◌≤◌, inl, inr, List, [], ◌∷◌, ◌++◌, length, get_or, Option, Some, None, ap, ◌∙◌, subst, arith}
+use Rattle.std.proofs.Common.{◌≡◌, ℕ, ◌+◌, ◌<◌, ◌≤◌, inl, inr, false, List, [], ◌∷◌, ◌++◌, length, take, set, replicate, get_or, Option, Some, None, is_some, refl, sym, ap, ap₂, ◌∙◌, subst, arith, append-nil, true≢false}
 use Rattle.std.specs.Prelude.{option_to_list}
 use Rattle.std.proofs.lemmas.Bool.{cases_lt}
-use Rattle.std.proofs.lemmas.List.{get_or_append_left, length_push}
+use Rattle.std.proofs.lemmas.Bool.Decides.{eqb_tells}
+use Rattle.std.proofs.lemmas.List.{get_or_append_left, get_or-replicate, get_or-set_same, get_or-set_other, length-replicate, length-set, length_push}
 use Rattle.std.proofs.Math.Seq.{get_or-append_seam}
-use Rattle.netlist_link.specs.Grouping.{kept_on, count_on}
+use Rattle.netlist_link.specs.Grouping.{kept_on, count_on, AreOnNets, no_end}
 use Rattle.netlist_link.specs.KeptEnds.{AreDrivers, IsDriverEnd, IsDriversEnd, several_drive, no_memory_for, several_drive_it, no_memory_for_it}
 use Rattle.netlist_link.specs.declared.ends.LinkEnd.{LinkEnd}
 use Rattle.netlist_link.specs.declared.grouping.EndOn.{EndOn}
 use Rattle.netlist_link.specs.declared.grouping.KeptEnd.{KeptEnd}
+use Rattle.netlist_link.proofs.Counting.{kept_on-push, kept_same, kept_other, end_at, take_more}
 
 pub drivers_step : (driving : List EndOn) (drivers now : List (Option KeptEnd)) (n : ℕ) (driver : Option KeptEnd) → AreDrivers n driving drivers
     → option_to_list driver ≡ kept_on n driving → now ≡ drivers ++ driver ∷ [] → AreDrivers (n + 1) driving now
@@ -38,3 +40,40 @@ pub refused_there : (texts : List (List ℕ)) (driving : List EndOn) (n : ℕ) (
 refused_there texts driving n ends end no_memory_for_it is first = no_memory_for
 refused_there texts driving n ends end (several_drive_it text here many) is first =
     several_drive n text here (subst (λ (l : List KeptEnd). 2 ≤ length l) is many) first
+
+-- before the first end no net has a driver
+pub none_drive : (nets : ℕ) (driving : List EndOn) → AreDrivers nets (take 0 driving) (replicate nets None)
+none_drive nets driving = record {
+  count = length-replicate nets None;
+  each = λ n below. ap option_to_list (get_or-replicate nets n None None below);
+}
+
+no_driver : (o : Option KeptEnd) → is_some o ≡ false → option_to_list o ≡ []
+no_driver None is = refl
+no_driver (Some x) is = absurd (true≢false is)
+
+-- one end more, on a net that has no driver so far
+drives_more : (nets : ℕ) (ends : List EndOn) (drivers : List (Option KeptEnd)) (x : EndOn) → x.net < nets → AreDrivers nets ends drivers
+    → is_some (get_or drivers x.net None) ≡ false → AreDrivers nets (ends ++ x ∷ []) (set drivers x.net (Some x.at))
+drives_more nets ends drivers x on so_far free = record {
+  count = length-set drivers x.net (Some x.at) ∙ so_far.count;
+  each = λ n below. elim (eqb_tells x.net n) [
+    | inl (_, same) ↦
+        let within : x.net < length drivers = (let count = so_far.count in omega arith) in
+        let before : kept_on x.net ends ≡ [] = sym (so_far.each x.net on) ∙ no_driver (get_or drivers x.net None) free in
+        subst (λ (k : ℕ). option_to_list (get_or (set drivers x.net (Some x.at)) k None) ≡ kept_on k (ends ++ x ∷ [])) same
+        (ap option_to_list (get_or-set_same drivers x.net (Some x.at) None within)
+        ∙ sym (kept_on-push x.net ends x ∙ ap₂ (λ (a b : List KeptEnd). a ++ b) before (kept_same x.net x refl)))
+    | inr (_, differ) ↦
+        ap option_to_list (get_or-set_other drivers x.net n (Some x.at) None (λ e. differ (sym e))) ∙ so_far.each n below
+        ∙ sym (kept_on-push n ends x ∙ ap (λ (l : List KeptEnd). kept_on n ends ++ l) (kept_other n x differ) ∙ append-nil (kept_on n ends))
+  ];
+}
+
+-- the same at the place of an end
+pub drives_step : (nets : ℕ) (driving : List EndOn) (drivers : List (Option KeptEnd)) (i : ℕ) → AreOnNets nets driving → i < length driving
+    → AreDrivers nets (take i driving) drivers → is_some (get_or drivers (end_at driving i).net None) ≡ false
+    → AreDrivers nets (take (i + 1) driving) (set drivers (end_at driving i).net (Some (end_at driving i).at))
+drives_step nets driving drivers i on below so_far free =
+    subst (λ (ends : List EndOn). AreDrivers nets ends (set drivers (end_at driving i).net (Some (end_at driving i).at))) (sym (take_more driving i below))
+    (drives_more nets (take i driving) drivers (end_at driving i) (on i no_end below) so_far free)

@@ -106,3 +106,16 @@ input_selects direction.Input = ((λ yes. refl), (λ is. refl))
 input_selects direction.Output = ((λ yes. absurd (true≢false (sym yes))), (λ is. search rules))
 input_selects direction.Inout = ((λ yes. absurd (true≢false (sym yes))), (λ is. search rules))
 input_selects direction.Internal = ((λ yes. absurd (true≢false (sym yes))), (λ is. search rules))
+
+-- a pin of the direction that passes, and one of another
+pub selected : (test : Direction → Bool) (wanted : Direction) → Selects test wanted → (i j : ℕ) (net : Option ℕ)
+    → wanted_end test i j wanted net ≡ end_at i j net
+selected test wanted selects i j net = let is : test wanted ≡ true = (selects wanted).1 refl in rw is refl
+
+pub unselected : (test : Direction → Bool) (wanted direction : Direction) → Selects test wanted → (direction ≡ wanted → ⊥) → (i j : ℕ) (net : Option ℕ)
+    → wanted_end test i j direction net ≡ []
+unselected test wanted direction selects other i j net = by (test direction) refl
+  where
+    by : (is : Bool) → test direction ≡ is → wanted_end test i j direction net ≡ []
+    by true is = absurd (other ((selects direction).0 is))
+    by false is = rw is refl

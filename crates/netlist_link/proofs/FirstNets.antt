@@ -1,5 +1,5 @@
 -- The net of the first bit of a connection.
-use Rattle.std.proofs.Common.{◌≡◌, ℕ, ◌<◌, List, [], ◌∷◌, length, Option, Some, sym, subst, arith}
+use Rattle.std.proofs.Common.{◌≡◌, ℕ, ◌<◌, List, [], ◌∷◌, length, Option, Some, None, sym, subst, arith}
 use Rattle.std.specs.Prelude.{slice_get}
 use Rattle.std.proofs.lemmas.Option.{none-some, same_Some}
 use Rattle.verilog_netlist.specs.NetModules.{module_at}
@@ -25,3 +25,7 @@ module _ (d : Design) where
   first_is path [] bit net at is = absurd (none-some bit at)
   first_is path (first ∷ later) bit net at is =
       subst (λ (b : Bit). IsNumbered d.modules.now (top_of d.walk.now) (wired d.modules.now (top_of d.walk.now) path b) net) (sym (same_Some first bit at)) is
+
+  pub none_first : (path : List ℕ) (bits : List Bit) → slice_get bits 0 ≡ None → IsFirstNet d path bits None
+  none_first path [] at = tt
+  none_first path (first ∷ later) at = absurd (none-some first (sym at))

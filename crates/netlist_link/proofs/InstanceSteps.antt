@@ -26,7 +26,7 @@ use Rattle.netlist_link.specs.declared.checking.Design.{Design}
 use Rattle.netlist_link.specs.declared.instances.InstanceRow.{InstanceRow}
 use Rattle.netlist_link.specs.declared.instances.Instances.{Instances}
 use Rattle.netlist_link.proofs.MetPlaces.{kept_met, met_is}
-use Rattle.netlist_link.proofs.Pushing.{each_push}
+use Rattle.text_table.proofs.Pushing.{each_push}
 
 -- a text that is held stands at its first place
 text_there : (texts : List (List ℕ)) (text : List ℕ) (k : ℕ) → k < length texts → get_or texts k text ≡ text

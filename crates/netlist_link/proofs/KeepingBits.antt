@@ -16,7 +16,8 @@ use Rattle.netlist_link.specs.FlatBitTables.{IsKept, AreKept, targets_of_name, t
 use Rattle.netlist_link.specs.declared.checking.Design.{Design}
 use Rattle.netlist_link.specs.declared.flat_bits.FlatBits.{FlatBits}
 use Rattle.netlist_link.specs.declared.flat_bits.NetPlace.{NetPlace}
-use Rattle.netlist_link.proofs.Pushing.{each_push, places_push}
+use Rattle.netlist_link.proofs.Pushing.{places_push}
+use Rattle.text_table.proofs.Pushing.{each_push}
 use Rattle.netlist_link.proofs.KeptBits.{kept_append, kept_count, kept_more, kept_last}
 use Rattle.netlist_link.proofs.BitPlaces.{targets_more, nets_more}
 

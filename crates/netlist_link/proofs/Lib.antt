@@ -17,7 +17,6 @@ pub mod PinNames
 pub mod KnownCells
 pub mod WalkStarts
 pub mod Clashing
-pub mod TextPieces
 pub mod PlainNames
 pub mod NetTexts
 pub mod PinNets

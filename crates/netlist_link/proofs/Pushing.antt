@@ -1,17 +1,10 @@
--- What holds of each item of a list, by its place, holds with one item more.
-use Rattle.std.proofs.Common.{◌≡◌, ℕ, zero, suc, ◌+◌, ◌<◌, List, [], ◌∷◌, ◌++◌, length, take, Some, inl, inr, sym, ap, ◌∙◌, subst, add-one, arith}
+-- A list with one item more: its fronts, and what holds of each of its numbers by its place.
+use Rattle.std.proofs.Common.{◌≡◌, ℕ, ◌+◌, ◌<◌, List, [], ◌∷◌, ◌++◌, length, take, Some, inl, inr, sym, ap, ◌∙◌, subst, add-one, arith}
 use Rattle.std.specs.Prelude.{slice_get, slice_index}
 use Rattle.std.proofs.lemmas.Bool.{cases_lt}
 use Rattle.std.proofs.lemmas.List.{get_or_append_left}
-use Rattle.std.proofs.lemmas.Option.{none-some, same_Some, get_or_from_slice_get, slice_get_within}
+use Rattle.std.proofs.lemmas.Option.{get_or_from_slice_get, slice_get_within}
 use Rattle.std.proofs.Math.Seq.{take-suc, get_or-append_seam}
-
-pub each_push : {X : Type 0} (P : ℕ → X → Type 0) (xs : List X) (x : X) → ((i : ℕ) (y : X) → slice_get xs i ≡ Some y → P i y) → P (length xs) x
-    → (i : ℕ) (y : X) → slice_get (xs ++ x ∷ []) i ≡ Some y → P i y
-each_push P [] x each last zero y is = subst (P 0) (same_Some x y is) last
-each_push P [] x each last (suc i) y is = absurd (none-some y is)
-each_push P (first ∷ xs) x each last zero y is = each zero y is
-each_push P (first ∷ xs) x each last (suc i) y is = each_push (λ k z. P (suc k) z) xs x (λ k z at. each (suc k) z at) last i y is
 
 pub take_push : {X : Type 0} (xs : List X) (i : ℕ) (x : X) → slice_get xs i ≡ Some x → take (i + 1) xs ≡ take i xs ++ x ∷ []
 take_push xs i x is = ap (λ (n : ℕ). take n xs) (add-one i) ∙ take-suc xs i x (slice_get_within xs i x is)

@@ -27,7 +27,7 @@ use Rattle.netlist_link.specs.declared.flat_bits.FlatBits.{FlatBits}
 use Rattle.netlist_link.specs.declared.ports.Ports.{Ports}
 use Rattle.netlist_link.proofs.Numbered.{numbered_at, numbered_count}
 use Rattle.netlist_link.proofs.PathSteps.{path_text_none, path_sdf_none}
-use Rattle.netlist_link.proofs.Pushing.{each_push}
+use Rattle.text_table.proofs.Pushing.{each_push}
 
 pushed_before : {X : Type 0} (old now : List X) (x d : X) (p : ℕ) → now ≡ old ++ x ∷ [] → p < length old → get_or now p d ≡ get_or old p d
 pushed_before old now x d p is below = ap (λ l. get_or l p d) is ∙ get_or_append_left old (x ∷ []) d p below

@@ -21,7 +21,6 @@ pub mod NetlistTables
 pub mod FlatBitTables
 pub mod DesignTables
 pub mod Clashes
-pub mod FlatTexts
 pub mod InstanceRows
 pub mod KeptEnds
 pub mod NetlistParts

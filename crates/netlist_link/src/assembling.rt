@@ -9,16 +9,16 @@ ghost use Rattle.netlist_link.specs.PathTables.{top_of, ArePaths};
 use crate::checking::{Design, Joints};
 use crate::ends::LinkEnd;
 use crate::flat_bits::flat_bits;
-use crate::flat_texts::FlatTexts;
 use crate::grouping::by_net;
 use crate::instances::{Instances, flat_instances};
-use crate::net_ends::{driven_ends, drivers_of, driving_ends};
+use crate::net_ends::{drivers_of, net_ends};
 use crate::net_naming::net_names;
 use crate::netlist::Netlist;
 use crate::ports::{Ports, top_ports};
 use edge_io::OutOfMemory;
 use edge_io::lists::to_u32;
 use std::alloc::Global;
+use text_table::FlatTexts;
 
 /// The nets, the instances and the ports of a flat netlist, before the nets are joined to their ends.
 #[derive(Drop)]
@@ -76,13 +76,12 @@ fn join_nets(alloc: Global, design: &Design<'_>, parts: NetlistParts) -> Result<
     ensures linked { IfOk result (λ netlist. OverCells design.now (IsNetlistOver design.now netlist)) }
     ensures refused { IfErr result (λ end. OverCells design.now (IsEndOver design.now end)) }
 {
-    let driving = driving_ends(alloc, design, &parts.ports, &parts.instances)?;
-    let drivers = match drivers_of(alloc, &parts.net_texts, driving.as_slice()) {
+    let ends = net_ends(alloc, design, &parts.ports, &parts.instances)?;
+    let drivers = match drivers_of(alloc, &parts.net_texts, ends.driving.as_slice()) {
         Ok(drivers) => drivers,
         Err(end) => return Err(end),
     };
-    let driven = driven_ends(alloc, design, &parts.ports, &parts.instances)?;
-    let sinks = by_net(alloc, parts.net_texts.len(), driven.as_slice())?;
+    let sinks = by_net(alloc, parts.net_texts.len(), ends.driven.as_slice())?;
     check_counts(&parts)?;
     Ok(Netlist {
         instances: parts.instances,

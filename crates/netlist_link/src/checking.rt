@@ -302,6 +302,14 @@ fn keep_places(
     push(places, to_u32(place)?)
 }
 
+// An empty list with room for so many numbers.
+fn no_numbers(alloc: Global, many: usize) -> Result<Vec<u32>, OutOfMemory>
+    ensures { IfOk result (λ numbers. numbers.items ≡ []) }
+{
+    let numbers = Vec::with_capacity(alloc, many)?;
+    Ok(numbers)
+}
+
 /// To which ports and pins all connections lead, or the first fault of a connection, along the walk and as written.
 #[tactic(auto, using(crate::specs::Designs::no_memory_is))]
 pub(crate) fn join_all(alloc: Global, design: &Design<'_>) -> Result<Joints, LinkEnd>
@@ -312,10 +320,11 @@ pub(crate) fn join_all(alloc: Global, design: &Design<'_>) -> Result<Joints, Lin
     ensures refused { IfErr result (λ end. OverCells design.now
         (λ cells. IsFirstOf (all_faults design.now.modules.now (top_of design.now.walk.now) cells) end)) }
 {
-    let mut starts = Vec::new(alloc);
-    let mut numbers = Vec::new(alloc);
-    let mut places = Vec::new(alloc);
-    for i in 0..design.walk.met().len() {
+    let many = design.walk.met().len();
+    let mut starts = no_numbers(alloc, many)?;
+    let mut numbers = no_numbers(alloc, many)?;
+    let mut places = no_numbers(alloc, many)?;
+    for i in 0..many {
         let cell = cell_place(design, i);
         match keep_places(&mut starts, &mut places, numbers.len(), cell) {
             Ok(()) => {}

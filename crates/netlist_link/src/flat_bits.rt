@@ -14,6 +14,7 @@ ghost use Rattle.netlist_link.specs.declared.checking.Design.{Design};
 ghost use Rattle.netlist_link.specs.NamePlaces.{bits_before, places_of_module, AreNamePlaces, HasPlace};
 
 use crate::checking::Design;
+use crate::ports::top_module;
 use edge_io::OutOfMemory;
 use edge_io::lists::{push, to_u32};
 use std::alloc::Global;
@@ -342,7 +343,7 @@ fn joined_names(
     Ok(joined)
 }
 
-/// The nets of the design, by visited module, by name, and from the left.
+/// The nets of the design, by visited module, by name, and from the left. The top alone has a net for each of its names, or more.
 pub(crate) fn flat_bits(alloc: Global, design: &Design<'_>) -> Result<FlatBits, OutOfMemory>
     requires sound { IsSound design.now }
     requires design { HasDesign design.now }
@@ -350,10 +351,11 @@ pub(crate) fn flat_bits(alloc: Global, design: &Design<'_>) -> Result<FlatBits, 
     requires top { top_of design.now.walk.now < length design.now.modules.now }
     ensures { IfOk result (AreFlatBits design.now) }
 {
+    let many = design.modules.name_count(top_module(design));
     let mut bits = FlatBits {
         starts: Vec::new(alloc),
-        bits: Vec::new(alloc),
-        nets: Vec::new(alloc),
+        bits: Vec::with_capacity(alloc, many)?,
+        nets: Vec::with_capacity(alloc, many)?,
         names: place_names(alloc, design.modules)?,
     };
     for v in 0..design.walk.visits().len() {

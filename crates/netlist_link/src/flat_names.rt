@@ -9,12 +9,12 @@ ghost use Rattle.verilog_netlist.specs.ModuleNames.{range_of};
 ghost use Rattle.netlist_link.specs.FlatNames.{path_text, path_sdf, index_at, bit_suffix};
 ghost use Rattle.netlist_link.specs.PathTables.{IsWalk, top_of, ArePaths, HoldsPaths, text_at, spelling_at};
 
-use crate::flat_texts::FlatTexts;
 use edge_io::{OutOfMemory, Text, TextList};
 use hierarchy::Walk;
 use itoa::Buffer;
 use name_table::escape_sdf;
 use std::alloc::Global;
+use text_table::FlatTexts;
 use verilog_netlist::{Modules, Range};
 
 /// The paths of the visited modules, as texts and as SDF spells them, each with `/` behind every instance.
@@ -108,11 +108,11 @@ pub(crate) fn push_spelled(
     ensures { OnOk result (spellings.new ≡ spellings.old ++ (path.now ++ part name.now) ∷ []) }
 {
     if is_plain_name(name) {
-        spellings.push(path, name, b"")?;
+        spellings.push(path, name)?;
         return Ok(());
     }
     let spelled = escape_sdf(alloc, name)?;
-    spellings.push(path, spelled.bytes(), b"")?;
+    spellings.push(path, spelled.bytes())?;
     Ok(())
 }
 

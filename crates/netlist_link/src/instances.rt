@@ -1,5 +1,5 @@
 //! The instances of cells in a flat design, along the walk, and the nets of their pins.
-ghost use Rattle.std.specs.Prelude.{◌≡◌, ◌∷◌, ◌++◌, [], ◌<◌, length, slice_index, IfOk, IfErr, OnOk};
+ghost use Rattle.std.specs.Prelude.{◌≡◌, ◌∷◌, ◌++◌, [], ◌<◌, length, replicate, slice_index, slice_set, None, IfOk, IfErr, OnOk};
 ghost use Rattle.verilog_netlist.specs.NetModules.{bits_in};
 ghost use Rattle.netlist_link.specs.FlatNames.{instance_text, instance_sdf};
 ghost use Rattle.netlist_link.specs.FlatPins.{pins_of};
@@ -15,11 +15,11 @@ use crate::checking::{Design, Joints, place_of};
 use crate::ends::LinkEnd;
 use crate::flat_bits::FlatBits;
 use crate::flat_names::push_spelled;
-use crate::flat_texts::FlatTexts;
 use crate::name_clashes::check_instances;
 use edge_io::OutOfMemory;
 use edge_io::lists::{push, to_u32};
 use std::alloc::Global;
+use text_table::FlatTexts;
 
 /// An instance of a cell: the place of its cell, that of its first pin, and how many pins it has.
 #[derive(Clone, Copy)]
@@ -61,22 +61,26 @@ fn first_net(design: &Design<'_>, bits: &FlatBits, i: usize, c: usize) -> Option
     design.modules.sound();
     let met = design.walk.met();
     let (m, k) = place_of(design, i);
-    if design.modules.bit_count(m, k, c) == 0 {
-        return None;
-    }
-    let bit = design.modules.bit(m, k, c, 0);
+    let bit = design.modules.get_bit(m, k, c, 0)?;
     Some(bits.net(met[i].visit as usize, m, bit))
 }
 
-// The nets of the pins of an instance of a cell with so many pins, in a list that is used again.
-fn nets_of_pins(
+// Sets the net of a pin.
+fn set_net(nets: &mut [Option<u32>], pin: usize, net: Option<u32>)
+    requires { pin < length nets.old }
+    ensures { nets.new ≡ slice_set nets.old pin net }
+{
+    nets[pin] = net;
+}
+
+// Sets the nets of the pins of an instance of a cell, none of which is on a net so far.
+fn set_pin_nets(
     design: &Design<'_>,
     joints: &Joints,
     bits: &FlatBits,
     i: usize,
-    many: usize,
-    nets: &mut Vec<Option<u32>>,
-) -> Result<(), OutOfMemory>
+    nets: &mut [Option<u32>],
+)
     requires sound { IsSound design.now }
     requires design { HasDesign design.now }
     requires bits { AreFlatBits design.now bits.now }
@@ -84,20 +88,17 @@ fn nets_of_pins(
         joints.now.starts.items joints.now.numbers.items joints.now.places.items) }
     requires within { i < length design.now.walk.now.met }
     requires cell { IsOfCell design.now i }
-    requires many { OverCells design.now (λ cells. many ≡ length (pins_of cells (slice_index joints.now.places.items i))) }
-    ensures { OnOk result (OverCells design.now (AreNetsOf design.now i (slice_index joints.now.places.items i) nets.new.items)) }
+    requires none { OverCells design.now (λ cells. nets.old ≡ replicate (length (pins_of cells (slice_index joints.now.places.items i))) None) }
+    ensures { OverCells design.now (AreNetsOf design.now i (slice_index joints.now.places.items i) nets.new) }
 {
     design.modules.sound();
-    nets.clear();
-    nets.resize(many, None)?;
     let (m, k) = place_of(design, i);
     for c in 0..design.modules.connection_count(m, k) {
         if let Some(net) = first_net(design, bits, i, c) {
             let pin = joint_number(design, joints, i, c);
-            nets[pin] = net;
+            set_net(nets, pin, net);
         }
     }
-    Ok(())
 }
 
 // Puts the row of one instance of a cell more at the end, and the nets of its pins.
@@ -106,7 +107,6 @@ fn add_row(
     joints: &Joints,
     bits: &FlatBits,
     i: usize,
-    nets: &mut Vec<Option<u32>>,
     instances: &mut Instances,
 ) -> Result<(), OutOfMemory>
     requires sound { IsSound design.now }
@@ -123,14 +123,16 @@ fn add_row(
 {
     let cell = joints.places[i];
     let many = design.pins[cell as usize].directions.len();
-    nets_of_pins(design, joints, bits, i, many, nets)?;
+    let first = instances.pin_nets.len();
     let row = InstanceRow {
         cell,
-        first_pin: to_u32(instances.pin_nets.len())?,
+        first_pin: to_u32(first)?,
         pin_count: to_u32(many)?,
     };
     push(&mut instances.rows, row)?;
-    instances.pin_nets.extend_from_slice(nets.as_slice())?;
+    instances.pin_nets.resize(first + many, None)?;
+    let (_, nets) = instances.pin_nets.as_mut_slice().split_at_mut(first);
+    set_pin_nets(design, joints, bits, i, nets);
     Ok(())
 }
 
@@ -154,7 +156,7 @@ fn add_names(
     let met = design.walk.met();
     let visit = met[i].visit as usize;
     let name = design.modules.instance_name(m, k);
-    texts.push(design.paths.text(visit), name, b"")?;
+    texts.push(design.paths.text(visit), name)?;
     push_spelled(alloc, design.paths.spelling(visit), name, spellings)?;
     Ok(())
 }
@@ -166,7 +168,6 @@ fn add_instance(
     joints: &Joints,
     bits: &FlatBits,
     i: usize,
-    nets: &mut Vec<Option<u32>>,
     instances: &mut Instances,
 ) -> Result<(), OutOfMemory>
     requires sound { IsSound design.now }
@@ -179,7 +180,7 @@ fn add_instance(
     requires cell { IsOfCell design.now i }
     ensures { OnOk result (IsInstanceMore design.now i (slice_index joints.now.places.items i) instances.old instances.new) }
 {
-    add_row(design, joints, bits, i, nets, instances)?;
+    add_row(design, joints, bits, i, instances)?;
     add_names(
         alloc,
         design,
@@ -189,8 +190,8 @@ fn add_instance(
     )
 }
 
-// No instance yet, with room for so many.
-fn no_instances(alloc: Global, many: usize) -> Result<Instances, OutOfMemory>
+// No instance yet, with room for so many, and for so many pins.
+fn no_instances(alloc: Global, many: usize, pins: usize) -> Result<Instances, OutOfMemory>
     ensures texts { IfOk result (λ instances. instances.texts ≡ []) }
     ensures spellings { IfOk result (λ instances. instances.spellings ≡ []) }
     ensures rows { IfOk result (λ instances. instances.rows.items ≡ []) }
@@ -199,7 +200,7 @@ fn no_instances(alloc: Global, many: usize) -> Result<Instances, OutOfMemory>
         texts: FlatTexts::with_room(alloc, many)?,
         spellings: FlatTexts::with_room(alloc, many)?,
         rows: Vec::with_capacity(alloc, many)?,
-        pin_nets: Vec::new(alloc),
+        pin_nets: Vec::with_capacity(alloc, pins)?,
     })
 }
 
@@ -222,11 +223,10 @@ fn all_instances(
     ensures texts { IfOk result (λ instances. instances.texts ≡ texts_of_instances design.now) }
 {
     let many = design.walk.met().len();
-    let mut instances = no_instances(alloc, many)?;
-    let mut nets = Vec::new(alloc);
+    let mut instances = no_instances(alloc, many, joints.numbers.len())?;
     for i in 0..many {
         if design.walk.met()[i].lower.is_none() {
-            add_instance(alloc, design, joints, bits, i, &mut nets, &mut instances)?;
+            add_instance(alloc, design, joints, bits, i, &mut instances)?;
         }
     }
     Ok(instances)

@@ -9,7 +9,6 @@ mod design_tables;
 mod ends;
 mod flat_bits;
 mod flat_names;
-mod flat_texts;
 mod grouping;
 mod instances;
 mod laws;

@@ -8,12 +8,12 @@ ghost use Rattle.netlist_link.specs.PathTables.{IsWalk, top_of};
 
 use crate::checking::Design;
 use crate::ends::LinkEnd;
-use crate::flat_texts::FlatTexts;
 use crate::ports::top_module;
 use edge_io::{OutOfMemory, Text};
 use indexmap::IndexSet;
 use name_table::NameHash;
 use std::alloc::Global;
+use text_table::FlatTexts;
 use verilog_netlist::Modules;
 
 // No text was seen yet; there is room for so many.

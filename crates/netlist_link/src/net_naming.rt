@@ -10,10 +10,10 @@ use crate::checking::Design;
 use crate::ends::LinkEnd;
 use crate::flat_bits::{FlatBits, NetPlace};
 use crate::flat_names::push_index;
-use crate::flat_texts::FlatTexts;
 use crate::name_clashes::check_nets;
 use edge_io::{OutOfMemory, Text};
 use std::alloc::Global;
+use text_table::FlatTexts;
 use verilog_netlist::Range;
 
 // Puts the index of a bit of a name with this range behind it; a name without a range has none.
@@ -25,6 +25,41 @@ fn push_bit(text: &mut Text, range: Option<Range>, bit: u32) -> Result<(), OutOf
     match range {
         Some(range) => push_index(text, Some(range), bit as usize),
         None => Ok(()),
+    }
+}
+
+// Puts a path, a name and the index of a bit of it at the end.
+fn push_indexed(
+    alloc: Global,
+    path: &[u8],
+    name: &[u8],
+    range: Option<Range>,
+    bit: u32,
+    names: &mut FlatTexts,
+) -> Result<(), OutOfMemory>
+    requires { bit < whole_width range }
+    ensures { OnOk result (names.new ≡ names.old ++ (path.now ++ name.now ++ bit_suffix range bit) ∷ []) }
+{
+    let mut index = Text::new(alloc);
+    push_bit(&mut index, range, bit)?;
+    names.push_joined(path, name, index.bytes())
+}
+
+// Puts a path and a name at the end, and the index of a bit where the name has a range.
+fn push_net_name(
+    alloc: Global,
+    path: &[u8],
+    name: &[u8],
+    range: Option<Range>,
+    bit: u32,
+    names: &mut FlatTexts,
+) -> Result<(), OutOfMemory>
+    requires { bit < whole_width range }
+    ensures { OnOk result (names.new ≡ names.old ++ (path.now ++ name.now ++ bit_suffix range bit) ∷ []) }
+{
+    match range {
+        None => names.push(path, name),
+        Some(_) => push_indexed(alloc, path, name, range, bit, names),
     }
 }
 
@@ -44,10 +79,10 @@ fn add_net_name(
     let visits = design.walk.visits();
     let m = visits[net.visit as usize].module as usize;
     let i = net.name as usize;
-    let mut index = Text::new(alloc);
-    push_bit(&mut index, design.modules.range(m, i), net.bit)?;
+    let range = design.modules.range(m, i);
     let path = design.paths.text(net.visit as usize);
-    names.push(path, design.modules.name(m, i), index.bytes())
+    let name = design.modules.name(m, i);
+    push_net_name(alloc, path, name, range, net.bit, names)
 }
 
 // The names of all nets.

@@ -6,12 +6,12 @@ ghost use Rattle.netlist_link.specs.Grouping.{kept_at};
 ghost use Rattle.netlist_link.specs.declared.ends.End.TheVariants.{Port};
 
 use crate::ends::End;
-use crate::flat_texts::FlatTexts;
 use crate::grouping::{EndsByNet, KeptEnd};
 use crate::instances::Instances;
 use crate::ports::Ports;
 use edge_io::{Text, TextList};
 use std::marker::Model;
+use text_table::FlatTexts;
 
 /// A flat netlist. Contracts see its instances, nets and ports. All count from 0.
 #[derive(Drop)]

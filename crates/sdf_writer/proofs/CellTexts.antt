@@ -1,5 +1,5 @@
 -- The cells of paths, as the pieces that the code pushes.
-use Rattle.std.proofs.Common.{◌≡◌, Bool, true, false, if◌then◌else◌, List, ℕ, [], ◌∷◌, ◌++◌, map, flat_map, Option, codes, refl, sym, ap, ◌∙◌}
+use Rattle.std.proofs.Common.{◌≡◌, Bool, true, false, if◌then◌else◌, List, ℕ, [], ◌∷◌, ◌++◌, map, flat_map, Option, codes, refl, sym, ap, ap₂, ◌∙◌}
 use Rattle.std.proofs.lemmas.List.{append_assoc, append-nil}
 use Rattle.std.proofs.lemmas.List.Folds.{flat_map-map}
 use Rattle.std.proofs.lemmas.Grind.{flat_map-append}
@@ -117,6 +117,10 @@ cells_text_of row rows =
     ap all_text g.is ∙ cells_parts row g.group g.cells ∙ ap (λ t. opening_text (cell_of row) ++ t) g.text
 
 -- ---- what stands between two paths
+
+-- whether two cells are one, where the names of the second are read elsewhere
+pub same_parts : (one other : Cell) {kind instance : List ℕ} {same : Bool} → same ≡ is_same one (record { kind = kind; instance = instance }) → kind ≡ other.kind → instance ≡ other.instance → is_same one other ≡ same
+same_parts one other s k i = sym (s ∙ ap₂ (λ (k i : List ℕ). is_same one (record { kind = k; instance = i })) k i)
 
 pub between_two : (one other : Cell) → is_same one other ≡ false → between_text one other ≡ closing_text ++ opening_text other
 between_two one other e = chosen (is_same one other) [] (closing_text ++ opening_text other) false e

@@ -3,5 +3,6 @@ mod CellTexts
 mod Remaining
 mod PathsLeft
 mod Within
+mod KeptNames
 mod Adding
 mod Keeping

@@ -54,9 +54,9 @@ delays_parts row rows =
     ∙ ap (λ t. t ++ delays_close) (lines_of_wires (row ∷ rows)))
 
 -- the same of kept wires
-pub kept_delays_parts : (count : ℕ) (wires : List Wire) (delays : List Femto) → false ≡ (length wires == 0) → lines_text (delay_lines (wire_rows count wires delays)) ≡ delays_open ++ (wires_text (wire_rows count wires delays) ++ delays_close)
-kept_delays_parts count [] delays some = cc
-kept_delays_parts count (wire ∷ wires) delays some = delays_parts _ _
+pub kept_delays_parts : (count : ℕ) (names : List (List ℕ)) (wires : List Wire) (delays : List Femto) → false ≡ (length wires == 0) → lines_text (delay_lines (wire_rows count names wires delays)) ≡ delays_open ++ (wires_text (wire_rows count names wires delays) ++ delays_close)
+kept_delays_parts count names [] delays some = cc
+kept_delays_parts count names (wire ∷ wires) delays some = delays_parts _ _
 
 -- the end of a cell, and that of the file
 abbrev pub end_line : List ℕ
@@ -73,8 +73,8 @@ sdf_parts rows =
     (flat_map-append (λ line. line ++ 10 ∷ []) (flat_map cell_lines (cells_of rows.paths)) (codes ")" ∷ [])))
 
 -- the text of kept rows, behind nothing
-pub whole_text : (count : ℕ) {start design design' : List ℕ} {wires wires' : List Wire} {delays delays' : List Femto} {paths : List PathRow} {rows : SdfRows} → start ≡ [] → design ≡ design' → wires ≡ wires' → delays ≡ delays' → record { design = design'; wires = wire_rows count wires' delays'; paths = paths } ≡ rows → start ++ sdf_text (record { design = design; wires = wire_rows count wires delays; paths = paths }) ≡ sdf_text rows
-whole_text count e f h k rows_is = rw (e, f, h, k) (ap sdf_text rows_is)
+pub whole_text : (count : ℕ) {names names' : List (List ℕ)} {start design design' : List ℕ} {wires wires' : List Wire} {delays delays' : List Femto} {paths : List PathRow} {rows : SdfRows} → start ≡ [] → design ≡ design' → names ≡ names' → wires ≡ wires' → delays ≡ delays' → record { design = design'; wires = wire_rows count names' wires' delays'; paths = paths } ≡ rows → start ++ sdf_text (record { design = design; wires = wire_rows count names wires delays; paths = paths }) ≡ sdf_text rows
+whole_text count e f n h k rows_is = rw (e, f, n, h, k) (ap sdf_text rows_is)
 
 -- numbers parted by colons are the first, and each other with a colon before it
 pub numbers_parts : (first : Femto) (others : List Femto) → join_with_byte 58 (map femto_text (first ∷ others)) ≡ femto_text first ++ flat_map (λ time. 58 ∷ femto_text time) others

@@ -1,12 +1,14 @@
 -- Paths whose lines are pushed one after another, each behind the one before it.
-use Rattle.std.proofs.Common.{◌≡◌, ℕ, zero, suc, ◌+◌, ◌-◌, ◌<◌, ◌≤◌, List, [], ◌∷◌, ◌++◌, length, take, drop, get_or, Option, Result, Ok, Err, refl, ap, ap₂, sym, ◌∙◌, arith}
+use Rattle.std.proofs.Common.{◌≡◌, ℕ, zero, suc, ◌+◌, ◌-◌, ◌<◌, ◌≤◌, List, [], ◌∷◌, ◌++◌, length, take, drop, get_or, Option, None, Result, Ok, Err, refl, ap, sym, ◌∙◌, arith}
 use Rattle.std.proofs.lemmas.List.{append_assoc, take_all, drop_all}
 use Rattle.delay_units.specs.declared.Femto.{Femto}
 use Rattle.edge_io.specs.declared.Failed.{Failed}
 use Rattle.edge_io.specs.Gathering.{Pushes}
 use Rattle.sdf_writer.specs.SdfText.{PathRow}
-use Rattle.sdf_writer.specs.PathRows.{cell_at, edge_at, path_row, path_rows, cell_of, path_text, line_text, opening_text, closing_text, between_text, next_text, rest_text, cells_text}
+use Rattle.sdf_writer.specs.Names.{name_at}
+use Rattle.sdf_writer.specs.PathRows.{cell_at, edge_at, path_row, path_rows, cell_of, line_text, opening_text, closing_text, between_text, next_text, rest_text, cells_text}
 use Rattle.sdf_writer.specs.declared.paths.Cell.{Cell}
+use Rattle.sdf_writer.specs.declared.paths.KeptCell.{KeptCell}
 use Rattle.sdf_writer.specs.declared.paths.Path.{Path}
 use Rattle.sdf_writer.proofs.CellTexts.{path_parts, cells_text_of}
 use Rattle.edge_io.specs.Pushing.{pushes_nothing, pushes_then, pushes_stop}
@@ -22,12 +24,12 @@ pub none_yet : (before : Cell) (rows : List PathRow) (start : List ℕ) (told : 
 none_yet before rows start told faults = record { front = []; whole_is = refl; pushed = pushes_nothing start told faults }
 
 -- the row of the path at `i`, and the rows after it
-pub rows_at : (count : ℕ) (cells : List Cell) (times : List Femto) (paths : List Path) (i : ℕ) (d : Path) → i < length paths → path_rows count cells times (drop i paths) ≡ path_row count cells times (get_or paths i d) ∷ path_rows count cells times (drop (i + 1) paths)
-rows_at count cells times [] i d below = absurd (omega (arith, below))
-rows_at count cells times (path ∷ paths) zero d below = refl
-rows_at count cells times (path ∷ paths) (suc i) d below =
+pub rows_at : (count : ℕ) (names : List (List ℕ)) (cells : List KeptCell) (times : List Femto) (paths : List Path) (i : ℕ) (d : Path) → i < length paths → path_rows count names cells times (drop i paths) ≡ path_row count names cells times (get_or paths i d) ∷ path_rows count names cells times (drop (i + 1) paths)
+rows_at count names cells times [] i d below = absurd (omega (arith, below))
+rows_at count names cells times (path ∷ paths) zero d below = refl
+rows_at count names cells times (path ∷ paths) (suc i) d below =
     let next : suc i + 1 ≡ suc (i + 1) = omega arith in
-    rw next (rows_at count cells times paths i d (omega (arith, below)))
+    rw next (rows_at count names cells times paths i d (omega (arith, below)))
 
 -- the next path is pushed
 pub one_more : {whole : List ℕ} {before : Cell} {rows : List PathRow} (row : PathRow) (others : List PathRow) {start waiting waiting' : List ℕ} {told middle now : Option (List ℕ)} {faults faults₁ faults₂ : ℕ} {done : Unit {0}} → rows ≡ row ∷ others
@@ -57,37 +59,36 @@ closed {before = before} {start = start} {result = result} e w v =
 
 -- ---- what is read of the lists
 
--- a cell that was read at a place
-pub cell_read : (cells : List Cell) (place : ℕ) (cell : Cell) → cell ≡ get_or cells place cell → place < length cells → cell_at cells place ≡ cell
-cell_read [] place cell e below = absurd (omega (arith, below))
-cell_read (first ∷ cells) zero cell e below = sym e
-cell_read (first ∷ cells) (suc place) cell e below = cell_read cells place cell e (omega (arith, below))
+-- what a place past the end of a list of paths would hold
+abbrev pub no_path : Path
+no_path = record { cell = 0; from = 0; to = 0; rise = None; fall = None }
 
--- the rows from a path on that was read there
-pub rows_from : (count : ℕ) (cells : List Cell) (times : List Femto) (paths : List Path) (i : ℕ) (path : Path) → path ≡ get_or paths i path → i < length paths → path_rows count cells times (drop i paths) ≡ path_row count cells times path ∷ path_rows count cells times (drop (i + 1) paths)
-rows_from count cells times paths i path e below =
-    rows_at count cells times paths i path below ∙ ap (λ p. path_row count cells times p ∷ path_rows count cells times (drop (i + 1) paths)) (sym e)
+pub no_rows : (count : ℕ) (names : List (List ℕ)) (cells : List KeptCell) (times : List Femto) (paths : List Path) (i : ℕ) → length paths ≤ i → path_rows count names cells times (drop i paths) ≡ []
+no_rows count names cells times paths i past = ap (path_rows count names cells times) (drop_all i paths past)
 
-pub no_rows : (count : ℕ) (cells : List Cell) (times : List Femto) (paths : List Path) (i : ℕ) → length paths ≤ i → path_rows count cells times (drop i paths) ≡ []
-no_rows count cells times paths i past = ap (path_rows count cells times) (drop_all i paths past)
+-- the line of a path
+abbrev pub kept_line : ℕ → List (List ℕ) → List Femto → Path → List ℕ
+kept_line count names times path = line_text (name_at names path.from) (name_at names path.to) (edge_at count times path.rise) (edge_at count times path.fall)
 
 -- a path behind one of some cell
-pub next_parts : (count : ℕ) (cells : List Cell) (times : List Femto) (before : ℕ) (path : Path) {one other : Cell} → cell_at cells before ≡ one → cell_at cells path.cell ≡ other
-    → next_text (cell_at cells before) (path_row count cells times path) ≡ between_text one other ++ line_text path.from path.to (edge_at count times path.rise) (edge_at count times path.fall)
-next_parts count cells times before path {one} {other} e f =
-    ap₂ (λ a b. between_text a b ++ path_text (path_row count cells times path)) e f
-    ∙ ap (λ t. between_text one other ++ t) (path_parts (path_row count cells times path))
+pub next_parts : (count : ℕ) (names : List (List ℕ)) (cells : List KeptCell) (times : List Femto) (before : ℕ) (path : Path)
+    → next_text (cell_at names cells before) (path_row count names cells times path) ≡ between_text (cell_at names cells before) (cell_at names cells path.cell) ++ kept_line count names times path
+next_parts count names cells times before path =
+    ap (λ t. between_text (cell_at names cells before) (cell_at names cells path.cell) ++ t) (path_parts (path_row count names cells times path))
+
+-- the paths behind the first
+abbrev pub other_rows : ℕ → List (List ℕ) → List KeptCell → List Femto → List Path → List PathRow
+other_rows count names cells times paths = path_rows count names cells times (take (length paths - 1) (drop 1 paths))
 
 -- the first cell, its first path, and the paths behind it
-pub first_parts : (count : ℕ) (cells : List Cell) (times : List Femto) (paths : List Path) (first : Path) (cell : Cell) → 1 ≤ length paths → first ≡ get_or paths 0 first → cell_at cells first.cell ≡ cell
-    → cells_text (path_rows count cells times paths) ≡ opening_text cell ++ (line_text first.from first.to (edge_at count times first.rise) (edge_at count times first.fall) ++ rest_text (cell_at cells first.cell) (path_rows count cells times (take (length paths - 1) (drop 1 paths))))
-first_parts count cells times [] first cell some e f = absurd (omega (arith, some))
-first_parts count cells times (path ∷ paths) first cell some e f =
-    let row : PathRow = path_row count cells times first in
-    let rows : List PathRow = path_rows count cells times paths in
+pub first_parts : (count : ℕ) (names : List (List ℕ)) (cells : List KeptCell) (times : List Femto) (paths : List Path) (first : Path) → 1 ≤ length paths → first ≡ get_or paths 0 no_path
+    → cells_text (path_rows count names cells times paths) ≡ opening_text (cell_at names cells first.cell) ++ (kept_line count names times first ++ rest_text (cell_at names cells first.cell) (other_rows count names cells times paths))
+first_parts count names cells times [] first some e = absurd (omega (arith, some))
+first_parts count names cells times (path ∷ paths) first some e =
+    let row : PathRow = path_row count names cells times first in
+    let rows : List PathRow = path_rows count names cells times paths in
     let all : take (length (path ∷ paths) - 1) paths ≡ paths = take_all (length (path ∷ paths) - 1) paths (omega arith) in
-    ap (λ p. cells_text (path_row count cells times p ∷ rows)) (sym e)
+    ap (λ p. cells_text (path_row count names cells times p ∷ rows)) (sym e)
     ∙ cells_text_of row rows
-    ∙ ap (λ c. opening_text c ++ (path_text row ++ rest_text (cell_of row) rows)) f
-    ∙ ap (λ t. opening_text cell ++ (t ++ rest_text (cell_of row) rows)) (path_parts row)
-    ∙ ap (λ ps. opening_text cell ++ (line_text first.from first.to (edge_at count times first.rise) (edge_at count times first.fall) ++ rest_text (cell_of row) (path_rows count cells times ps))) (sym all)
+    ∙ ap (λ t. opening_text (cell_at names cells first.cell) ++ (t ++ rest_text (cell_of row) rows)) (path_parts row)
+    ∙ ap (λ ps. opening_text (cell_at names cells first.cell) ++ (kept_line count names times first ++ rest_text (cell_of row) (path_rows count names cells times ps))) (sym all)

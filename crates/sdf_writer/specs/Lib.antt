@@ -1,4 +1,5 @@
 pub mod SdfText
 pub mod Bounds
+pub mod Names
 pub mod WireRows
 pub mod PathRows

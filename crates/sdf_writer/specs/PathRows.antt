@@ -1,57 +1,71 @@
--- How rows of paths are kept: each cell once for the paths of it that stand together, and the times of all of them in one list.
+-- How rows of paths are kept: each cell once for the paths of it that stand together, names by number, and all times in one list.
 use Rattle.std.specs.Prelude.{◌≡◌, ℕ, ◌+◌, ◌<◌, ◌≤◌, Bool, ◌&&◌, if◌then◌else◌, List, [], ◌∷◌, ◌++◌, map, length, get_or, take, drop, Option, Some, None, codes, ⊤}
-use Rattle.std.specs.List.{flat_map}
+use Rattle.std.specs.List.{All, flat_map}
 use Rattle.std.specs.Str.{bytes_eq}
 use Rattle.std.proofs.Common.{Bor}
 use Rattle.corner_set.specs.Grids.{GridOf}
 use Rattle.delay_units.specs.declared.Femto.{Femto}
 use Rattle.sdf_writer.specs.Bounds.{AreWithin}
+use Rattle.sdf_writer.specs.Names.{name_at, KeepsName}
 use Rattle.sdf_writer.specs.SdfText.{PathRow, edge_text, path_line, cells_of, cell_opening, cell_closing, cell_lines, lines_text}
 use Rattle.sdf_writer.specs.declared.paths.Cell.{Cell}
+use Rattle.sdf_writer.specs.declared.paths.KeptCell.{KeptCell}
 use Rattle.sdf_writer.specs.declared.paths.Path.{Path}
 
 -- ---- the rows that are kept
 
-abbrev pub no_cell : Cell
-no_cell = record { kind = []; instance = [] }
+abbrev pub cell_of_names : List (List ℕ) → KeptCell → Cell
+cell_of_names names cell = record { kind = name_at names cell.kind; instance = name_at names cell.instance }
 
-abbrev pub cell_at : List Cell → ℕ → Cell
-cell_at cells place = get_or cells place no_cell
+abbrev pub no_cell : KeptCell
+no_cell = record { kind = 0; instance = 0 }
+
+abbrev pub cell_at : List (List ℕ) → List KeptCell → ℕ → Cell
+cell_at names cells place = cell_of_names names (get_or cells place no_cell)
 
 -- the times of an edge, one a corner from a place on
 abbrev pub edge_at : ℕ → List Femto → Option ℕ → Option (List Femto)
 edge_at count times None = None
 edge_at count times (Some place) = Some (take count (drop place times))
 
-abbrev pub path_row : ℕ → List Cell → List Femto → Path → PathRow
-path_row count cells times path = record {
-  cell = (cell_at cells path.cell).kind;
-  instance = (cell_at cells path.cell).instance;
-  from = path.from;
-  to = path.to;
+abbrev pub path_row : ℕ → List (List ℕ) → List KeptCell → List Femto → Path → PathRow
+path_row count names cells times path = record {
+  cell = (cell_at names cells path.cell).kind;
+  instance = (cell_at names cells path.cell).instance;
+  from = name_at names path.from;
+  to = name_at names path.to;
   rise = edge_at count times path.rise;
   fall = edge_at count times path.fall;
 }
 
-abbrev pub path_rows : ℕ → List Cell → List Femto → List Path → List PathRow
-path_rows count cells times paths = map (path_row count cells times) paths
+abbrev pub path_rows : ℕ → List (List ℕ) → List KeptCell → List Femto → List Path → List PathRow
+path_rows count names cells times paths = map (path_row count names cells times) paths
 
 -- the times of an edge stand among so many
 abbrev pub IsEdgeKept : ℕ → ℕ → Option ℕ → Type 0
 IsEdgeKept count size None = ⊤
 IsEdgeKept count size (Some place) = place + count ≤ size
 
--- the cell of a path and its times stand among so many
-pub record IsKept (count cells times : ℕ) (path : Path) : Type 0 where
+-- the names of a cell stand among so many
+pub record IsCellKept (names : ℕ) (cell : KeptCell) : Type 0 where
+  pub kind : cell.kind < names
+  pub instance : cell.instance < names
+
+-- the names of a path, its cell and its times stand among so many
+pub record IsKept (count names cells times : ℕ) (path : Path) : Type 0 where
+  pub from : path.from < names
+  pub to : path.to < names
   pub cell : path.cell < cells
   pub rise : IsEdgeKept count times path.rise
   pub fall : IsEdgeKept count times path.fall
 
 -- ---- what is put at the end
 
-pub record Extends (old new : List Cell) : Type 0 where
-  pub more : List Cell
+-- cells whose names stand among so many
+pub record Extends (names : ℕ) (old new : List KeptCell) : Type 0 where
+  pub more : List KeptCell
   pub is : new ≡ old ++ more
+  pub kept : All (IsCellKept names) more
 
 pub record ExtendsTimes (old new : List Femto) : Type 0 where
   pub more : List Femto
@@ -73,15 +87,20 @@ pub record KeepsEdge (count : ℕ) (times : List Femto) (edge : Option (List Fem
   pub kept : IsEdgeKept count (length times) place
   pub is : edge_at count times place ≡ edge
 
+-- the names of a cell are those of this one
+pub record KeepsCellNames (names : List (List ℕ)) (cell : Cell) (kept : KeptCell) : Type 0 where
+  pub kind_kept : KeepsName names cell.kind kept.kind
+  pub instance_kept : KeepsName names cell.instance kept.instance
+
 -- the cell that stands at a place is this one
-pub record KeepsCell (cells : List Cell) (cell : Cell) (place : ℕ) : Type 0 where
+pub record KeepsCell (names : List (List ℕ)) (cells : List KeptCell) (cell : Cell) (place : ℕ) : Type 0 where
   pub below : place < length cells
-  pub is : cell_at cells place ≡ cell
+  pub is : cell_at names cells place ≡ cell
 
 -- a path stands for this row
-pub record KeepsRow (count : ℕ) (cells : List Cell) (times : List Femto) (row : PathRow) (path : Path) : Type 0 where
-  pub kept : IsKept count (length cells) (length times) path
-  pub is : path_row count cells times path ≡ row
+pub record KeepsRow (count : ℕ) (names : List (List ℕ)) (cells : List KeptCell) (times : List Femto) (row : PathRow) (path : Path) : Type 0 where
+  pub kept : IsKept count (length names) (length cells) (length times) path
+  pub is : path_row count names cells times path ≡ row
 
 -- ---- the text of the rows
 

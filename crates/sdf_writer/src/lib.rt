@@ -5,6 +5,7 @@
 
 mod cells;
 mod entries;
+mod names;
 mod paths;
 mod rows;
 mod text;

@@ -1,18 +1,24 @@
 //! The rows of paths through cells, as they are collected.
-ghost use Rattle.std.specs.Prelude.{◌≡◌, ◌-◌, ◌≤◌, [], ◌∷◌, ◌++◌, length, IsTrue, IfOk, OnOk, OnErr};
-ghost use Rattle.sdf_writer.specs.PathRows.{cell_at, is_same, IsEdge, edge_times, Extends, ExtendsTimes, KeepsEdge, KeepsCell, KeepsRow};
+ghost use Rattle.std.specs.Prelude.{◌≡◌, ◌-◌, ◌<◌, ◌≤◌, [], ◌∷◌, ◌++◌, length, IsTrue, IfOk, OnOk, OnErr};
+ghost use Rattle.std.specs.List.{All};
+ghost use Rattle.sdf_writer.specs.Names.{ExtendsNames};
+ghost use Rattle.sdf_writer.specs.PathRows.{cell_of_names, cell_at, is_same, IsCellKept, IsEdge, edge_times, Extends, ExtendsTimes, KeepsEdge, KeepsCellNames, KeepsCell, KeepsRow};
 
+use crate::names::{keep_name, name};
 use corner_set::{CornerSet, Grid};
 use delay_units::Femto;
 use edge_io::{OutOfMemory, Text};
 use std::alloc::Global;
 use std::marker::{Model, PhantomData};
+use text_table::FlatTexts;
 
 // Contracts see the list of the rows.
 #[derive(Drop)]
 pub(crate) struct Paths<C: CornerSet> {
+    // the names of all cells and of their pins
+    pub(crate) names: FlatTexts,
     // a cell once for the paths of it that were added one after another
-    pub(crate) cells: Vec<Cell>,
+    pub(crate) cells: Vec<KeptCell>,
     pub(crate) paths: Vec<Path>,
     // the times of all edges, of each its corners by number
     pub(crate) times: Vec<Femto>,
@@ -26,12 +32,19 @@ pub(crate) struct Cell {
     pub(crate) instance: Text,
 }
 
-// The place of a path's cell, the names of its pins in the spelling of SDF, and the places where the times of its edges begin.
+// The numbers of a cell's two names.
+#[derive(Drop)]
+pub(crate) struct KeptCell {
+    pub(crate) kind: u32,
+    pub(crate) instance: u32,
+}
+
+// The place of a path's cell, the numbers of the names of its pins, and the places where the times of its edges begin.
 #[derive(Drop)]
 pub(crate) struct Path {
     pub(crate) cell: usize,
-    pub(crate) from: Text,
-    pub(crate) to: Text,
+    pub(crate) from: u32,
+    pub(crate) to: u32,
     pub(crate) rise: Option<usize>,
     pub(crate) fall: Option<usize>,
 }
@@ -41,13 +54,14 @@ impl<C: CornerSet> Model for Paths<C> {
     ghost use Rattle.std.specs.List.{All};
     ghost use Rattle.sdf_writer.specs.SdfText.{PathRow};
     ghost use Rattle.sdf_writer.specs.Bounds.{AreWithin};
-    ghost use Rattle.sdf_writer.specs.PathRows.{IsKept, path_rows};
+    ghost use Rattle.sdf_writer.specs.PathRows.{IsCellKept, IsKept, path_rows};
 
     ghost Value = { List PathRow };
 
-    ghost view = { λ paths. path_rows C.COUNT paths.cells.items paths.times.items paths.paths.items };
+    ghost view = { λ paths. path_rows C.COUNT paths.names paths.cells.items paths.times.items paths.paths.items };
 
-    ghost invariant = { λ paths. All (IsKept C.COUNT (length paths.cells.items) (length paths.times.items)) paths.paths.items
+    ghost invariant = { λ paths. All (IsCellKept (length paths.names)) paths.cells.items
+        × All (IsKept C.COUNT (length paths.names) (length paths.cells.items) (length paths.times.items)) paths.paths.items
         × AreWithin paths.times.items };
 }
 
@@ -57,6 +71,7 @@ impl<C: CornerSet> Paths<C> {
         ensures { result ≡ [] }
     {
         Paths {
+            names: FlatTexts::new(alloc),
             cells: Vec::new(alloc),
             paths: Vec::new(alloc),
             times: Vec::new(alloc),
@@ -87,16 +102,26 @@ impl<C: CornerSet> Paths<C> {
         ensures err { OnErr result (self.new ≡ self.old) }
     {
         self.paths.reserve(1)?;
-        let path = keep_path(&mut self.cells, &mut self.times, cell, from, to, rise, fall)?;
+        let path = keep_path(
+            &mut self.names,
+            &mut self.cells,
+            &mut self.times,
+            cell,
+            from,
+            to,
+            rise,
+            fall,
+        )?;
         // There is room for it.
         let _ = self.paths.push(path);
         Ok(())
     }
 }
 
-// Keeps the cell of a path and its times.
+// Keeps the cell of a path, the names of its pins and its times.
 fn keep_path<C: CornerSet>(
-    cells: &mut Vec<Cell>,
+    names: &mut FlatTexts,
+    cells: &mut Vec<KeptCell>,
     times: &mut Vec<Femto>,
     cell: Cell,
     from: Text,
@@ -104,10 +129,11 @@ fn keep_path<C: CornerSet>(
     rise: Option<&Grid<C, Femto>>,
     fall: Option<&Grid<C, Femto>>,
 ) -> Result<Path, OutOfMemory>
+    requires cells { All (IsCellKept (length names.now)) cells.now.items }
     requires rise { IsEdge C.COUNT (edge_times rise) }
     requires fall { IsEdge C.COUNT (edge_times fall) }
     ensures kept { IfOk result
-        (KeepsRow C.COUNT cells.new.items times.new.items
+        (KeepsRow C.COUNT names.new cells.new.items times.new.items
         (record {
           cell = cell.kind;
           instance = cell.instance;
@@ -116,12 +142,15 @@ fn keep_path<C: CornerSet>(
           rise = edge_times rise.entry;
           fall = edge_times fall.entry;
         })) }
-    ensures cells { Extends cells.old.items cells.new.items }
+    ensures names { ExtendsNames names.old names.new }
+    ensures cells { Extends (length names.new) cells.old.items cells.new.items }
     ensures times { ExtendsTimes times.old.items times.new.items }
 {
     let rise = keep_edge(times, rise)?;
     let fall = keep_edge(times, fall)?;
-    let cell = keep_cell(cells, cell)?;
+    let from = keep_name(names, from.bytes())?;
+    let to = keep_name(names, to.bytes())?;
+    let cell = keep_cell(names, cells, cell)?;
     Ok(Path {
         cell,
         from,
@@ -151,33 +180,52 @@ fn keep_edge<C: CornerSet>(
 }
 
 // Keeps a cell, unless it is the last one.
-fn keep_cell(cells: &mut Vec<Cell>, cell: Cell) -> Result<usize, OutOfMemory>
-    ensures kept { IfOk result (KeepsCell cells.new.items cell) }
-    ensures cells { Extends cells.old.items cells.new.items }
+fn keep_cell(
+    names: &mut FlatTexts,
+    cells: &mut Vec<KeptCell>,
+    cell: Cell,
+) -> Result<usize, OutOfMemory>
+    requires cells { All (IsCellKept (length names.now)) cells.now.items }
+    ensures kept { IfOk result (KeepsCell names.new cells.new.items cell) }
+    ensures names { ExtendsNames names.old names.new }
+    ensures cells { Extends (length names.new) cells.old.items cells.new.items }
 {
     let count = cells.len();
-    if is_last(cells.as_slice(), &cell) {
+    if is_last(names, cells.as_slice(), &cell) {
         return Ok(count - 1);
     }
     cells.reserve(1)?;
+    let kept = keep_names(names, cell)?;
     // There is room for it.
-    let _ = cells.push(cell);
+    let _ = cells.push(kept);
     Ok(count)
 }
 
+// Keeps the names of a cell.
+fn keep_names(names: &mut FlatTexts, cell: Cell) -> Result<KeptCell, OutOfMemory>
+    ensures kept { IfOk result (KeepsCellNames names.new cell) }
+    ensures names { ExtendsNames names.old names.new }
+{
+    let kind = keep_name(names, cell.kind.bytes())?;
+    let instance = keep_name(names, cell.instance.bytes())?;
+    Ok(KeptCell { kind, instance })
+}
+
 // Whether the cell is the last one.
-fn is_last(cells: &[Cell], cell: &Cell) -> bool
-    ensures { IsTrue result → (1 ≤ length cells.now) × (cell_at cells.now (length cells.now - 1) ≡ cell.now) }
+fn is_last(names: &FlatTexts, cells: &[KeptCell], cell: &Cell) -> bool
+    requires cells { All (IsCellKept (length names.now)) cells.now }
+    ensures { IsTrue result → (1 ≤ length cells.now) × (cell_at names.now cells.now (length cells.now - 1) ≡ cell.now) }
 {
     match cells.last() {
         None => false,
-        Some(last) => is_same(last, cell),
+        Some(last) => is_cell(names, last, cell.kind.bytes(), cell.instance.bytes()),
     }
 }
 
-// Whether two cells are one: their types and their instances are the same.
-pub(crate) fn is_same(one: &Cell, other: &Cell) -> bool
-    ensures { result ≡ is_same one.now other.now }
+// Whether a cell is of that type and that instance.
+pub(crate) fn is_cell(names: &FlatTexts, cell: &KeptCell, kind: &[u8], instance: &[u8]) -> bool
+    requires cell { IsCellKept (length names.now) cell.now }
+    ensures { result ≡ is_same (cell_of_names names.now cell.now) (record { kind = kind.now; instance = instance.now }) }
 {
-    one.kind.bytes() == other.kind.bytes() && one.instance.bytes() == other.instance.bytes()
+    name(names, cell.kind) == kind && name(names, cell.instance) == instance
 }

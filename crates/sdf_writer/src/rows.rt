@@ -1,49 +1,58 @@
 //! The rows of one file, as they are collected.
-ghost use Rattle.std.specs.Prelude.{◌≡◌, [], ◌∷◌, ◌++◌, length, OnOk, OnErr};
+ghost use Rattle.std.specs.Prelude.{◌≡◌, [], ◌∷◌, ◌++◌, length, IfOk, OnOk, OnErr};
 ghost use Rattle.sdf_writer.specs.Bounds.{AreWithin};
+ghost use Rattle.sdf_writer.specs.Names.{ExtendsNames};
+ghost use Rattle.sdf_writer.specs.WireRows.{KeepsWire};
 ghost use Rattle.sdf_writer.specs.PathRows.{IsEdge, edge_times};
 
+use crate::names::keep_name;
 use crate::paths::{Cell, Paths};
 use corner_set::{CornerSet, Grid};
 use delay_units::Femto;
 use edge_io::{OutOfMemory, Text};
 use std::alloc::Global;
 use std::marker::Model;
+use text_table::FlatTexts;
 
 /// The rows of one SDF file: the name of the design, a row for each wire with its delay at each
 /// corner, and a row for each path through a cell with the delays of its rise and its fall. Contracts see these.
+/// A name behind more than 2^32 - 1 bytes of names, of wires or of paths, is a want of memory.
 #[derive(Drop)]
 pub struct Rows<C: CornerSet> {
     pub(crate) design: Text,
+    // the names of the ends of all wires
+    pub(crate) names: FlatTexts,
     pub(crate) wires: Vec<Wire>,
     // the delays of all wires one after another, of each its corners by number
     pub(crate) delays: Vec<Femto>,
     pub(crate) paths: Paths<C>,
 }
 
-// The names of a wire's ends, in the spelling of SDF.
+// The numbers of the names of a wire's ends.
 #[derive(Drop)]
 pub(crate) struct Wire {
-    pub(crate) from: Text,
-    pub(crate) to: Text,
+    pub(crate) from: u32,
+    pub(crate) to: u32,
 }
 
 impl<C: CornerSet> Model for Rows<C> {
     ghost use Rattle.std.specs.Prelude.{◌≡◌, ◌*◌, length};
+    ghost use Rattle.std.specs.List.{All};
     ghost use Rattle.sdf_writer.specs.SdfText.{SdfRows};
     ghost use Rattle.sdf_writer.specs.Bounds.{AreWithin};
 
     ghost Value = { SdfRows };
 
-    ghost use Rattle.sdf_writer.specs.WireRows.{wire_rows};
+    ghost use Rattle.sdf_writer.specs.WireRows.{IsWireKept, wire_rows};
 
     ghost view = { λ rows. record {
       design = rows.design;
-      wires = wire_rows C.COUNT rows.wires.items rows.delays.items;
+      wires = wire_rows C.COUNT rows.names rows.wires.items rows.delays.items;
       paths = rows.paths;
     } };
 
-    ghost invariant = { λ rows. (length rows.delays.items ≡ length rows.wires.items * C.COUNT) × AreWithin rows.delays.items };
+    ghost invariant = { λ rows. (length rows.delays.items ≡ length rows.wires.items * C.COUNT) × AreWithin rows.delays.items
+        × All (IsWireKept (length rows.names)) rows.wires.items };
 }
 
 impl<C: CornerSet> Rows<C> {
@@ -53,6 +62,7 @@ impl<C: CornerSet> Rows<C> {
     {
         Rows {
             design,
+            names: FlatTexts::new(alloc),
             wires: Vec::new(alloc),
             delays: Vec::new(alloc),
             paths: Paths::new(alloc),
@@ -75,9 +85,10 @@ impl<C: CornerSet> Rows<C> {
         ensures err { OnErr result (self.new ≡ self.old) }
     {
         self.wires.reserve(1)?;
+        let wire = keep_wire(&mut self.names, from, to)?;
         self.delays.extend_from_slice(delay.as_slice())?;
         // There is room for it.
-        let _ = self.wires.push(Wire { from, to });
+        let _ = self.wires.push(wire);
         Ok(())
     }
 
@@ -115,4 +126,14 @@ impl<C: CornerSet> Rows<C> {
         };
         self.paths.add(cell, from, to, rise, fall)
     }
+}
+
+// Keeps the names of a wire's ends.
+fn keep_wire(names: &mut FlatTexts, from: Text, to: Text) -> Result<Wire, OutOfMemory>
+    ensures kept { IfOk result (KeepsWire names.new from to) }
+    ensures names { ExtendsNames names.old names.new }
+{
+    let from = keep_name(names, from.bytes())?;
+    let to = keep_name(names, to.bytes())?;
+    Ok(Wire { from, to })
 }

@@ -4,7 +4,8 @@ ghost use Rattle.edge_io.specs.Writing.{Writes};
 ghost use Rattle.sdf_writer.specs.SdfText.{escaped, quoted, lines_text, opening_lines, sdf_text};
 ghost use Rattle.sdf_writer.specs.Bounds.{AreWithin};
 ghost use Rattle.edge_io.specs.Gathering.{Pushes};
-ghost use Rattle.sdf_writer.specs.WireRows.{wire_rows};
+ghost use Rattle.std.specs.List.{All};
+ghost use Rattle.sdf_writer.specs.WireRows.{IsWireKept, wire_rows};
 
 use crate::cells::write_cells;
 use crate::entries::write_delays;
@@ -13,6 +14,7 @@ use crate::rows::{Rows, Wire};
 use corner_set::CornerSet;
 use delay_units::Femto;
 use edge_io::{Failed, Sink, WaitingBytes};
+use text_table::FlatTexts;
 
 /// Writes the SDF text of the rows. It takes no memory. `Failed` comes only where the sink's count of
 /// faults rose, and then a front of the text was written.
@@ -24,6 +26,7 @@ pub fn write<C: CornerSet, O: Sink>(rows: &Rows<C>, sink: &mut O) -> Result<(), 
         &mut buffer,
         sink,
         rows.design.bytes(),
+        &rows.names,
         rows.wires.as_slice(),
         rows.delays.as_slice(),
         &rows.paths,
@@ -37,18 +40,20 @@ fn write_rows<C: CornerSet, O: Sink>(
     buffer: &mut WaitingBytes,
     sink: &mut O,
     design: &[u8],
+    names: &FlatTexts,
     wires: &[Wire],
     delays: &[Femto],
     paths: &Paths<C>,
 ) -> Result<(), Failed>
     requires sizes { length delays.now ≡ length wires.now * C.COUNT }
     requires within { AreWithin delays.now }
+    requires kept { All (IsWireKept (length names.now)) wires.now }
     ensures pushes { Pushes (buffer.old ++ sdf_text
-        (record { design = design.now; wires = wire_rows C.COUNT wires.now delays.now; paths = paths.now })) buffer.new
+        (record { design = design.now; wires = wire_rows C.COUNT names.now wires.now delays.now; paths = paths.now })) buffer.new
         (O.written sink.old) (O.written sink.new) (O.faults sink.old) (O.faults sink.new) result }
 {
     write_opening(buffer, sink, design)?;
-    write_delays::<C, O>(buffer, sink, wires, delays)?;
+    write_delays::<C, O>(buffer, sink, names, wires, delays)?;
     write_end(buffer, sink)?;
     write_cells::<C, O>(buffer, sink, paths)?;
     write_end(buffer, sink)?;

@@ -224,6 +224,16 @@ impl<'a> Modules<'a> {
         self.tables.bit_count(m, self.tables.connection(m, k, c))
     }
 
+    /// A bit of a connection, from the left, if it has so many. It takes one pass over what is joined before it.
+    pub fn get_bit(&self, m: usize, k: usize, c: usize, b: usize) -> Option<Bit>
+        requires within { m < length self.now }
+        requires instance { k < length (module_at self.now m).instances }
+        requires place { c < length (instance_at self.now m k).connections }
+        ensures { result ≡ slice_get (bits_at self.now m k c) b }
+    {
+        self.tables.bit(m, self.tables.connection(m, k, c), b)
+    }
+
     /// A bit of a connection, from the left. It takes one pass over what is joined before it: to see all bits, go over the runs.
     pub fn bit(&self, m: usize, k: usize, c: usize, b: usize) -> Bit
         requires within { m < length self.now }
@@ -232,7 +242,7 @@ impl<'a> Modules<'a> {
         requires place { b < length (bits_at self.now m k c) }
         ensures { slice_get (bits_at self.now m k c) b ≡ Some result }
     {
-        match self.tables.bit(m, self.tables.connection(m, k, c), b) {
+        match self.get_bit(m, k, c, b) {
             Some(bit) => bit,
             None => Bit::Tied,
         }

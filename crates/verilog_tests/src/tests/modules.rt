@@ -148,10 +148,7 @@ fn bit_of(modules: &Modules<'_>, c: usize, b: usize) -> Option<Bit> {
     if c >= modules.connection_count(0, 0) {
         return None;
     }
-    if b >= modules.bit_count(0, 0, c) {
-        return None;
-    }
-    Some(modules.bit(0, 0, c, b))
+    modules.get_bit(0, 0, c, b)
 }
 
 /// Whether the bit of a connection is this bit of a name.

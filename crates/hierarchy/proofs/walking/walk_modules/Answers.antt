@@ -14,7 +14,7 @@ loop-frame-init c =
     let framed = c.in_ok-enter.ensures.frame
     ∙ ap (λ fs. fs ++ record { visit = length c.new-visits.result.items; «module» = top; next = 0 } ∷ []) c.new-frames.ensures.items
     ∙ ap (λ vs. record { visit = length vs; «module» = top; next = 0 } ∷ []) c.new-visits.ensures.items in
-    begun modules top c.enter.new.visits.items c.new-met.result.items c.enter.new.frames.items c.requires.within visited c.new-met.ensures.items framed
+    begun modules top c.enter.new.visits.items c.in_ok-met.met.items c.enter.new.frames.items c.requires.within visited c.in_ok-met.ensures framed
 
 pub lower-requires : goal.lower-requires
 lower-requires c =

@@ -10,7 +10,7 @@ use Rattle.std.proofs.lemmas.Bool.{cases_lt}
 use Rattle.name_table.specs.Names.{AreDistinct}
 use Rattle.netlist_link.specs.JointTables.{AreCellPins, pin_names}
 use Rattle.netlist_link.specs.declared.cell_pins.CellPins.{CellPins}
-use Rattle.netlist_link.proofs.Pushing.{each_push}
+use Rattle.text_table.proofs.Pushing.{each_push}
 use Rattle.netlist_link.proofs.cell_pins.all_pins.Goals as goal
 
 pub loop-c-preserved : goal.loop-c-preserved

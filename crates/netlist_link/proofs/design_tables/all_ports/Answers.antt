@@ -5,7 +5,7 @@ use Rattle.verilog_netlist.specs.NetModules.{module_at}
 use Rattle.netlist_link.specs.PortTables.{ArePortNumbers}
 use Rattle.netlist_link.specs.Designs.{HoldAllPorts}
 use Rattle.netlist_link.specs.declared.port_numbers.PortNumbers.{PortNumbers}
-use Rattle.netlist_link.proofs.Pushing.{each_push}
+use Rattle.text_table.proofs.Pushing.{each_push}
 use Rattle.netlist_link.proofs.design_tables.all_ports.Goals as goal
 
 pub loop-m-preserved : goal.loop-m-preserved

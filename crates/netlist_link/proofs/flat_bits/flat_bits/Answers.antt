@@ -4,7 +4,7 @@ use Rattle.netlist_link.proofs.KeepingBits.{visits_begin, visits_done}
 use Rattle.netlist_link.proofs.flat_bits.flat_bits.Goals as goal
 
 pub loop-v-init : goal.loop-v-init
-loop-v-init c = visits_begin c.args.design.now _ c.in_ok-place_names.ensures c.new.ensures.items c.new-2.ensures.items c.new-3.ensures.items
+loop-v-init c = visits_begin c.args.design.now _ c.in_ok-place_names.ensures c.new.ensures.items c.in_ok-with_capacity.ensures.items c.in_ok-with_capacity-2.ensures.items
 
 pub returns : goal.returns
 returns c =

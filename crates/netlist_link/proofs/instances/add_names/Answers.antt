@@ -1,4 +1,4 @@
-use Rattle.std.proofs.Common.{◌≡◌, ◌++◌, ◌∷◌, ℕ, List, [], length, get_or, ap, ap₂, ◌∙◌, arith, append-nil}
+use Rattle.std.proofs.Common.{◌≡◌, ◌++◌, ◌∷◌, ℕ, List, [], length, get_or, ap, ap₂, ◌∙◌, arith}
 use Rattle.std.proofs.lemmas.List.{length-map, get_or-map}
 use Rattle.name_table.specs.SdfNames.{part}
 use Rattle.verilog_netlist.specs.NetModules.{instance_at}
@@ -42,9 +42,8 @@ returns-clause-texts c =
     ∙ get_or-map (path_text modules top) (visits modules top) kept.visit [] [] is.visit ∙ ap (path_text modules top) is.path in
     let name : c.instance_name-name.result.now ≡ (instance_at modules (module_on modules top met.path) met.instance).name =
     c.instance_name-name.ensures ∙ ap₂ (λ (m k : ℕ). (instance_at modules m k).name) c.place_of-m.ensures.module_is c.place_of-m.ensures.instance_is in
-    let text_is : c.text.result.now ++ c.instance_name-name.result.now ++ [] ≡ instance_text modules top met =
-    append-nil (c.text.result.now ++ c.instance_name-name.result.now)
-    ∙ ap₂ (λ (a b : List ℕ). a ++ b) (c.text.ensures ∙ ap (text_at d.paths.now) visit_is ∙ path) name in
+    let text_is : c.text.result.now ++ c.instance_name-name.result.now ≡ instance_text modules top met =
+    ap₂ (λ (a b : List ℕ). a ++ b) (c.text.ensures ∙ ap (text_at d.paths.now) visit_is ∙ path) name in
     c.in_ok-push.ensures ∙ ap (λ (text : List ℕ). c.args.texts.now ++ text ∷ []) text_is
 
 pub returns-clause-spellings : goal.returns-clause-spellings

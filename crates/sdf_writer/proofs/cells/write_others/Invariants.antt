@@ -8,5 +8,5 @@ abbrev pub invariant-loop-path : goal.invariant-loop-path
 invariant-loop-path g l =
     let count = g.C.CornerSet.COUNT in
     (l.before < length l.cells) ×
-    WroteUpTo (rest_text (cell_at l.cells l.cell) (path_rows count l.cells l.times l.paths)) (cell_at l.cells l.before) (path_rows count l.cells l.times (drop l.path-index l.paths)) l.fn.buffer l.buffer
+    WroteUpTo (rest_text (cell_at l.names l.cells l.cell) (path_rows count l.names l.cells l.times l.paths)) (cell_at l.names l.cells l.before) (path_rows count l.names l.cells l.times (drop l.path-index l.paths)) l.fn.buffer l.buffer
     (g.O.Sink.written l.fn.sink) (g.O.Sink.written l.sink) (g.O.Sink.faults l.fn.sink) (g.O.Sink.faults l.sink)

@@ -1,7 +1,7 @@
 use Rattle.std.proofs.Common.{◌≡◌, ℕ, ◌+◌, ◌-◌, List, [], ◌∷◌, ◌++◌, length, ap, ap₂, ◌∙◌, arith, length-append}
-use Rattle.netlist_link.specs.FlatTexts.{texts_of}
-use Rattle.netlist_link.proofs.TextPieces.{texts_push}
-use Rattle.netlist_link.proofs.flat_texts.FlatTexts.push.Goals as goal
+use Rattle.text_table.specs.FlatTexts.{texts_of}
+use Rattle.text_table.proofs.TextPieces.{texts_push}
+use Rattle.text_table.proofs.flat_texts.FlatTexts.push_joined.Goals as goal
 
 pub returns : goal.returns
 returns c =

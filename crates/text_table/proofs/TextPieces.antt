@@ -4,8 +4,8 @@ use Rattle.std.proofs.lemmas.List.{take-append-le, drop-append-le, take_all, map
 use Rattle.std.proofs.Math.Seq.{drop-append_seam}
 use Rattle.token_texts.specs.Spans.{text_at}
 use Rattle.token_texts.specs.declared.spans.Span.{Span}
-use Rattle.netlist_link.specs.FlatTexts.{texts_of, AreWithin}
-use Rattle.netlist_link.proofs.Pushing.{each_push}
+use Rattle.text_table.specs.FlatTexts.{texts_of, AreWithin}
+use Rattle.text_table.proofs.Pushing.{each_push}
 
 -- further bytes change no text
 pub texts_stay : (bytes more : List ℕ) (pieces : List Span) → AreWithin (length bytes) pieces → texts_of (bytes ++ more) pieces ≡ texts_of bytes pieces

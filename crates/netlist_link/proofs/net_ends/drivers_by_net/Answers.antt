@@ -1,6 +1,6 @@
 use Rattle.std.proofs.Common.{◌<◌, ◌∙◌, arith}
 use Rattle.netlist_link.proofs.Driving.{drivers_step, one_each, refused_there}
-use Rattle.netlist_link.proofs.net_ends.drivers_of.Goals as goal
+use Rattle.netlist_link.proofs.net_ends.drivers_by_net.Goals as goal
 
 pub loop-n-preserved : goal.loop-n-preserved
 loop-n-preserved c =
