@@ -91,8 +91,7 @@ one_head file one other r s =
     let design : one.design ≡ other.design = r.design ∙ sym s.design in
     let cap : one.cap_unit ≡ other.cap_unit = one_unit_at Capacitance file file.reading.head.cap_unit one.cap_unit other.cap_unit r.cap_unit s.cap_unit in
     let res : one.res_unit ≡ other.res_unit = one_unit_at Resistance file file.reading.head.res_unit one.res_unit other.res_unit r.res_unit s.res_unit in
-    let indices : one.indices ≡ other.indices = r.indices ∙ sym s.indices in
-    (λ i. record { design = design i; cap_unit = cap i; res_unit = res i; indices = indices i })
+    (λ i. record { design = design i; cap_unit = cap i; res_unit = res i })
 
 -- the refusal of an end of the head; want of memory refuses nothing
 abbrev of_head : HeadEnd → Option Refusal

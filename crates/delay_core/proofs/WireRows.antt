@@ -66,3 +66,10 @@ sole_nets_give nets answer reads rows = of_nets nets answer reads rows
 pub text_gives : {I : Type 0} (corners : Corners I) (bytes : List ℕ) (file : SpefText) (head : HeadText) (answer : Result SdfRows Refusal) → ParsesSpef bytes (Ok file) → HeadsSpef file (Ok head) → SectionsGive corners file head answer → TextGives corners bytes answer
 text_gives corners bytes file head answer parses heads (faulty_section refusal faulty) = unread refusal (at_sections file head refusal parses heads faulty)
 text_gives corners bytes file head answer parses heads (of_nets nets its reads rows) = of_design (design_of head.design nets) answer (through file head nets parses heads reads) rows
+
+-- the same of what follows them, want of memory aside
+pub text_follows : {I : Type 0} (corners : Corners I) (bytes : List ℕ) (file : SpefText) (head : HeadText) (answer : Result SdfRows (NoFileEnd Refusal)) → ParsesSpef bytes (Ok file) → HeadsSpef file (Ok head)
+    → FollowsNoFile (SectionsGive corners file head) answer → FollowsNoFile (TextGives corners bytes) answer
+text_follows corners bytes file head (Ok rows) parses heads follows = text_gives corners bytes file head (Ok rows) parses heads follows
+text_follows corners bytes file head (Err (no_file.Refused refusal)) parses heads follows = text_gives corners bytes file head (Err refusal) parses heads follows
+text_follows corners bytes file head (Err no_file.OutOfMemory) parses heads follows = tt

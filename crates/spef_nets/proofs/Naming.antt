@@ -1,5 +1,5 @@
 -- What the computed names say: a word names the node that is computed, and nothing where none is. One node is one head and one tail.
-use Rattle.std.proofs.Common.{◌≡◌, ◌↔◌, ℕ, Bool, true, false, cond, List, [], ◌∷◌, Contains, Option, Some, None, ◌⊎◌, ⊎_elim, inl, inr, refl, sym, ap, ◌∙◌, true≢false, subst, arith}
+use Rattle.std.proofs.Common.{◌≡◌, ◌↔◌, ℕ, Bool, true, false, cond, List, [], ◌∷◌, Contains, Option, Some, None, ◌⊎◌, ⊎_elim, inl, inr, refl, sym, ap, ◌∙◌, true≢false, arith}
 use Rattle.std.specs.Option.{option_map}
 use Rattle.std.specs.Bool.{Decides}
 use Rattle.std.specs.Str.{bytes_eq}
@@ -125,7 +125,7 @@ named_of_unknown file cut word unknown =
     ⊎_elim (λ none. none) (λ (node, some). absurd (not_both file cut word node unknown (node_of_named file cut word node some))) (some_or_none NodeName (named file cut word))
 
 distinct_map : (file : SpefText) (head : HeadText) → IsHeadOf file head → AreDistinct (indices_of file file.reading.head.map)
-distinct_map file head of_file = subst (λ (xs : List (List ℕ)). AreDistinct xs) of_file.indices of_file.distinct
+distinct_map file head of_file = of_file.distinct
 
 -- where no index stands twice, what the word names is what is computed
 pub named_of_node : (file : SpefText) (head : HeadText) (cut : Bool) (word : List ℕ) (node : NodeName) → IsHeadOf file head → IsNodeOf file cut word node → named file cut word ≡ Some node

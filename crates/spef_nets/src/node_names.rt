@@ -48,7 +48,7 @@ impl<'s, 'f> NodeNames<'s, 'f> {
         requires within { node < length self.now.tokens.now }
         ensures { IfOk result (IsKeyOf (nodes_at self.now.file.now self.now.tokens.now) node) }
     {
-        match self.head.written(self.file, self.tokens[node] as u64) {
+        match self.head.written(self.file, self.tokens[node] as u64, true) {
             Some(name) => Ok(NodeKey::of_written(name)),
             None => NodeKey::of(alloc, self.name(alloc, node)?),
         }
@@ -60,7 +60,7 @@ impl<'s, 'f> NodeNames<'s, 'f> {
         requires within { node < length self.now.tokens.now }
         ensures { IfOk result (IsSdfAt (nodes_at self.now.file.now self.now.tokens.now) node) }
     {
-        match self.head.written(self.file, self.tokens[node] as u64) {
+        match self.head.written(self.file, self.tokens[node] as u64, true) {
             Some(name) => name.sdf(alloc),
             None => Ok(self.name(alloc, node)?.sdf),
         }

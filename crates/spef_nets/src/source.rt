@@ -48,6 +48,18 @@ impl<'r, 'f> Source<'r, 'f> {
         ensures ok { IfOk result (λ net. net_at self.now.file.now token ≡ Some net) }
         ensures err { IfErr result (IsUnless (IsUnknownAt self.now.file.now token)) }
     {
+        match self.head.written(self.file, token, false) {
+            Some(name) => Ok(Text::from_bytes(self.alloc, name.head)?),
+            None => self.named_net(token),
+        }
+    }
+
+    // The same by the name of its node.
+    fn named_net(&self, token: u64) -> Result<Text, SectionEnd>
+        requires { IsHeadOf self.now.file.now self.now.head.now }
+        ensures ok { IfOk result (λ net. net_at self.now.file.now token ≡ Some net) }
+        ensures err { IfErr result (IsUnless (IsUnknownAt self.now.file.now token)) }
+    {
         match self.name_at(token, false)? {
             Some(node) => Ok(node.head),
             None => Err(SectionEnd::UnknownIndex { token }),
@@ -59,7 +71,7 @@ impl<'r, 'f> Source<'r, 'f> {
         requires { IsHeadOf self.now.file.now self.now.head.now }
         ensures { IfOk result (IsKeyAt self.now.file.now token) }
     {
-        match self.head.written(self.file, token) {
+        match self.head.written(self.file, token, true) {
             Some(name) => Ok(Some(NodeKey::of_written(name))),
             None => self.named_key(token),
         }

@@ -1,24 +1,32 @@
 -- From what the reader makes of the tokens to what is told of the bytes.
 use Rattle.std.proofs.Common.{◌≡◌, ℕ, ◌+◌, ◌-◌, ◌<◌, ◌≤◌, List, ◌∷◌, length, Ok, Err, refl, sym, ap, ◌∙◌, subst, arith}
-use Rattle.std.specs.Prelude.{⊤, slice_get}
+use Rattle.std.specs.Prelude.{⊤, ◌^◌, slice_get}
 use Rattle.std.proofs.lemmas.List.{length-drop}
 use Rattle.token_fronts.specs.Machine.{Stop, outcome}
 use Rattle.token_fronts.specs.Stopping.{stopped}
 use Rattle.token_fronts.specs.ReadingLaw.{makes_said, leaves_where_stopped, one_reading, one_leaving}
 use Rattle.token_texts.specs.Cuts.{Part, AreParts, no_part, and_gap, and_token, IsWithin}
+use Rattle.token_texts.specs.Readings.{MakesParts, StopsParts, IfRefused}
+use Rattle.token_texts.specs.declared.reading.ReadEnd.{ReadEnd}
+use Rattle.token_texts.specs.declared.reading.ReadEnd.TheVariants.{Refused}
 use Rattle.spef_text.specs.Tokens.{cut_at, texts_of, AreTokens, IsToken}
+use Rattle.spef_text.specs.Starts.{texts}
 use Rattle.spef_text.specs.Grammar.{IsSpef}
 use Rattle.spef_text.specs.Entries.{Reading}
 use Rattle.spef_text.specs.Modes.{State, first_state, next, finish}
-use Rattle.spef_text.specs.SpefFiles.{SaysSpef, LeavesSpef, Reads, IsDead, IsRefusalAt, HasForm}
+use Rattle.spef_text.specs.ReaderStates.{reading_of}
+use Rattle.spef_text.specs.SpefFiles.{SpefText, SaysSpef, LeavesSpef, IsKept, Reads, IsDead, IsRefusalAt, HasForm}
+use Rattle.spef_text.specs.Leading.{Stops, Makes}
+use Rattle.spef_text.specs.declared.reader.Reader.{Reader}
 use Rattle.spef_text.specs.declared.parsing.SpefEnd.{SpefEnd}
 use Rattle.spef_text.specs.declared.parsing.SpefEnd.TheVariants.{Syntax, Form, OutOfMemory}
 use Rattle.token_texts.specs.declared.cuts.Cut.{Cut}
 use Rattle.token_texts.specs.declared.cuts.Cut.TheVariants.{Take}
 use Rattle.spef_text.specs.declared.scan.Kind.{Kind}
-use Rattle.spef_text.proofs.Cutting.{cut_within}
+use Rattle.spef_text.specs.Within.{cut_within}
 use Rattle.spef_text.proofs.Scanning.{one_tokens}
 use Rattle.spef_text.proofs.Fitting.{fits}
+use Rattle.spef_text.proofs.Starting.{texts_there}
 
 few_parts : {bytes : List ℕ} {parts : List (Part Kind)} → AreParts cut_at bytes parts → length (texts_of parts) ≤ length bytes
 few_parts no_part = omega arith
@@ -80,3 +88,46 @@ one_spef = one_reading AreTokens IsToken IsSpef next finish first_state fits one
 
 pub one_dead : (bytes : List ℕ) (one other : ℕ) → LeavesSpef bytes one → LeavesSpef bytes other → one ≡ other
 one_dead = one_leaving AreTokens IsToken IsSpef next finish first_state fits one_parting
+
+-- ---- what the loop over the tokens answers
+
+abbrev pub text_of_reader : List ℕ → Reader → SpefText
+text_of_reader bytes reader = record { texts = texts bytes reader.starts.items; reading = reading_of reader }
+
+module _ {bytes : List ℕ} {reader : Reader} (h : MakesParts cut_at Makes bytes reader) where
+  -- the tokens that begin where the reader says are those of the bytes
+  parted_there : AreTokens bytes (texts bytes reader.starts.items)
+  parted_there = record { parts = h.parts; parted = h.parted; are = ap (texts bytes) h.made.starts ∙ texts_there bytes 0 h.parted refl }
+
+  made_there : outcome next finish first_state 1 (texts bytes reader.starts.items) ≡ Ok (reading_of reader)
+  unfolding parted_there
+  made_there = subst (λ (l : List (List ℕ)). outcome next finish first_state 1 l ≡ Ok (reading_of reader)) (sym parted_there.are) h.made.reading
+
+  pub reads_there : Reads bytes (text_of_reader bytes reader)
+  reads_there = reads bytes (texts bytes reader.starts.items) parted_there (reading_of reader) made_there
+
+  pub only_there : (other : Reading) → SaysSpef bytes other → reading_of reader ≡ other
+  only_there other says = no_other bytes (texts bytes reader.starts.items) parted_there (reading_of reader) other made_there says
+
+  pub kept_there : length bytes < 2 ^ 30 → IsKept (text_of_reader bytes reader)
+  kept_there small = record { formed = reads_there.formed; few = let few = few_tokens parted_there in omega (arith, few, small) }
+
+module _ {bytes : List ℕ} {number start : ℕ} {end : SpefEnd} (h : StopsParts cut_at Stops bytes number start end) where
+  here : AreTokens bytes (texts_of h.parts)
+  here = record { parts = h.parts; parted = h.parted; are = refl }
+
+  stop_there : (stop : Stop State ⊤) × (outcome next finish first_state 1 (texts_of h.parts) ≡ Err stop) × (number ≡ stop.number)
+  stop_there = (record { number = number; state = h.stops.stops.0; cause = tt }, h.stops.stops.1, refl)
+
+  pub dead_there : IsDead bytes end
+  dead_there = is_dead bytes (texts_of h.parts) here number stop_there end h.stops.refusal
+
+  pub form_there : HasForm bytes end
+  form_there = has_form bytes (texts_of h.parts) here number stop_there end h.stops.refusal
+
+  pub nothing_there : (reading : Reading) → SaysSpef bytes reading → ⊥
+  nothing_there reading says = says_nothing bytes (texts_of h.parts) here number stop_there reading says
+
+pub if_dead : {bytes : List ℕ} {number start : ℕ} {end : SpefEnd} (answer : ReadEnd SpefEnd) → answer ≡ Refused number start end
+    → IfRefused {A = Reader} (Err answer) (StopsParts cut_at Stops bytes) → StopsParts cut_at Stops bytes number start end
+if_dead {bytes} answer is h = subst (λ (e : ReadEnd SpefEnd). IfRefused {A = Reader} (Err e) (StopsParts cut_at Stops bytes)) is h

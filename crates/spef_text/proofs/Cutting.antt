@@ -1,19 +1,18 @@
 -- What stands at the front of some bytes, by their first byte.
-use Rattle.std.proofs.Common.{◌≡◌, ℕ, ◌+◌, ◌<◌, Bool, true, false, cond, ◌&&◌, ◌==◌, List, [], ◌∷◌, length, drop, Option, Some, None, position, refl, ap, arith}
-use Rattle.std.specs.Prelude.{slice_index}
-use Rattle.std.proofs.lemmas.List.Quantifiers.{position-Some}
+use Rattle.std.proofs.Common.{◌≡◌, ℕ, ◌+◌, ◌<◌, Bool, true, false, not, ◌||◌, ◌==◌, List, [], ◌∷◌, length, drop, get_or, position, refl, sym, ap, ◌∙◌, subst, true≢false, arith}
 use Rattle.edge_io.specs.Bytes.{quote, star, slash, backslash, begins_with}
 use Rattle.token_texts.specs.Blanks.{is_blank}
 use Rattle.token_texts.specs.Comments.{line_length, comment_cut}
-use Rattle.token_texts.specs.CommentLemmas.{line_within, comment_within}
-use Rattle.token_texts.specs.RunLemmas.{escaped_within}
+use Rattle.spef_text.specs.Tokens.{is_backslash, ends_text, is_marked, is_solid, text_cut, run_length, cut_at}
+use Rattle.spef_text.specs.Starts.{front_cut}
 use Rattle.token_texts.specs.Cuts.{IsWithin}
-use Rattle.spef_text.specs.Tokens.{is_quote, is_backslash, ends_text, is_nothing, is_solid, text_cut, run_length, cut_at}
 use Rattle.token_texts.specs.declared.cuts.Cut.{Cut}
 use Rattle.token_texts.specs.declared.cuts.Cut.TheVariants.{Skip, Take}
 use Rattle.spef_text.specs.declared.scan.Kind.{Kind}
 use Rattle.spef_text.specs.declared.scan.Kind.TheVariants.{Whole, Broken}
-use Rattle.spef_text.proofs.Runs.{run_plain, run_taking, run_from}
+use Rattle.token_texts.specs.RunLemmas.{EscapedSoFar, escaped_stops}
+use Rattle.spef_text.specs.Within.{run_plain, run_taking, cut_within}
+use Rattle.spef_text.proofs.Runs.{run_goes_far}
 
 pub cut_blank : (first : ℕ) (rest : List ℕ) → is_blank first ≡ true → cut_at first rest ≡ Skip 1
 unfolding cut_at
@@ -49,44 +48,31 @@ pub cut_run : (first : ℕ) (rest : List ℕ) → is_blank first ≡ false → (
 unfolding cut_at
 cut_run first rest p q r s = simp (p, q, r, s) (ap (λ n. Take n Whole) (run_plain first rest s p))
 
-text_within : (rest : List ℕ) (end : Option ℕ) → ((i : ℕ) → end ≡ Some i → i < length rest)
-    → IsWithin (length rest + 1) (text_cut rest end)
-text_within rest None below = (omega arith, omega arith)
-text_within rest (Some place) below =
-    let lt = below place refl in
-    elim (is_quote (slice_index rest place))
-    as (λ t. IsWithin (length rest + 1) (cond t (Take (place + 2) Whole) (Take (length rest + 1) Broken)))
-    [ true ↦ (omega arith, omega arith) | false ↦ (omega arith, omega arith) ]
-
-second : (s t : Bool) → s && t ≡ true → t ≡ true
-second true t h = h
-second false t h = absurd (cc)
-
--- a cut of a first byte and those behind it
-abbrev Fits : List ℕ → Cut Kind → Type 0
-Fits rest cut = IsWithin (length rest + 1) cut
-
--- what stands at the front has a byte, and none past the end
-pub cut_within : (first : ℕ) (rest : List ℕ) → IsWithin (length rest + 1) (cut_at first rest)
-unfolding cut_at
-cut_within first rest =
-    by (is_blank first) (is_quote first) (first == slash && begins_with slash rest) (first == slash && begins_with star rest) (is_backslash first && is_nothing rest)
-    (text_within rest (position ends_text rest) (λ i e. (position-Some ends_text rest i 0 e).0))
-    (line_within rest)
-    (λ h. comment_within Broken slash rest (second (first == slash) (begins_with star rest) h))
-    (λ p q. let all = escaped_within is_solid (first ∷ rest) in (run_from first rest p q, omega arith))
+-- what begins with no blank and no mark is a run
+pub cut_plain : (first : ℕ) (rest : List ℕ) → is_blank first ≡ false → is_marked first ≡ false → cut_at first rest ≡ Take (run_length rest + 1) Whole
+cut_plain first rest p none = by (first == quote) (first == slash) (first == backslash) refl refl refl none
   where
-    by : (blank quoted line comment last : Bool)
-        → Fits rest (text_cut rest (position ends_text rest))
-        → Fits rest (Skip (line_length rest))
-        → (comment ≡ true → Fits rest (comment_cut slash Broken (drop 1 rest)))
-        → (blank ≡ false → last ≡ false → Fits rest (Take (run_length (first ∷ rest)) Whole))
-        → Fits rest (cond blank (Skip 1) (cond quoted (text_cut rest (position ends_text rest)) (cond line (Skip (line_length rest))
-        (cond comment (comment_cut slash Broken (drop 1 rest))
-        (cond last (Take (length rest + 1) Broken) (Take (run_length (first ∷ rest)) Whole))))))
-    by true quoted line comment last text whole inside run = (omega arith, omega arith)
-    by false true line comment last text whole inside run = text
-    by false false true comment last text whole inside run = whole
-    by false false false true last text whole inside run = inside refl
-    by false false false false true text whole inside run = (omega arith, omega arith)
-    by false false false false false text whole inside run = run refl refl
+    by : (text cut taken : Bool) → (first == quote) ≡ text → (first == slash) ≡ cut → (first == backslash) ≡ taken → text || (cut || taken) ≡ false
+        → cut_at first rest ≡ Take (run_length rest + 1) Whole
+    by false false false q r s none = cut_run first rest p q r s
+    by true cut taken q r s none = absurd (cc)
+    by false true taken q r s none = absurd (cc)
+    by false false true q r s none = absurd (cc)
+
+-- a run of plain bytes that a blank ends
+pub short_cut : (bytes : List ℕ) (n : ℕ) → 0 < n → n < length bytes
+    → ((k : ℕ) → k < n → (is_blank (get_or bytes (0 + k) 0) ≡ false) × (is_backslash (get_or bytes (0 + k) 0) ≡ false))
+    → is_marked (get_or bytes 0 0) ≡ false → is_blank (get_or bytes n 0) ≡ true → front_cut bytes ≡ Take n Whole
+short_cut [] n some below plain none blank = absurd (omega arith)
+short_cut (first ∷ rest) n some below plain none blank =
+    let begun : EscapedSoFar is_solid (first ∷ rest) 0 = record { within = omega arith; so_far = omega arith } in
+    let far : EscapedSoFar is_solid (first ∷ rest) n = subst (EscapedSoFar is_solid (first ∷ rest)) (omega arith) (run_goes_far (first ∷ rest) 0 n begun (omega arith) plain) in
+    let size = escaped_stops is_solid (first ∷ rest) n far below (λ e. true≢false (sym blank ∙ ap is_blank e)) (ap not blank) in
+    cut_plain first rest (plain 0 some).0 none ∙ ap (λ k. Take k Whole) (sym (run_plain first rest (plain 0 some).1 (plain 0 some).0) ∙ sym size)
+
+-- a cut has a byte, and none past the end
+pub cut_within_bytes : (bytes : List ℕ) (first : ℕ) (rest : List ℕ) (cut : Cut Kind) → bytes ≡ first ∷ rest → cut ≡ cut_at first rest
+    → IsWithin (length bytes) cut
+cut_within_bytes bytes first rest cut parts is =
+    let size : length rest + 1 ≡ length bytes = let e = ap length parts in omega arith in
+    subst (λ (c : Cut Kind). IsWithin (length bytes) c) (sym is) (subst (λ (n : ℕ). IsWithin n (cut_at first rest)) size (cut_within first rest))

@@ -53,7 +53,7 @@ stands_twice : (file : SpefText) (token : ℕ) → IsRepeatedAt file token → A
 stands_twice file token is distinct = not_twice file file.reading.head.map is.place is.entry is.stands is.again distinct
 
 of_map : (file : SpefText) (head : HeadText) → IsHeadOf file head → AreDistinct (indices_of file file.reading.head.map)
-of_map file head of_file = subst (λ (xs : List (List ℕ)). AreDistinct xs) of_file.indices of_file.distinct
+of_map file head of_file = of_file.distinct
 
 pub only_want : (file : SpefText) (end : HeadEnd) (head : HeadText) → IsRepeat file end → IsHeadOf file head → end ≡ OutOfMemory
 only_want file (BadUnit token) head is of_file = absurd is

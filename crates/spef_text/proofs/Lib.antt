@@ -5,7 +5,9 @@ pub mod LaneLemmas
 pub mod Parting
 pub mod Runs
 pub mod Samples
+pub mod Starting
 pub mod Scanning
+pub mod SoFar
 pub mod Living
 pub mod Overlaps
 pub mod Taking

@@ -82,12 +82,12 @@ names_nothing file cut word node unknown (plain p is) = true≢false (sym unknow
 names_nothing file cut word node unknown (mapped name p has is) = unknown.unmapped name has
 
 -- a word whose index stands for a name, where the parts of the node stand as they are written
-pub written_named : (file : SpefText) (word text index name : List ℕ) (end : Option ℕ) (result : Option WrittenName) → word ≡ text → is_starred word ≡ true
+pub written_named : (file : SpefText) (cut : Bool) (word text index name : List ℕ) (end : Option ℕ) (result : Option WrittenName) → word ≡ text → is_starred word ≡ true
     → end ≡ index_end file.reading.head.marks.delimiter word → index ≡ before end word → IsMapped file (index_digits index) name
-    → IfSome result (IsWritten (mapped_node (marks_of file) true name word end)) → IfSome result (NamesAsWritten file text)
-written_named file word text index name end None w starred e i has is = is
-written_named file word text index name end (Some written) w starred e i has is = record {
-  node = mapped_node (marks_of file) true name word end;
-  names = mapped_named file true word text index name end (mapped_node (marks_of file) true name word end) w starred e i has refl;
+    → IfSome result (IsWritten (mapped_node (marks_of file) cut name word end)) → IfSome result (NamesAsWritten file cut text)
+written_named file cut word text index name end None w starred e i has is = is
+written_named file cut word text index name end (Some written) w starred e i has is = record {
+  node = mapped_node (marks_of file) cut name word end;
+  names = mapped_named file cut word text index name end (mapped_node (marks_of file) cut name word end) w starred e i has refl;
   written = is;
 }

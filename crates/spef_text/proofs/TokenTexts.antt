@@ -15,7 +15,7 @@ use Rattle.token_texts.specs.declared.cuts.Cut.{Cut}
 use Rattle.token_texts.specs.declared.cuts.Cut.TheVariants.{Skip, Take}
 use Rattle.spef_text.specs.declared.scan.Kind.{Kind}
 use Rattle.spef_text.specs.declared.scan.Kind.TheVariants.{Whole, Broken}
-use Rattle.spef_text.proofs.Runs.{run_taking, run_from}
+use Rattle.spef_text.specs.Within.{run_taking, run_from}
 
 text_whole : (rest : List ℕ) (place : ℕ) → position ends_text rest ≡ Some place → position ends_text (take (place + 1) rest) ≡ Some place
 text_whole rest place e =

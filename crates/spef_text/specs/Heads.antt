@@ -1,4 +1,4 @@
--- What the head of a SPEF file (IEEE 1481) says: the design's name, the units, and the indices of the name map.
+-- What the head of a SPEF file (IEEE 1481) says: the design's name and the units. No index stands twice in its name map.
 use Rattle.std.specs.Prelude.{◌≡◌, ◌≢◌, ℕ, ◌+◌, ◌-◌, ◌<◌, ◌==◌, ◌⊎◌, pos, if◌then◌else◌, List, [], ◌∷◌, length, take, map, slice_get, slice_index_or, AllPairs, Contains, Option, Some, None, ⊤}
 use Rattle.delay_units.specs.declared.numbers.Unit.{Unit}
 use Rattle.name_table.specs.Names.{AreDistinct}
@@ -16,8 +16,6 @@ pub record HeadText : Type 0 where
   pub design : List ℕ
   pub cap_unit : Unit
   pub res_unit : Unit
-  -- the digits of the map's indices, in the order of its entries
-  pub indices : List (List ℕ)
 
 -- the text of a token, which counts from 1; no text is that of a number of none
 abbrev pub text_of : SpefText → ℕ → List ℕ
@@ -68,8 +66,8 @@ pub record IsHeadOf (file : SpefText) (head : HeadText) : Type 0 where
   pub design : head.design ≡ design_at file file.reading.head.design
   pub cap_unit : IsCapUnit file head.cap_unit
   pub res_unit : IsResUnit file head.res_unit
-  pub indices : head.indices ≡ indices_of file file.reading.head.map
-  pub distinct : AreDistinct head.indices
+  -- no index stands twice in the name map
+  pub distinct : AreDistinct (indices_of file file.reading.head.map)
 
 -- the first entry of the map whose index stands before it already, by its token
 pub record IsRepeatedAt (file : SpefText) (token : ℕ) : Type 0 where

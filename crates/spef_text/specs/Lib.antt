@@ -1,12 +1,14 @@
 pub mod Classes
-pub mod Spans
 pub mod Tokens
+pub mod Starts
+pub mod Within
 pub mod Entries
 pub mod Grammar
 pub mod Modes
 pub mod SectionTable
 pub mod ReaderStates
 pub mod SpefFiles
+pub mod Leading
 pub mod TokenTexts
 pub mod Units
 pub mod Heads

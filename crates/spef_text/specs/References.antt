@@ -61,9 +61,9 @@ pub data IsNodeOf (file : SpefText) (cut : Bool) (word : List ℕ) (node : NodeN
       → IsNodeOf file cut word node
 
 -- the word names a node whose head and tail stand in the file as they are written
-pub record NamesAsWritten (file : SpefText) (word : List ℕ) (name : WrittenName) : Type 0 where
+pub record NamesAsWritten (file : SpefText) (cut : Bool) (word : List ℕ) (name : WrittenName) : Type 0 where
   pub node : NodeName
-  pub names : IsNodeOf file true word node
+  pub names : IsNodeOf file cut word node
   pub written : IsWritten node name
 
 -- the word begins with an index that the map does not have

@@ -60,6 +60,12 @@ IsRefusalAt texts number (Syntax token) = (token ≡ number)
 IsRefusalAt texts number (Form word token) = (token ≡ number) × (slice_get texts (number - 1) ≡ Some word) × (is_refused word ≡ true)
 IsRefusalAt texts number OutOfMemory = ⊤
 
+-- the refusal of a token of this number and text
+abbrev pub IsRefusalOf : List ℕ → ℕ → SpefEnd → Type 0
+IsRefusalOf text number (Syntax token) = (token ≡ number) × (is_refused text ≡ false)
+IsRefusalOf text number (Form word token) = (token ≡ number) × (word ≡ text) × (is_refused word ≡ true)
+IsRefusalOf text number OutOfMemory = ⊤
+
 abbrev pub HasForm : List ℕ → SpefEnd → Type 0
 HasForm bytes (Syntax token) = (texts : List (List ℕ)) → AreTokens bytes texts → IsRefusalAt texts token (Syntax token)
 HasForm bytes (Form word token) = (texts : List (List ℕ)) → AreTokens bytes texts → IsRefusalAt texts token (Form word token)

@@ -1,20 +1,20 @@
 //! A SPEF file that has been read.
 ghost use Rattle.std.specs.Prelude.{◌≡◌, ◌-◌, ◌^◌, ◌<◌, ◌≤◌, length, slice_get, Some};
-ghost use Rattle.spef_text.specs.Spans.{texts};
+ghost use Rattle.spef_text.specs.Starts.{texts};
 ghost use Rattle.spef_text.specs.Entries.{section_at};
 ghost use Rattle.spef_text.specs.SpefFiles.{SpefText, IsFormed, IsKept};
 
 use crate::entries::{Cap, Conn, Res};
 use crate::head_items::HeadItems;
 use crate::sections::Sections;
+use crate::starts::token_at;
 use std::marker::Model;
-use token_texts::Span;
 
 /// A SPEF file: its tokens, and what they say by the grammar. Contracts see the texts of the tokens, and the reading.
 #[derive(Drop)]
 pub struct SpefFile<'a> {
     pub(crate) bytes: &'a [u8],
-    pub(crate) spans: Vec<Span>,
+    pub(crate) starts: Vec<u32>,
     pub(crate) head: HeadItems,
     pub(crate) sections: Sections,
 }
@@ -23,13 +23,14 @@ impl<'a> Model for SpefFile<'a> {
     ghost Value = { SpefText };
 
     ghost view = { λ f. record {
-      texts = texts f.bytes.now f.spans.items;
+      texts = texts f.bytes.now f.starts.items;
       reading = record { head = f.head; sections = f.sections.done };
     } };
 
-    // what is kept is what the tokens say, and they are few
+    // what is kept is what the tokens say, they are few, and so are the bytes
     ghost invariant = { λ f. IsKept
-        (record { texts = texts f.bytes.now f.spans.items; reading = record { head = f.head; sections = f.sections.done } }) };
+        (record { texts = texts f.bytes.now f.starts.items; reading = record { head = f.head; sections = f.sections.done } })
+        × (length f.bytes.now < 2 ^ 30) };
 }
 
 impl<'a> SpefFile<'a> {
@@ -39,7 +40,7 @@ impl<'a> SpefFile<'a> {
         requires last { t ≤ length self.now.texts }
         ensures { slice_get self.now.texts (t - 1) ≡ Some result.now }
     {
-        self.spans[t as usize - 1].of(self.bytes)
+        token_at(self.bytes, self.starts[t as usize - 1])
     }
 
     /// The law of files, which its contract states: a file says what its tokens say by the grammar, has fewer than 2^30 of them,

@@ -3,6 +3,7 @@ ghost use Rattle.std.specs.Prelude.{◌≡◌};
 ghost use Rattle.spef_text.specs.Heads.{text_of};
 
 use crate::file::SpefFile;
+use crate::starts::token_at;
 
 impl<'a> SpefFile<'a> {
     /// The text of a token, as `token` gives it, or nothing where the file has no such token. Tokens count from 1.
@@ -12,8 +13,8 @@ impl<'a> SpefFile<'a> {
         if number == 0 {
             return &[];
         }
-        match self.spans.get(number as usize - 1) {
-            Some(span) => span.of(self.bytes),
+        match self.starts.get(number as usize - 1) {
+            Some(start) => token_at(self.bytes, *start),
             None => &[],
         }
     }

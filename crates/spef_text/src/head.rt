@@ -4,27 +4,26 @@ ghost use Rattle.spef_text.specs.Heads.{HeadText, unquoted, design_at, IsUnitAt,
 
 use crate::file::SpefFile;
 use crate::head_ends::HeadEnd;
-use crate::name_map::read_indices;
+use crate::name_map::{Places, read_places};
 use crate::units::Quantity;
 use delay_units::{Farads, Unit};
 use edge_io::{OutOfMemory, Text};
-use name_table::Names;
 use std::alloc::Global;
 use std::marker::Model;
 
-/// The head of a SPEF file. The names of the map stay in the file; their indices are here, each once.
+/// The head of a SPEF file. The name map stays in the file; here is where its entries are looked for.
 #[derive(Drop)]
 pub struct Head {
     pub(crate) design: Text,
     pub(crate) cap_unit: Unit,
     pub(crate) res_unit: Unit,
-    pub(crate) indices: Names,
+    pub(crate) places: Places,
 }
 
 impl Model for Head {
     ghost Value = { HeadText };
 
-    ghost view = { λ h. record { design = h.design; cap_unit = h.cap_unit; res_unit = h.res_unit; indices = h.indices } };
+    ghost view = { λ h. record { design = h.design; cap_unit = h.cap_unit; res_unit = h.res_unit } };
 }
 
 impl Head {
@@ -99,7 +98,7 @@ fn design_of(alloc: Global, file: &SpefFile) -> Result<Text, OutOfMemory>
 }
 
 /// Reads the head of a file (IEEE 1481): of several items that say one thing the last counts. It takes one pass over the
-/// name map, with one look-up for each of its entries.
+/// name map, and, where its indices do not rise from entry to entry, another with one look-up for each of them.
 ///
 /// `BadUnit` comes exactly where a unit that counts is bad, by its number's token, or is missing while the file has a net,
 /// with the token 0; the unit of capacitances comes first. Then `RepeatedIndex` comes exactly where an index stands twice in
@@ -120,8 +119,8 @@ pub fn read_head(alloc: Global, file: &SpefFile) -> Result<Head, HeadEnd>
         Ok(unit) => unit,
         Err(token) => return Err(HeadEnd::BadUnit { token }),
     };
-    let indices = match read_indices(alloc, file) {
-        Ok(indices) => indices,
+    let places = match read_places(alloc, file) {
+        Ok(places) => places,
         Err(end) => return Err(end),
     };
     match design_of(alloc, file) {
@@ -129,7 +128,7 @@ pub fn read_head(alloc: Global, file: &SpefFile) -> Result<Head, HeadEnd>
             design,
             cap_unit,
             res_unit,
-            indices,
+            places,
         }),
         Err(_) => Err(HeadEnd::OutOfMemory),
     }

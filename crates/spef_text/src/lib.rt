@@ -20,6 +20,7 @@ mod reader;
 mod references;
 mod scan;
 mod sections;
+mod starts;
 mod units;
 mod words;
 

@@ -1,17 +1,15 @@
 //! Reads a SPEF file, or tells at which token it is none.
-ghost use Rattle.std.specs.Prelude.{◌≡◌, ◌-◌, ◌^◌, ◌<◌, ◌≤◌, length, slice_get, IfOk, IfErr, MatchResult};
-ghost use Rattle.spef_text.specs.Spans.{texts};
+ghost use Rattle.std.specs.Prelude.{◌≡◌, ◌^◌, ◌<◌, length, IfOk, IfErr, MatchResult};
 ghost use Rattle.spef_text.specs.Classes.{word_of};
 ghost use Rattle.spef_text.specs.Entries.{Reading};
-ghost use Rattle.spef_text.specs.SpefFiles.{Reads, SaysSpef, IsDead, HasForm, is_refused_word, is_refused, IsRefusalAt};
+ghost use Rattle.spef_text.specs.SpefFiles.{Reads, SaysSpef, IsDead, HasForm, is_refused_word, IsRefusalOf};
 
 use crate::file::SpefFile;
-use crate::reader::{ReadEnd, read};
-use crate::scan::scan;
+use crate::reader::Reader;
 use crate::words::{Word, word_of};
 use edge_io::{OutOfMemory, Text};
 use std::alloc::Global;
-use token_texts::Span;
+use token_texts::{ReadEnd, read_tokens};
 
 /// Why a file is not read. Tokens count from 1, comments and blanks left out.
 #[derive(Debug, Drop)]
@@ -33,16 +31,10 @@ fn is_refused_word(word: Option<Word>) -> bool
     matches!(word, Some(Word::Refused | Word::Induc))
 }
 
-/// The refusal at the token of this number.
-fn refusal(alloc: Global, bytes: &[u8], spans: &[Span], number: u32) -> SpefEnd
-    requires { 0 < number }
-    ensures { IsRefusalAt (texts bytes.now spans.now) number result }
+/// The refusal of a token of this number and text.
+pub(crate) fn refusal(alloc: Global, token: u64, text: &[u8]) -> SpefEnd
+    ensures { IsRefusalOf text.now token result }
 {
-    let token = number as u64;
-    let Some(span) = spans.get(number as usize - 1) else {
-        return SpefEnd::Syntax { token };
-    };
-    let text = span.of(bytes);
     if !is_refused_word(word_of(text)) {
         return SpefEnd::Syntax { token };
     }
@@ -52,7 +44,7 @@ fn refusal(alloc: Global, bytes: &[u8], spans: &[Span], number: u32) -> SpefEnd
     }
 }
 
-/// Reads the bytes of a SPEF file (IEEE 1481), in one pass over the bytes and one over the tokens.
+/// Reads the bytes of a SPEF file (IEEE 1481), in one pass.
 ///
 /// `Syntax` and `Form` come exactly where the bytes are no text of the grammar; their token is the first with which no text
 /// of the grammar begins.
@@ -68,18 +60,14 @@ pub fn parse(alloc: Global, bytes: &[u8]) -> Result<SpefFile<'_>, SpefEnd>
     ensures only { (reading : Reading) → SaysSpef bytes.now reading
         → MatchResult result (λ file. file.reading ≡ reading) (λ end. end ≡ SpefEnd.OutOfMemory) }
 {
-    let spans = match scan(alloc, bytes) {
-        Ok(spans) => spans,
-        Err(_) => return Err(SpefEnd::OutOfMemory),
-    };
-    match read(alloc, bytes, spans.as_slice()) {
+    match read_tokens(Reader::new(alloc), bytes) {
         Ok(reader) => Ok(SpefFile {
             bytes,
-            spans,
+            starts: reader.starts,
             head: reader.head,
             sections: reader.sections,
         }),
-        Err(ReadEnd::Refused(number)) => Err(refusal(alloc, bytes, spans.as_slice(), number)),
+        Err(ReadEnd::Refused(_, _, end)) => Err(end),
         Err(ReadEnd::OutOfMemory) => Err(SpefEnd::OutOfMemory),
     }
 }

@@ -1,47 +1,50 @@
 //! The reader: takes one token after another.
-ghost use Rattle.std.specs.Prelude.{◌≡◌, ℕ, ◌^◌, ◌<◌, length, IfOk};
-ghost use Rattle.spef_text.specs.Spans.{texts};
+ghost use Rattle.std.specs.Prelude.{◌≡◌, ℕ, [], ⊤, IfOk};
 ghost use Rattle.spef_text.specs.Modes.{first_state, next_mode};
-ghost use Rattle.spef_text.specs.ReaderStates.{state_of, Steps, Makes};
+ghost use Rattle.spef_text.specs.ReaderStates.{state_of, Steps};
+ghost use Rattle.spef_text.specs.Tokens.{cut_at};
+ghost use Rattle.spef_text.specs.Within.{cut_within};
+ghost use Rattle.spef_text.specs.Leading.{Leads, Stops, Makes};
 
 use crate::head_items::HeadItems;
 use crate::modes::{Mode, Step};
+use crate::parsing::{SpefEnd, refusal};
+use crate::scan::{Kind, cut_at};
 use crate::sections::Sections;
 use edge_io::OutOfMemory;
+use edge_io::lists::push;
 use std::alloc::Global;
-use token_texts::Span;
+use token_texts::{Cut, TokenReader};
 
-/// Why the reader stops.
-#[derive(Clone, Copy)]
-pub enum ReadEnd {
-    /// It cannot take the token of this number, or, one past the last, the file cannot end there.
-    Refused(u32),
-    OutOfMemory,
-}
-
-/// What is waited for, and what has been read.
+/// What is waited for, what has been read, and where each token begins.
 #[derive(Drop)]
 pub struct Reader {
     pub mode: Mode,
+    pub starts: Vec<u32>,
     pub head: HeadItems,
     pub sections: Sections,
+    pub alloc: Global,
 }
 
 impl Reader {
     /// Before the first token.
-    fn new(alloc: Global) -> Reader
-        ensures { state_of result ≡ first_state }
+    pub(crate) fn new(alloc: Global) -> Reader
+        ensures state { state_of result ≡ first_state }
+        ensures starts { result.starts.items ≡ [] }
     {
         Reader {
             mode: Mode::Start,
+            starts: Vec::new(alloc),
             head: HeadItems::new(alloc),
             sections: Sections::new(alloc),
+            alloc,
         }
     }
 
     /// Does what the step says, if it is no refusal.
     fn step(&mut self, step: &Step) -> Result<bool, OutOfMemory>
-        ensures { IfOk result (Steps (state_of self.old) (state_of self.new) step.now) }
+        ensures state { IfOk result (Steps (state_of self.old) (state_of self.new) step.now) }
+        ensures starts { self.new.starts ≡ self.old.starts }
     {
         match *step {
             Step::Refuse => return Ok(false),
@@ -78,32 +81,64 @@ impl Reader {
     }
 
     /// Takes the token of this number, and tells whether it can stand here.
-    fn take(&mut self, number: u32, text: &[u8]) -> Result<bool, OutOfMemory>
-        ensures { IfOk result (Steps (state_of self.old) (state_of self.new)
+    fn take_token(&mut self, number: u32, text: &[u8]) -> Result<bool, OutOfMemory>
+        ensures state { IfOk result (Steps (state_of self.old) (state_of self.new)
             (next_mode self.old.mode self.old.head.marks.delimiter number text.now)) }
+        ensures starts { self.new.starts ≡ self.old.starts }
     {
         let step = self.mode.next(self.head.delimiter(), number, text);
         self.step(&step)
     }
 }
 
-/// Reads the tokens.
-pub fn read(alloc: Global, bytes: &[u8], spans: &[Span]) -> Result<Reader, ReadEnd>
-    requires { length spans.now < 2 ^ 30 }
-    ensures { Makes (texts bytes.now spans.now) result }
-{
-    let mut reader = Reader::new(alloc);
-    for (index, span) in spans.iter().enumerate() {
-        let number = index as u32 + 1;
-        match reader.take(number, span.of(bytes)) {
-            Ok(true) => {}
-            Ok(false) => return Err(ReadEnd::Refused(number)),
-            Err(_) => return Err(ReadEnd::OutOfMemory),
+impl TokenReader for Reader {
+    type Kind = Kind;
+
+    type Value = Reader;
+
+    type Cause = SpefEnd;
+
+    ghost cut_at = { cut_at };
+
+    ghost IsSound = { λ number reader. ⊤ };
+
+    ghost Leads = { Leads };
+
+    ghost Stops = { Stops };
+
+    ghost Makes = { Makes };
+
+    #[inline]
+    fn cut(bytes: &[u8], first: u8, rest: &[u8]) -> Cut<Kind> {
+        cut_at(bytes, first, rest)
+    }
+
+    #[inline]
+    fn pass(&mut self, _bytes: &[u8]) {}
+
+    fn take(
+        &mut self,
+        number: u64,
+        start: usize,
+        _kind: Kind,
+        bytes: &[u8],
+    ) -> Result<Option<SpefEnd>, OutOfMemory> {
+        push(&mut self.starts, start as u32)?;
+        if self.take_token(number as u32, bytes)? {
+            Ok(None)
+        } else {
+            Ok(Some(refusal(self.alloc, number, bytes)))
         }
     }
-    if reader.mode.may_end() {
-        Ok(reader)
-    } else {
-        Err(ReadEnd::Refused(spans.len() as u32 + 1))
+
+    fn finish(self) -> Result<Result<Reader, SpefEnd>, OutOfMemory> {
+        if self.mode.may_end() {
+            Ok(Ok(self))
+        } else {
+            let token = self.starts.len() as u64 + 1;
+            Ok(Err(SpefEnd::Syntax { token }))
+        }
     }
+
+    ghost within = { cut_within };
 }

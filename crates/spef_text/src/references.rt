@@ -1,6 +1,7 @@
 //! What a reference names: a node or a net.
-ghost use Rattle.std.specs.Prelude.{◌≡◌, ℕ, ◌<◌, ◌++◌, true, List, length, IfOk, IfErr, IfSome, IfNone, MatchResult};
-ghost use Rattle.spef_text.specs.Heads.{text_of, IsHeadOf};
+ghost use Rattle.std.specs.Prelude.{◌≡◌, ◌≢◌, ℕ, ◌<◌, ◌++◌, true, List, length, slice_get, Some, IfOk, IfErr, IfSome, IfNone, MatchResult};
+ghost use Rattle.spef_text.specs.Heads.{text_of, digits_of, IsHeadOf};
+ghost use Rattle.spef_text.specs.declared.entries.MapEntry.{MapEntry};
 ghost use Rattle.spef_text.specs.Classes.{index_digits};
 ghost use Rattle.spef_text.specs.References.{is_starred, marks_of, index_end, before, mapped_node, IsMapped, IsNodeOf, NamesAsWritten, IsResolveEnd};
 ghost use Rattle.name_table.specs.Characters.{characters};
@@ -11,7 +12,7 @@ ghost use Rattle.name_table.specs.declared.spef_names.NodeName.{NodeName};
 use crate::classes::index_digits;
 use crate::file::SpefFile;
 use crate::head::Head;
-use edge_io::{OutOfMemory, Text};
+use edge_io::{OutOfMemory, Text, are_equal};
 use name_table::{
     NodeName, SpefMarks, WrittenName, cut_node, read_spef_node, written_halves, written_name,
     written_whole,
@@ -112,53 +113,60 @@ fn written_mapped<'w>(
     name: &'w [u8],
     word: &'w [u8],
     end: Option<usize>,
+    cut: bool,
     marks: &SpefMarks,
 ) -> Option<WrittenName<'w>>
     requires { IfSome end (λ place. place < length word.now) }
-    ensures { IfSome result (IsWritten (mapped_node marks.now true name.now word.now end)) }
+    ensures { IfSome result (IsWritten (mapped_node marks.now cut name.now word.now end)) }
 {
     match end {
         None => written_whole(name, marks),
-        Some(place) => written_halves(name, &word[place + 1..], marks),
+        Some(place) if cut => written_halves(name, &word[place + 1..], marks),
+        Some(_) => None,
     }
 }
 
-// The place of the entry of an index where the indices are the numbers from 1 in their order, as extractors write them.
-fn place_in_order(digits: &[u8]) -> usize {
-    let mut number: usize = 0;
-    for digit in digits {
-        let value = digit.wrapping_sub(b'0') as usize;
-        number = number.wrapping_mul(10).wrapping_add(value);
-    }
-    number.wrapping_sub(1)
-}
-
-// The name of the entry at that place, if its index has these digits. This reads less than a look-up does.
-#[tactic(auto, using(crate::proofs::MapLemmas::contains_at))]
-fn name_in_order<'f>(file: &'f SpefFile<'_>, digits: &[u8]) -> Option<&'f [u8]>
-    ensures { IfSome result (λ name. IsMapped file.now digits.now name.now) }
+// The name of the entry at that place, if its index has these digits.
+fn name_there<'f>(file: &'f SpefFile<'_>, place: usize, digits: &[u8]) -> Option<&'f [u8]>
+    ensures mapped { IfSome result (λ name. IsMapped file.now digits.now name.now) }
+    ensures unlike { IfNone result ((entry : MapEntry) → slice_get file.now.reading.head.map place ≡ Some entry
+        → digits_of file.now entry ≢ digits.now) }
 {
-    let entry = file.head.map().get(place_in_order(digits))?;
-    if index_digits(file.text_of(entry.index as u64)) == digits {
+    let entry = file.head.map().get(place)?;
+    if are_equal(index_digits(file.text_of(entry.index as u64)), digits) {
         Some(file.text_of(entry.name as u64))
     } else {
         None
     }
 }
 
+// The name of an index by its digits, if the map has it. All entries are looked through.
+fn name_among<'f>(file: &'f SpefFile<'_>, digits: &[u8]) -> Option<&'f [u8]>
+    ensures mapped { IfSome result (λ name. IsMapped file.now digits.now name.now) }
+    ensures unknown { IfNone result ((name : List ℕ) → IsMapped file.now digits.now name → ⊥) }
+{
+    for place in 0..file.head.map().len() {
+        if let Some(name) = name_there(file, place, digits) {
+            return Some(name);
+        }
+    }
+    None
+}
+
 impl Head {
-    // The name that an index stands for, if the map has it.
+    // The name that an index stands for, if the map has it. An index that it does not have is a refusal of the file, so all entries are
+    // looked through for a refusal alone.
     fn name_of<'f>(&self, file: &'f SpefFile<'_>, index: &[u8]) -> Option<&'f [u8]>
-        requires { IsHeadOf file.now self.now }
         ensures mapped { IfSome result (λ name. IsMapped file.now (index_digits index.now) name.now) }
         ensures unknown { IfNone result ((name : List ℕ) → IsMapped file.now (index_digits index.now) name → ⊥) }
     {
-        if let Some(name) = name_in_order(file, index_digits(index)) {
-            return Some(name);
+        let digits = index_digits(index);
+        if let Some(place) = self.places.place_of(digits) {
+            if let Some(name) = name_there(file, place, digits) {
+                return Some(name);
+            }
         }
-        let id = self.indices.find(index_digits(index))?;
-        let entry = file.head.map()[id.0 as usize];
-        Some(file.text_of(entry.name as u64))
+        name_among(file, digits)
     }
 
     /// What a token names, which is a reference of the file that the head is of: a name as it is written, or an index, which
@@ -199,20 +207,25 @@ impl Head {
             Err(_) => Err(ResolveEnd::OutOfMemory),
         }
     }
+
     /// The head and the tail of the node that a token names, cut as [`resolve`](Head::resolve) cuts it, where both stand in the file as
-    /// they
-    /// are written. Most do. It takes no memory, and at most one look-up in the map.
-    pub fn written<'f>(&self, file: &'f SpefFile<'_>, token: u64) -> Option<WrittenName<'f>>
+    /// they are written. Most do. It takes no memory, and at most one look-up in the map.
+    pub fn written<'f>(
+        &self,
+        file: &'f SpefFile<'_>,
+        token: u64,
+        cut: bool,
+    ) -> Option<WrittenName<'f>>
         requires { IsHeadOf file.now self.now }
-        ensures { IfSome result (NamesAsWritten file.now (text_of file.now token)) }
+        ensures { IfSome result (NamesAsWritten file.now cut (text_of file.now token)) }
     {
         let word = file.text_of(token);
         let marks = file.marks();
         if !is_starred(word) {
-            return written_name(word, true, &marks);
+            return written_name(word, cut, &marks);
         }
         let end = index_end(word, marks.delimiter);
         let name = self.name_of(file, before(end, word))?;
-        written_mapped(name, word, end, &marks)
+        written_mapped(name, word, end, cut, &marks)
     }
 }

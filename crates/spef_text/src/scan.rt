@@ -1,14 +1,15 @@
-//! Parts a file's bytes into tokens.
-ghost use Rattle.std.specs.Prelude.{◌≡◌, ◌+◌, ◌^◌, ◌<◌, ◌≤◌, [], ◌∷◌, ◌++◌, length, position, IfOk, OnOk};
-ghost use Rattle.spef_text.specs.Spans.{texts};
-ghost use Rattle.spef_text.specs.Tokens.{ends_text, text_cut, run_length, cut_at, AreTokens};
+//! What stands at the front of a file's bytes: a blank, a comment or a token.
+ghost use Rattle.std.specs.Prelude.{◌≡◌, false, ◌+◌, ◌^◌, ◌<◌, ◌≤◌, ◌∷◌, length, position, IfSome};
+ghost use Rattle.spef_text.specs.Tokens.{ends_text, is_marked, text_cut, run_length, cut_at};
+ghost use Rattle.spef_text.specs.Starts.{front_cut};
+ghost use Rattle.spef_text.specs.declared.scan.Kind.TheVariants.{Whole};
+ghost use Rattle.token_texts.specs.Blanks.{is_blank};
 ghost use Rattle.token_texts.specs.Cuts.{IsWithin};
+ghost use Rattle.token_texts.specs.declared.cuts.Cut.TheVariants.{Take};
 
 use crate::lanes::plain_length;
-use edge_io::OutOfMemory;
 use memchr::memchr2;
-use std::alloc::Global;
-use token_texts::{Cut, Span, begins_with, comment_cut, is_blank, line_length};
+use token_texts::{Cut, begins_with, comment_cut, is_blank, line_length};
 
 /// What a token is: one that can stand in a text, or one that is broken, which takes all the bytes that are left.
 #[derive(Clone, Copy, PartialEq, Eq, Debug)]
@@ -81,16 +82,38 @@ fn backslash_cut(rest: &[u8]) -> Cut<Kind>
     }
 }
 
-/// What stands at the front of `first` and `rest`.
+/// Whether a byte can begin more than a run of bytes: a text, a comment or what a backslash takes.
 #[inline]
-fn cut_at(first: u8, rest: &[u8]) -> Cut<Kind>
-    requires { length rest.now < 2 ^ 32 }
-    ensures value { result ≡ cut_at first rest.now }
-    ensures within { IsWithin (length rest.now + 1) result }
+fn is_marked(byte: u8) -> bool
+    ensures { result ≡ is_marked byte }
 {
-    if is_blank(first) {
-        Cut::Skip(1)
-    } else if first == b'"' {
+    matches!(byte, b'"' | b'/' | b'\\')
+}
+
+/// How many bytes the token at the front has, where that is seen at a look: at most 16, with no mark, and a blank behind them.
+#[inline(always)]
+pub fn short_run(bytes: &[u8]) -> Option<usize>
+    ensures cut { IfSome result (λ len. front_cut bytes.now ≡ Take len Whole) }
+    ensures within { IfSome result (λ len. len ≤ length bytes.now) }
+{
+    let len = plain_length(bytes, 0);
+    if len == 0 || len == bytes.len() {
+        return None;
+    }
+    if is_marked(bytes[0]) || !is_blank(bytes[len]) {
+        return None;
+    }
+    Some(len)
+}
+
+/// What stands at the front of `first` and `rest`, where the first is no blank.
+#[inline(never)]
+fn marked_cut(first: u8, rest: &[u8]) -> Cut<Kind>
+    requires bytes { length rest.now < 2 ^ 32 }
+    requires solid { is_blank first ≡ false }
+    ensures { result ≡ cut_at first rest.now }
+{
+    if first == b'"' {
         text_cut(rest)
     } else if first == b'/' {
         slash_cut(rest)
@@ -101,38 +124,19 @@ fn cut_at(first: u8, rest: &[u8]) -> Cut<Kind>
     }
 }
 
-/// Puts a token of so many bytes behind the others.
-#[inline]
-fn push_token(spans: &mut Vec<Span>, start: usize, len: usize) -> Result<(), OutOfMemory>
-    requires { start + len < 2 ^ 32 }
-    ensures { OnOk result (spans.new.items ≡ spans.old.items ++ record { start = start; len = len } ∷ []) }
+/// What stands at the front of the bytes, which are `first` and `rest`: mostly a blank, or a short run.
+#[inline(always)]
+pub fn cut_at(bytes: &[u8], first: u8, rest: &[u8]) -> Cut<Kind>
+    requires parts { bytes.now ≡ first ∷ rest.now }
+    requires bytes { length bytes.now < 2 ^ 32 }
+    ensures value { result ≡ cut_at first rest.now }
+    ensures within { IsWithin (length bytes.now) result }
 {
-    let span = Span {
-        start: start as u32,
-        len: len as u32,
-    };
-    if spans.push(span).is_err() {
-        return Err(OutOfMemory);
+    if is_blank(first) {
+        return Cut::Skip(1);
     }
-    Ok(())
-}
-
-/// The tokens of the bytes, in order: blanks and comments part them. What is broken, an open text, an open comment or a
-/// backslash at the end, is the last token and takes the rest of the bytes.
-pub fn scan(alloc: Global, bytes: &[u8]) -> Result<Vec<Span>, OutOfMemory>
-    requires { length bytes.now < 2 ^ 30 }
-    ensures { IfOk result (λ spans. AreTokens bytes.now (texts bytes.now spans.items)) }
-{
-    let mut spans = Vec::new(alloc);
-    let mut start = 0;
-    while let [first, rest @ ..] = bytes.split_at(start).1 {
-        match cut_at(*first, rest) {
-            Cut::Skip(n) => start += n,
-            Cut::Take(n, _) => {
-                push_token(&mut spans, start, n)?;
-                start += n;
-            }
-        }
+    match short_run(bytes) {
+        Some(len) => Cut::Take(len, Kind::Whole),
+        None => marked_cut(first, rest),
     }
-    Ok(spans)
 }

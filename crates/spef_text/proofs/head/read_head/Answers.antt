@@ -21,13 +21,13 @@ returns-in-Err-unit_at-clause-refused c =
       bad_item Resistance file c.res_unit.result file.reading.head.res_unit c.in-Err-unit_at.token (c.res_unit.ensures ∙ ap (λ f. f.reading.head.res_unit) c.file.view_is) c.in-Err-unit_at.ensures.bad,
     )
 
-pub returns-in-Err-read_indices-clause-refused : goal.returns-in-Err-read_indices-clause-refused
-returns-in-Err-read_indices-clause-refused c =
+pub returns-in-Err-read_places-clause-refused : goal.returns-in-Err-read_places-clause-refused
+returns-in-Err-read_places-clause-refused c =
     let file : SpefText = c.args.file.now in
-    of_repeat file c.in-Err-read_indices.end
+    of_repeat file c.in-Err-read_places.end
     (c.in-Ok.unit, of_item Capacitance file c.cap_unit.result file.reading.head.cap_unit c.in-Ok.unit (c.cap_unit.ensures ∙ ap (λ f. f.reading.head.cap_unit) c.file.view_is) c.in-Ok.ensures.ok)
     (c.in-Ok-unit_at.unit, of_item Resistance file c.res_unit.result file.reading.head.res_unit c.in-Ok-unit_at.unit (c.res_unit.ensures ∙ ap (λ f. f.reading.head.res_unit) c.file.view_is) c.in-Ok-unit_at.ensures.ok)
-    c.in-Err-read_indices.ensures.repeated
+    c.in-Err-read_places.ensures.repeated
 
-pub returns-in-Err-read_indices-clause-only : goal.returns-in-Err-read_indices-clause-only
-returns-in-Err-read_indices-clause-only c head of_file = only_want c.args.file.now c.in-Err-read_indices.end head c.in-Err-read_indices.ensures.repeated of_file
+pub returns-in-Err-read_places-clause-only : goal.returns-in-Err-read_places-clause-only
+returns-in-Err-read_places-clause-only c head of_file = only_want c.args.file.now c.in-Err-read_places.end head c.in-Err-read_places.ensures.repeated of_file

@@ -2,7 +2,7 @@ use Rattle.std.proofs.Common.{ap, ◌∙◌, length, take, arith}
 use Rattle.std.proofs.lemmas.List.{length-map, length-take}
 use Rattle.spef_text.specs.Classes.{index_digits}
 use Rattle.spef_text.specs.Heads.{digits_of}
-use Rattle.spef_text.specs.Spans.{texts}
+use Rattle.spef_text.specs.Starts.{texts}
 use Rattle.spef_text.proofs.MapLemmas.{repeated}
 use Rattle.spef_text.proofs.MapOrder.{few_entries}
 use Rattle.spef_text.proofs.name_map.read_indices.Goals as goal
@@ -11,11 +11,11 @@ use Rattle.spef_text.proofs.name_map.read_indices.Goals as goal
 pub put_index-requires : goal.put_index-requires
 put_index-requires c =
     let file = c.file.inside in
-    let few = few_entries (texts file.bytes.now file.spans.items) (record { head = file.head; sections = file.sections.done }) c.file.invariant.formed in
+    let few = few_entries (texts file.bytes.now file.starts.items) (record { head = file.head; sections = file.sections.done }) c.file.invariant.0.formed in
     let map = ap length c.map-entries.ensures in
     let part = length-take c.loop-entry.entry-index c.map-entries.result.now in
     let size = ap length c.loop-entry.invariant.so_far ∙ length-map (take c.loop-entry.entry-index c.map-entries.result.now) (digits_of c.args.file.now) in
-    record { room = omega (arith, few, map, part, size, c.loop-entry-test.true, c.file.invariant.few) }
+    record { room = omega (arith, few, map, part, size, c.loop-entry-test.true, c.file.invariant.0.few) }
 
 pub returns-in-Ok-false-clause-repeated : goal.returns-in-Ok-false-clause-repeated
 returns-in-Ok-false-clause-repeated c =

@@ -1,10 +1,10 @@
-use Rattle.std.proofs.Common.{refl, sym, ◌∙◌}
-use Rattle.spef_text.specs.Heads.{text_of}
-use Rattle.spef_nets.proofs.Naming.{named_of_unknown, unknown_of_named}
+use Rattle.std.proofs.Common.{Some, sym, ap, ◌∙◌}
+use Rattle.spef_nets.proofs.Naming.{resolved_net}
 use Rattle.spef_nets.proofs.source.Source.net_of.Goals as goal
 
 -- src/source.rt
-pub returns-in-None-clause-err : goal.returns-in-None-clause-err
-returns-in-None-clause-err c =
-    let word = text_of c.args.self.now.file.now c.args.token in
-    (refl, named_of_unknown c.args.self.now.file.now _ word (unknown_of_named c.args.self.now.file.now _ word (sym c.in_ok-node.ensures ∙ c.in-None.is)))
+pub returns-in_ok-from_bytes-in-Some-clause-ok : goal.returns-in_ok-from_bytes-in-Some-clause-ok
+returns-in_ok-from_bytes-in-Some-clause-ok c =
+    let as_written = c.in-Some.ensures in
+    resolved_net c.args.self.now.file.now c.args.self.now.head.now c.args.token as_written.node c.requires as_written.names
+    ∙ ap Some (sym (c.in_ok-from_bytes-in-Some.ensures ∙ as_written.written.head))

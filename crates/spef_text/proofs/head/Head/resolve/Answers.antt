@@ -1,5 +1,4 @@
-use Rattle.std.proofs.Common.{◌≡◌, refl, sym, ◌∙◌, subst, List, ℕ}
-use Rattle.name_table.specs.Names.{AreDistinct}
+use Rattle.std.proofs.Common.{◌≡◌, refl, sym, ◌∙◌}
 use Rattle.spef_text.specs.Heads.{text_of}
 use Rattle.spef_text.specs.References.{marks_of, mapped_node, IsNodeOf, IsUnknown}
 use Rattle.name_table.specs.SpefNames.{node_name}
@@ -37,4 +36,4 @@ returns-in-Ok-clause-named c = named c
 
 pub returns-in-Ok-clause-only : goal.returns-in-Ok-clause-only
 returns-in-Ok-clause-only c node is =
-    one_node c.args.file.now c.args.cut (text_of c.args.file.now c.args.token) c.in-Ok.node node (subst (λ (xs : List (List ℕ)). AreDistinct xs) c.requires.indices c.requires.distinct) (named c) is
+    one_node c.args.file.now c.args.cut (text_of c.args.file.now c.args.token) c.in-Ok.node node c.requires.distinct (named c) is

@@ -1,0 +1,71 @@
+-- Where tokens begin: behind each part that is read, and that each token is the one at its place.
+use Rattle.std.proofs.Common.{◌≡◌, ℕ, ◌+◌, ◌≤◌, List, [], ◌∷◌, ◌++◌, length, take, drop, refl, sym, ap, ◌∙◌, subst, arith, append-nil}
+use Rattle.std.proofs.lemmas.List.{drop-drop, length-take}
+use Rattle.token_texts.specs.Cuts.{Part, gap, token, Lexeme, AreParts, no_part, and_gap, and_token, lexemes, byte_count, IsWithin}
+use Rattle.token_texts.specs.declared.cuts.Cut.TheVariants.{Skip, Take}
+use Rattle.spef_text.specs.Tokens.{cut_at, texts_of}
+use Rattle.spef_text.specs.Starts.{taken_by, front_token, token_at, texts, starts_from}
+use Rattle.spef_text.specs.Within.{cut_within}
+use Rattle.spef_text.specs.declared.scan.Kind.{Kind}
+
+-- ---- one part more
+
+pub texts_behind : (before more : List (Part Kind)) → texts_of (before ++ more) ≡ texts_of before ++ texts_of more
+texts_behind [] more = refl
+texts_behind (gap bytes ∷ before) more = texts_behind before more
+texts_behind (token lexeme ∷ before) more = ap (λ l. lexeme.bytes ∷ l) (texts_behind before more)
+
+pub texts_gap : (before : List (Part Kind)) (bytes : List ℕ) → texts_of (before ++ gap bytes ∷ []) ≡ texts_of before
+texts_gap before bytes = texts_behind before (gap bytes ∷ []) ∙ append-nil (texts_of before)
+
+pub texts_count : (parts : List (Part Kind)) → length (texts_of parts) ≡ length (lexemes parts)
+texts_count [] = refl
+texts_count (gap bytes ∷ parts) = texts_count parts
+texts_count (token lexeme ∷ parts) = let rest = texts_count parts in omega arith
+
+pub starts_gap : (place : ℕ) (before : List (Part Kind)) (bytes : List ℕ) → starts_from place (before ++ gap bytes ∷ []) ≡ starts_from place before
+starts_gap place [] bytes = refl
+starts_gap place (gap first ∷ before) bytes = starts_gap (place + length first) before bytes
+starts_gap place (token first ∷ before) bytes = ap (λ l. place ∷ l) (starts_gap (place + length first.bytes) before bytes)
+
+further : (place n count : ℕ) → place + n + count ≡ place + (n + count)
+further place n count = omega arith
+
+pub starts_token : (place : ℕ) (before : List (Part Kind)) (lexeme : Lexeme Kind)
+    → starts_from place (before ++ token lexeme ∷ []) ≡ starts_from place before ++ (place + byte_count before) ∷ []
+starts_token place [] lexeme = ap (λ n. n ∷ []) (omega arith)
+starts_token place (gap first ∷ before) lexeme =
+    starts_token (place + length first) before lexeme
+    ∙ ap (λ n. starts_from (place + length first) before ++ n ∷ []) (further place (length first) (byte_count before))
+starts_token place (token first ∷ before) lexeme =
+    ap (λ l. place ∷ l) (starts_token (place + length first.bytes) before lexeme
+    ∙ ap (λ n. starts_from (place + length first.bytes) before ++ n ∷ []) (further place (length first.bytes) (byte_count before)))
+
+pub starts_count : (place : ℕ) (parts : List (Part Kind)) → length (starts_from place parts) ≡ length (texts_of parts)
+starts_count place [] = refl
+starts_count place (gap bytes ∷ parts) = starts_count (place + length bytes) parts
+starts_count place (token lexeme ∷ parts) = let rest = starts_count (place + length lexeme.bytes) parts in omega arith
+
+-- ---- the token at each place
+
+size_of : (n : ℕ) (first : ℕ) (rest : List ℕ) → n ≤ length rest + 1 → length (take n (first ∷ rest)) ≡ n
+size_of n first rest within = omega (arith, length-take n (first ∷ rest))
+
+-- the tokens that begin where those among the parts begin are theirs
+pub texts_there : (bytes : List ℕ) (place : ℕ) {rest : List ℕ} {parts : List (Part Kind)} → AreParts cut_at rest parts
+    → drop place bytes ≡ rest → texts bytes (starts_from place parts) ≡ texts_of parts
+texts_there bytes place no_part there = refl
+texts_there bytes place (and_gap {first = first} {rest = rest} {parts = parts} n cut later) there =
+    let within : IsWithin {K = Kind} (length rest + 1) (Skip n) = subst (IsWithin {K = Kind} (length rest + 1)) cut (cut_within first rest) in
+    let size = size_of n first rest within.1 in
+    subst (λ (k : ℕ). texts bytes (starts_from (place + k) parts) ≡ texts_of parts) (sym size)
+    (texts_there bytes (place + n) later (sym (drop-drop n place bytes) ∙ ap (drop n) there))
+texts_there bytes place (and_token {first = first} {rest = rest} {parts = parts} n kind cut later) there =
+    let within : IsWithin {K = Kind} (length rest + 1) (Take n kind) = subst (IsWithin {K = Kind} (length rest + 1)) cut (cut_within first rest) in
+    let size = size_of n first rest within.1 in
+    let here : token_at bytes place ≡ take n (first ∷ rest) = ap front_token there ∙ ap (λ c. taken_by c (first ∷ rest)) cut in
+    let behind : texts bytes (starts_from (place + length (take n (first ∷ rest))) parts) ≡ texts_of parts =
+    subst (λ (k : ℕ). texts bytes (starts_from (place + k) parts) ≡ texts_of parts) (sym size)
+    (texts_there bytes (place + n) later (sym (drop-drop n place bytes) ∙ ap (drop n) there)) in
+    ap (λ text. text ∷ texts bytes (starts_from (place + length (take n (first ∷ rest))) parts)) here
+    ∙ ap (λ l. take n (first ∷ rest) ∷ l) behind
