@@ -9,6 +9,7 @@ pub mod Values
 pub mod Arenas
 pub mod TwoPasses
 pub mod Nodes
+pub mod NodesIn
 pub mod PinNames
 pub mod Pins
 pub mod Joins

@@ -1,37 +1,54 @@
 //! The nodes of a net, numbered by their first places.
-ghost use Rattle.std.specs.Prelude.{◌≡◌, ◌≢◌, [], length, slice_get, Some, IfOk, OnOk, AllPairs};
+ghost use Rattle.std.specs.Prelude.{◌≡◌, ◌≢◌, [], length, slice_get, Some, false, IfOk, OnOk, IfSome, IfNone, AllPairs};
+ghost use Rattle.name_table.specs.NodeKeys.{among};
 ghost use Rattle.rc_tree.specs.Nodes.{with_node};
 
 use edge_io::OutOfMemory;
+use edge_io::lists::push;
 use indexmap::IndexSet;
 use name_table::{NameHash, NodeKey};
 use std::alloc::Global;
 use std::marker::Model;
 
+/// So many nodes are looked through: that is quicker than to look one up in a table.
+const FEW: usize = 16;
+
 /// Nodes, numbered in the order in which they came, each once. Contracts see the list of them.
 #[derive(Drop)]
 pub struct NodeTable<'p> {
-    keys: IndexSet<NodeKey<'p>, NameHash>,
+    nodes: Nodes<'p>,
+}
+
+// Most nets have a few nodes.
+#[derive(Drop)]
+enum Nodes<'p> {
+    Few(Vec<NodeKey<'p>>),
+    Many(IndexSet<NodeKey<'p>, NameHash>),
 }
 
 impl<'p> Model for NodeTable<'p> {
     ghost use Rattle.std.specs.Prelude.{◌≢◌, List, AllPairs};
     ghost use Rattle.rc_tree.specs.Nodes.{Node};
+    ghost use Rattle.rc_tree.specs.NodesIn.{nodes_in};
 
     ghost Value = { List Node };
 
-    ghost view = { λ t. t.keys.keys };
+    ghost view = { λ t. nodes_in t.nodes };
 
-    ghost invariant = { λ t. AllPairs (λ one other. one ≢ other) t.keys.keys };
+    ghost invariant = { λ t. AllPairs (λ one other. one ≢ other) (nodes_in t.nodes) };
 }
 
 impl<'p> NodeTable<'p> {
-    /// No node yet, and room for so many.
-    pub fn with_room(alloc: Global, many: usize) -> Result<NodeTable<'p>, OutOfMemory>
+    /// No node yet, and room for so many as a rule. Never are more than `most` put in.
+    pub fn with_room(alloc: Global, many: usize, most: usize) -> Result<NodeTable<'p>, OutOfMemory>
         ensures { IfOk result (λ table. table ≡ []) }
     {
-        let keys = IndexSet::with_capacity_and_hasher(alloc, many, NameHash::default())?;
-        Ok(NodeTable { keys })
+        let nodes = if most <= FEW {
+            Nodes::Few(Vec::with_capacity(alloc, most)?)
+        } else {
+            Nodes::Many(IndexSet::with_capacity_and_hasher(alloc, many, NameHash::default())?)
+        };
+        Ok(NodeTable { nodes })
     }
 
     /// How many nodes there are.
@@ -39,7 +56,10 @@ impl<'p> NodeTable<'p> {
         ensures len { result ≡ length self.now }
         ensures apart { AllPairs (λ one other. one ≢ other) self.now }
     {
-        self.keys.len()
+        match &self.nodes {
+            Nodes::Few(keys) => keys.len(),
+            Nodes::Many(keys) => keys.len(),
+        }
     }
 
     /// The number of a node: its own where it is held, and else that of a new last one. It is one look-up.
@@ -47,8 +67,40 @@ impl<'p> NodeTable<'p> {
         ensures number { IfOk result (λ number. slice_get self.new number ≡ Some key.entry) }
         ensures nodes { OnOk result (self.new ≡ with_node self.old key.entry) }
     {
-        put(&mut self.keys, key)
+        match &mut self.nodes {
+            Nodes::Few(keys) => put_behind(keys, key),
+            Nodes::Many(keys) => put(keys, key),
+        }
     }
+}
+
+// Puts a key at the end of a list that does not have it, and answers its place.
+fn put_behind<'p>(keys: &mut Vec<NodeKey<'p>>, key: NodeKey<'p>) -> Result<usize, OutOfMemory>
+    requires { AllPairs (λ one other. one ≢ other) keys.old.items }
+    ensures number { IfOk result (λ number. slice_get keys.new.items number ≡ Some key.entry) }
+    ensures nodes { OnOk result (keys.new.items ≡ with_node keys.old.items key.entry) }
+    ensures apart { AllPairs (λ one other. one ≢ other) keys.new.items }
+{
+    if let Some(place) = place_of(keys, &key) {
+        return Ok(place);
+    }
+    let place = keys.len();
+    push(keys, key)?;
+    Ok(place)
+}
+
+// The place of a key, if the list has it.
+#[inline]
+fn place_of(keys: &[NodeKey<'_>], key: &NodeKey<'_>) -> Option<usize>
+    ensures found { IfSome result (λ place. slice_get keys.now place ≡ Some key.now) }
+    ensures absent { IfNone result (among key.now keys.now ≡ false) }
+{
+    for place in 0..keys.len() {
+        if *key == keys[place] {
+            return Some(place);
+        }
+    }
+    None
 }
 
 // Puts a key at the end that is not held, and answers its place.

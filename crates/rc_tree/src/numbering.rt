@@ -76,7 +76,8 @@ fn number_pins<'p, C: CornerSet>(
 ) -> Result<NodeTable<'p>, OutOfMemory>
     ensures { IfOk result (λ table. table ≡ pin_nodes pins.now) }
 {
-    let mut table = NodeTable::with_room(alloc, many)?;
+    let most = pins.len().saturating_add(1).saturating_add(many);
+    let mut table = NodeTable::with_room(alloc, many, most)?;
     table.intern(pins.driver.key())?;
     intern_all(&mut table, pins.sinks.as_slice())?;
     Ok(table)
