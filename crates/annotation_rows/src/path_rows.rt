@@ -19,19 +19,17 @@ use crate::timed_netlist::TimedNetlist;
 use cell_models::Edge;
 use corner_set::{CornerSet, Grid};
 use delay_units::Femto;
-use edge_io::{OutOfMemory, Steps, Text};
-use sdf_writer::Rows;
+use edge_io::{OutOfMemory, Steps};
+use sdf_writer::{PathNames, Rows};
 use slew_order::ArcAt;
 use std::alloc::Global;
 use std::sync::ledger::Ledger;
 
-// The names in the row of a path: its cell as plain text, and the others as SDF spells them.
+// The names of a path's pins as SDF spells them. They serve all paths.
 #[derive(Drop)]
-struct PathNames {
-    cell: Text,
-    instance: Text,
-    from: Text,
-    to: Text,
+struct PinNames {
+    from: Vec<u8>,
+    to: Vec<u8>,
 }
 
 // A grid for each edge.
@@ -41,30 +39,65 @@ struct EdgeGrids<C: CornerSet, T: Copy> {
     fall: Grid<C, T>,
 }
 
-// The names in the row of the path of an arc of an instance.
-fn path_names<C: CornerSet>(
-    alloc: Global,
+// What serves the rows of all instances: the values and the times of the edges of one, and the names of a path's pins.
+#[derive(Drop)]
+struct PathDraft<C: CornerSet> {
+    values: EdgeGrids<C, Option<i128>>,
+    times: EdgeGrids<C, Femto>,
+    names: PinNames,
+}
+
+impl<C: CornerSet, T: Copy> EdgeGrids<C, T> {
+    // Grids of so many rows, with one value in each place.
+    fn with_rows(alloc: Global, rows: usize, fill: T) -> Result<EdgeGrids<C, T>, OutOfMemory>
+        ensures rise { IfOk result (λ grids. length grids.rise.values ≡ rows * C.COUNT) }
+        ensures fall { IfOk result (λ grids. length grids.fall.values ≡ rows * C.COUNT) }
+    {
+        Ok(EdgeGrids {
+            rise: Grid::with_rows(alloc, rows, fill)?,
+            fall: Grid::with_rows(alloc, rows, fill)?,
+        })
+    }
+}
+
+impl<C: CornerSet> PathDraft<C> {
+    // No values yet, and times of one row.
+    fn new(alloc: Global) -> Result<PathDraft<C>, OutOfMemory>
+        ensures rise { IfOk result (λ draft. length draft.times.rise.values ≡ C.COUNT) }
+        ensures fall { IfOk result (λ draft. length draft.times.fall.values ≡ C.COUNT) }
+    {
+        let values = EdgeGrids::with_rows(alloc, 0, None)?;
+        let times = EdgeGrids::with_rows(alloc, 1, Femto(0))?;
+        let names = PinNames {
+            from: Vec::new(alloc),
+            to: Vec::new(alloc),
+        };
+        Ok(PathDraft {
+            values,
+            times,
+            names,
+        })
+    }
+}
+
+// Makes the names those of the path of an arc of an instance.
+fn put_names<C: CornerSet>(
     design: &TimedNetlist<'_, C>,
     at: ArcAt,
-) -> Result<PathNames, OutOfMemory>
+    names: &mut PinNames,
+) -> Result<(), OutOfMemory>
     requires instance { at.instance < length design.now.source.netlist.instances }
     requires arc { at.arc < length (cell_arcs design.now at.instance) }
-    ensures cell { IfOk result (λ names. names.cell ≡ cell_name design.now at.instance) }
-    ensures instance { IfOk result (λ names. names.instance ≡ (instance_at design.now.source.netlist at.instance).sdf) }
-    ensures from { IfOk result (λ names. names.from ≡ pin_sdf design.now.source.cells design.now.source.netlist at.instance
+    ensures from { OnOk result (names.new.from.items ≡ pin_sdf design.now.source.cells design.now.source.netlist at.instance
         (arc_in (cell_arcs design.now at.instance) at.arc).from) }
-    ensures to { IfOk result (λ names. names.to ≡ pin_sdf design.now.source.cells design.now.source.netlist at.instance
+    ensures to { OnOk result (names.new.to.items ≡ pin_sdf design.now.source.cells design.now.source.netlist at.instance
         (arc_in (cell_arcs design.now at.instance) at.arc).to) }
 {
     let pins = design.pins_of(at);
     let netlist = design.netlist();
     let cells = design.cells();
-    Ok(PathNames {
-        cell: Text::from_bytes(alloc, design.cell_name(at.instance).bytes())?,
-        instance: Text::from_bytes(alloc, netlist.instance_sdf(at.instance))?,
-        from: pin_sdf(alloc, netlist, cells, at.instance, pins.from)?,
-        to: pin_sdf(alloc, netlist, cells, at.instance, pins.to)?,
-    })
+    pin_sdf(netlist, cells, at.instance, pins.from, &mut names.from)?;
+    pin_sdf(netlist, cells, at.instance, pins.to, &mut names.to)
 }
 
 // Puts the delays of the path that begins with an arc of an instance at an edge into a grid of one row, if there are such. The values
@@ -103,11 +136,11 @@ fn if_has<C: CornerSet>(has: bool, times: &Grid<C, Femto>) -> Option<&Grid<C, Fe
 
 // Adds the row of the path of an arc of an instance.
 fn add_row<C: CornerSet>(
-    alloc: Global,
     design: &TimedNetlist<'_, C>,
     at: ArcAt,
     rise: Option<&Grid<C, Femto>>,
     fall: Option<&Grid<C, Femto>>,
+    names: &mut PinNames,
     rows: &mut Rows<C>,
 ) -> Result<(), OutOfMemory>
     requires instance { at.instance < length design.now.source.netlist.instances }
@@ -118,19 +151,25 @@ fn add_row<C: CornerSet>(
     requires fall { edge_times fall ≡ edge_delays design.now at.instance at.arc Fall }
     ensures { OnOk result (rows.new ≡ with_paths rows.old (path_row design.now at.instance at.arc ∷ [])) }
 {
-    let names = path_names(alloc, design, at)?;
-    rows.add_path(names.cell, names.instance, names.from, names.to, rise, fall)
+    put_names(design, at, names)?;
+    let path = PathNames {
+        cell: design.cell_name(at.instance).bytes(),
+        instance: design.netlist().instance_sdf(at.instance),
+        from: &names.from,
+        to: &names.to,
+    };
+    rows.put_path(path, rise, fall)
 }
 
 // Adds the row of the path that begins with an arc of an instance, if it has a delay at an edge. The values are the largest delays of the
 // paths of the instance. The grids of times have one row each, which is used anew.
 #[tactic(auto, using(crate::proofs::PathLists::no_row, crate::proofs::PathLists::one_row))]
 fn add_path<C: CornerSet>(
-    alloc: Global,
     design: &TimedNetlist<'_, C>,
     at: ArcAt,
     values: &EdgeGrids<C, Option<i128>>,
     times: &mut EdgeGrids<C, Femto>,
+    names: &mut PinNames,
     rows: &mut Rows<C>,
 ) -> Result<(), OutOfMemory>
     requires instance { at.instance < length design.now.source.netlist.instances }
@@ -164,18 +203,18 @@ fn add_path<C: CornerSet>(
     }
     let rise = if_has(rise, &times.rise);
     let fall = if_has(fall, &times.fall);
-    add_row(alloc, design, at, rise, fall, rows)
+    add_row(design, at, rise, fall, names, rows)
 }
 
 // Adds the row of the path that begins with an arc of an instance, if one does. The arcs have these paths.
 #[tactic(auto, using(crate::proofs::BestSteps::path_is, crate::proofs::PathLists::no_path, crate::proofs::PathLists::own_path))]
 fn add_first<C: CornerSet>(
-    alloc: Global,
     design: &TimedNetlist<'_, C>,
     at: ArcAt,
     paths: &[usize],
     values: &EdgeGrids<C, Option<i128>>,
     times: &mut EdgeGrids<C, Femto>,
+    names: &mut PinNames,
     rows: &mut Rows<C>,
 ) -> Result<(), OutOfMemory>
     requires instance { at.instance < length design.now.source.netlist.instances }
@@ -191,17 +230,17 @@ fn add_first<C: CornerSet>(
     if paths[at.arc] != at.arc {
         return Ok(());
     }
-    add_path(alloc, design, at, values, times, rows)
+    add_path(design, at, values, times, names, rows)
 }
 
 // Adds the rows of the paths of an instance, in order of their first arcs.
 fn add_paths<C: CornerSet>(
-    alloc: Global,
     design: &TimedNetlist<'_, C>,
     instance: usize,
     paths: &[usize],
     values: &EdgeGrids<C, Option<i128>>,
     times: &mut EdgeGrids<C, Femto>,
+    names: &mut PinNames,
     rows: &mut Rows<C>,
 ) -> Result<(), OutOfMemory>
     requires instance { instance < length design.now.source.netlist.instances }
@@ -215,7 +254,7 @@ fn add_paths<C: CornerSet>(
 {
     for arc in 0..design.arc_count(instance) {
         let at = ArcAt { instance, arc };
-        add_first(alloc, design, at, paths, values, times, rows)?;
+        add_first(design, at, paths, values, times, names, rows)?;
     }
     Ok(())
 }
@@ -229,6 +268,7 @@ fn add_instance<C: CornerSet, L: Ledger>(
     paths: &[usize],
     values: &mut EdgeGrids<C, Option<i128>>,
     times: &mut EdgeGrids<C, Femto>,
+    names: &mut PinNames,
     rows: &mut Rows<C>,
     steps: &mut Steps<L>,
 ) -> Result<(), OutOfMemory>
@@ -259,7 +299,7 @@ fn add_instance<C: CornerSet, L: Ledger>(
         &mut values.fall,
         steps,
     )?;
-    add_paths(alloc, design, instance, paths, values, times, rows)
+    add_paths(design, instance, paths, values, times, names, rows)
 }
 
 // Adds the rows of all instances, in order. The arcs of the cells have these paths.
@@ -268,21 +308,16 @@ fn add_instances<C: CornerSet, L: Ledger>(
     alloc: Global,
     design: &TimedNetlist<'_, C>,
     paths: &[ArcPaths],
+    draft: &mut PathDraft<C>,
     rows: &mut Rows<C>,
     steps: &mut Steps<L>,
 ) -> Result<(), OutOfMemory>
-    requires { HavePaths design.now.source.cells paths.now }
+    requires paths { HavePaths design.now.source.cells paths.now }
+    requires rise { length draft.old.times.rise.values ≡ C.COUNT }
+    requires fall { length draft.old.times.fall.values ≡ C.COUNT }
     ensures rows { OnOk result (rows.new ≡ with_paths rows.old (path_rows design.now)) }
     ensures steps { steps.new ≤ steps.old + 32 * (design.now.source.count * edges_in design.now.source) }
 {
-    let mut values = EdgeGrids {
-        rise: Grid::with_rows(alloc, 0, None)?,
-        fall: Grid::with_rows(alloc, 0, None)?,
-    };
-    let mut times = EdgeGrids {
-        rise: Grid::with_rows(alloc, 1, Femto(0))?,
-        fall: Grid::with_rows(alloc, 1, Femto(0))?,
-    };
     for instance in 0..design.netlist().instance_count() {
         let own = paths[design.netlist().cell_of(instance)].as_slice();
         add_instance(
@@ -290,8 +325,9 @@ fn add_instances<C: CornerSet, L: Ledger>(
             design,
             instance,
             own,
-            &mut values,
-            &mut times,
+            &mut draft.values,
+            &mut draft.times,
+            &mut draft.names,
             rows,
             steps,
         )?;
@@ -314,5 +350,6 @@ pub(crate) fn add_all_paths<C: CornerSet, L: Ledger>(
     // as many corners as the cells have
     let _ = design.corner_count();
     let paths = paths_of_all(alloc, design.cells())?;
-    add_instances(alloc, design, &paths, rows, steps)
+    let mut draft = PathDraft::new(alloc)?;
+    add_instances(alloc, design, &paths, &mut draft, rows, steps)
 }

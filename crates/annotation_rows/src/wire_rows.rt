@@ -11,7 +11,7 @@ use crate::sdf_ends::end_sdf;
 use cell_models::CellSets;
 use corner_set::{CornerSet, Grid, corner_at};
 use delay_units::Femto;
-use edge_io::{OutOfMemory, Text};
+use edge_io::OutOfMemory;
 use elmore_pass::sink_femto;
 use netlist_link::{End, Netlist};
 use sdf_writer::Rows;
@@ -39,60 +39,63 @@ fn put_delays<C: CornerSet>(
     }
 }
 
-// Adds the row of the wire to a sink of a net, from the end that drives it as SDF spells it. The grid has one row, which is used anew.
+// What serves all wires: the names of the ends of one as SDF spells them, and the delays in one row.
+#[derive(Drop)]
+struct WireDraft<C: CornerSet> {
+    from: Vec<u8>,
+    to: Vec<u8>,
+    delay: Grid<C, Femto>,
+}
+
+// Adds the row of the wire to a sink of a net, from the end that drives it, whose name the draft has.
 #[tactic(auto, using(crate::proofs::EndsThere::sink_there))]
 fn add_wire<C: CornerSet>(
-    alloc: Global,
     netlist: &Netlist,
     cells: &CellSets<C>,
     nets: &NetDelays<C>,
     net: usize,
     driver: End,
-    from: &Text,
     sink: usize,
-    delay: &mut Grid<C, Femto>,
+    draft: &mut WireDraft<C>,
     rows: &mut Rows<C>,
 ) -> Result<(), OutOfMemory>
     requires linked { IsLinked cells.now netlist.now }
     requires fits { Fits netlist.now nets.now }
     requires net { net < length netlist.now.nets }
     requires sink { sink < length (net_at netlist.now net).sinks }
-    requires from { from.now ≡ end_sdf cells.now netlist.now driver }
-    requires one_row { length delay.old.values ≡ C.COUNT }
+    requires from { draft.old.from.items ≡ end_sdf cells.now netlist.now driver }
+    requires one_row { length draft.old.delay.values ≡ C.COUNT }
     ensures row { OnOk result (rows.new ≡ with_wires rows.old (wire_row cells.now netlist.now C.COUNT nets.now driver net sink ∷ [])) }
-    ensures one_row { length delay.new.values ≡ C.COUNT }
+    ensures from { draft.new.from.items ≡ draft.old.from.items }
+    ensures one_row { length draft.new.delay.values ≡ C.COUNT }
 {
-    put_delays(nets, net, sink, delay);
-    let from = Text::from_bytes(alloc, from.bytes())?;
-    let to = end_sdf(alloc, netlist, cells, netlist.sink(net, sink))?;
-    rows.add_wire(from, to, delay)
+    put_delays(nets, net, sink, &mut draft.delay);
+    end_sdf(netlist, cells, netlist.sink(net, sink), &mut draft.to)?;
+    rows.put_wire(&draft.from, &draft.to, &draft.delay)
 }
 
 // Adds the rows of the wires of a net from the end that drives it.
 fn add_driven<C: CornerSet>(
-    alloc: Global,
     netlist: &Netlist,
     cells: &CellSets<C>,
     nets: &NetDelays<C>,
     net: usize,
     driver: End,
-    delay: &mut Grid<C, Femto>,
+    draft: &mut WireDraft<C>,
     rows: &mut Rows<C>,
 ) -> Result<(), OutOfMemory>
     requires linked { IsLinked cells.now netlist.now }
     requires fits { Fits netlist.now nets.now }
     requires net { net < length netlist.now.nets }
     requires driver { IsEndThere cells.now netlist.now driver }
-    requires one_row { length delay.old.values ≡ C.COUNT }
+    requires one_row { length draft.old.delay.values ≡ C.COUNT }
     ensures rows { OnOk result (rows.new ≡ with_wires rows.old
         (driven_rows cells.now netlist.now C.COUNT nets.now driver net (length (net_at netlist.now net).sinks))) }
-    ensures one_row { length delay.new.values ≡ C.COUNT }
+    ensures one_row { length draft.new.delay.values ≡ C.COUNT }
 {
-    let from = end_sdf(alloc, netlist, cells, driver)?;
+    end_sdf(netlist, cells, driver, &mut draft.from)?;
     for sink in 0..netlist.sink_count(net) {
-        add_wire(
-            alloc, netlist, cells, nets, net, driver, &from, sink, delay, rows,
-        )?;
+        add_wire(netlist, cells, nets, net, driver, sink, draft, rows)?;
     }
     Ok(())
 }
@@ -100,24 +103,23 @@ fn add_driven<C: CornerSet>(
 // Adds the rows of the wires of a net: none where nothing drives it.
 #[tactic(auto, using(crate::proofs::EndsThere::driver_there, crate::proofs::WireLists::with_no_wires))]
 fn add_net<C: CornerSet>(
-    alloc: Global,
     netlist: &Netlist,
     cells: &CellSets<C>,
     nets: &NetDelays<C>,
     net: usize,
-    delay: &mut Grid<C, Femto>,
+    draft: &mut WireDraft<C>,
     rows: &mut Rows<C>,
 ) -> Result<(), OutOfMemory>
     requires linked { IsLinked cells.now netlist.now }
     requires fits { Fits netlist.now nets.now }
     requires net { net < length netlist.now.nets }
-    requires one_row { length delay.old.values ≡ C.COUNT }
+    requires one_row { length draft.old.delay.values ≡ C.COUNT }
     ensures rows { OnOk result (rows.new ≡ with_wires rows.old (net_rows cells.now netlist.now C.COUNT nets.now net)) }
-    ensures one_row { length delay.new.values ≡ C.COUNT }
+    ensures one_row { length draft.new.delay.values ≡ C.COUNT }
 {
     match netlist.driver(net) {
         None => Ok(()),
-        Some(driver) => add_driven(alloc, netlist, cells, nets, net, driver, delay, rows),
+        Some(driver) => add_driven(netlist, cells, nets, net, driver, draft, rows),
     }
 }
 
@@ -133,9 +135,13 @@ pub(crate) fn add_wires<C: CornerSet>(
     requires fits { Fits netlist.now nets.now }
     ensures { OnOk result (rows.new ≡ with_wires rows.old (wire_rows cells.now netlist.now C.COUNT nets.now)) }
 {
-    let mut delay = Grid::with_rows(alloc, 1, Femto(0))?;
+    let mut draft = WireDraft {
+        from: Vec::new(alloc),
+        to: Vec::new(alloc),
+        delay: Grid::with_rows(alloc, 1, Femto(0))?,
+    };
     for net in 0..netlist.net_count() {
-        add_net(alloc, netlist, cells, nets, net, &mut delay, rows)?;
+        add_net(netlist, cells, nets, net, &mut draft, rows)?;
     }
     Ok(())
 }

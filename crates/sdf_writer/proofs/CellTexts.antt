@@ -5,8 +5,7 @@ use Rattle.std.proofs.lemmas.List.Folds.{flat_map-map}
 use Rattle.std.proofs.lemmas.Grind.{flat_map-append}
 use Rattle.delay_units.specs.declared.Femto.{Femto}
 use Rattle.sdf_writer.specs.SdfText.{PathRow, quoted, path_line, same_cell, before_cells, cells_of, cell_opening, cell_closing, cell_lines, lines_text}
-use Rattle.sdf_writer.specs.PathRows.{cell_of, is_same, path_text, line_text, opening_text, closing_text, between_text, rest_text, cells_text}
-use Rattle.sdf_writer.specs.declared.paths.Cell.{Cell}
+use Rattle.sdf_writer.specs.PathRows.{Cell, cell_of, is_same, path_text, line_text, opening_text, closing_text, between_text, rest_text, cells_text}
 
 -- the line of a path is its names and its values
 pub path_parts : (row : PathRow) → path_text row ≡ line_text row.from row.to row.rise row.fall

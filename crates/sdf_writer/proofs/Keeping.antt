@@ -8,8 +8,7 @@ use Rattle.delay_units.specs.declared.Femto.{Femto}
 use Rattle.sdf_writer.specs.Bounds.{AreWithin}
 use Rattle.sdf_writer.specs.SdfText.{PathRow}
 use Rattle.sdf_writer.specs.Names.{ExtendsNames, KeepsName}
-use Rattle.sdf_writer.specs.PathRows.{no_cell, cell_of_names, cell_at, edge_at, path_row, path_rows, IsCellKept, IsEdgeKept, IsKept, Extends, ExtendsTimes, KeepsEdge, KeepsCellNames, KeepsCell, KeepsRow}
-use Rattle.sdf_writer.specs.declared.paths.Cell.{Cell}
+use Rattle.sdf_writer.specs.PathRows.{Cell, no_cell, cell_of_names, cell_at, edge_at, path_row, path_rows, IsCellKept, IsEdgeKept, IsKept, Extends, ExtendsTimes, KeepsEdge, KeepsCellNames, KeepsCell, KeepsRow}
 use Rattle.sdf_writer.specs.declared.paths.KeptCell.{KeptCell}
 use Rattle.sdf_writer.specs.declared.paths.Path.{Path}
 use Rattle.sdf_writer.proofs.KeptNames.{longer, names_grow, name_stays}

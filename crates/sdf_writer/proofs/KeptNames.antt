@@ -33,10 +33,6 @@ name_later {names} {number = number} grown keeps = record {
   is = name_stays number grown keeps.below ∙ keeps.is;
 }
 
--- the same of an equal name
-pub name_of : {names : List (List ℕ)} {name other : List ℕ} {number : ℕ} → name ≡ other → KeepsName names name number → KeepsName names other number
-name_of e keeps = record { below = keeps.below; is = keeps.is ∙ e }
-
 pub name_added : (names names' : List (List ℕ)) (name : List ℕ) (number : ℕ) → names' ≡ names ++ name ∷ [] → number ≡ length names → KeepsName names' name number
 name_added names names' name number e f =
     let size : length names' ≡ length names + 1 = ap length e ∙ length-append names (name ∷ []) in

@@ -6,8 +6,7 @@ use Rattle.edge_io.specs.declared.Failed.{Failed}
 use Rattle.edge_io.specs.Gathering.{Pushes}
 use Rattle.sdf_writer.specs.SdfText.{PathRow}
 use Rattle.sdf_writer.specs.Names.{name_at}
-use Rattle.sdf_writer.specs.PathRows.{cell_at, edge_at, path_row, path_rows, cell_of, line_text, opening_text, closing_text, between_text, next_text, rest_text, cells_text}
-use Rattle.sdf_writer.specs.declared.paths.Cell.{Cell}
+use Rattle.sdf_writer.specs.PathRows.{Cell, cell_at, edge_at, path_row, path_rows, cell_of, line_text, opening_text, closing_text, between_text, next_text, rest_text, cells_text}
 use Rattle.sdf_writer.specs.declared.paths.KeptCell.{KeptCell}
 use Rattle.sdf_writer.specs.declared.paths.Path.{Path}
 use Rattle.sdf_writer.proofs.CellTexts.{path_parts, cells_text_of}

@@ -8,11 +8,15 @@ use Rattle.delay_units.specs.declared.Femto.{Femto}
 use Rattle.sdf_writer.specs.Bounds.{AreWithin}
 use Rattle.sdf_writer.specs.Names.{name_at, KeepsName}
 use Rattle.sdf_writer.specs.SdfText.{PathRow, edge_text, path_line, cells_of, cell_opening, cell_closing, cell_lines, lines_text}
-use Rattle.sdf_writer.specs.declared.paths.Cell.{Cell}
 use Rattle.sdf_writer.specs.declared.paths.KeptCell.{KeptCell}
 use Rattle.sdf_writer.specs.declared.paths.Path.{Path}
 
 -- ---- the rows that are kept
+
+-- the type of a cell, and its instance in the spelling of SDF
+pub record Cell : Type 0 where
+  pub kind : List ℕ
+  pub instance : List ℕ
 
 abbrev pub cell_of_names : List (List ℕ) → KeptCell → Cell
 cell_of_names names cell = record { kind = name_at names cell.kind; instance = name_at names cell.instance }
@@ -98,7 +102,8 @@ pub record KeepsCell (names : List (List ℕ)) (cells : List KeptCell) (cell : C
   pub is : cell_at names cells place ≡ cell
 
 -- a path stands for this row
-pub record KeepsRow (count : ℕ) (names : List (List ℕ)) (cells : List KeptCell) (times : List Femto) (row : PathRow) (path : Path) : Type 0 where
+pub record KeepsRow (count : ℕ) (names : List (List ℕ)) (cells : List KeptCell) (times : List Femto) (row : PathRow) (path : Path)
+    : Type 0 where
   pub kept : IsKept count (length names) (length cells) (length times) path
   pub is : path_row count names cells times path ≡ row
 

@@ -11,5 +11,6 @@ mod rows;
 mod text;
 mod values;
 
+pub use paths::PathNames;
 pub use rows::Rows;
 pub use text::write;

@@ -1,13 +1,13 @@
 //! The rows of paths through cells, as they are collected.
-ghost use Rattle.std.specs.Prelude.{◌≡◌, ◌-◌, ◌<◌, ◌≤◌, [], ◌∷◌, ◌++◌, length, IsTrue, IfOk, OnOk, OnErr};
+ghost use Rattle.std.specs.Prelude.{◌≡◌, ℕ, ◌-◌, ◌<◌, ◌≤◌, [], ◌∷◌, ◌++◌, length, IsTrue, IfOk, IfSome, OnOk, OnErr};
 ghost use Rattle.std.specs.List.{All};
 ghost use Rattle.sdf_writer.specs.Names.{ExtendsNames};
-ghost use Rattle.sdf_writer.specs.PathRows.{cell_of_names, cell_at, is_same, IsCellKept, IsEdge, edge_times, Extends, ExtendsTimes, KeepsEdge, KeepsCellNames, KeepsCell, KeepsRow};
+ghost use Rattle.sdf_writer.specs.PathRows.{cell_of_names, cell_at, is_same, IsCellKept, IsKept, IsEdge, edge_times, Extends, ExtendsTimes, KeepsEdge, KeepsCellNames, KeepsCell, KeepsRow};
 
-use crate::names::{keep_name, name};
+use crate::names::{keep_again, keep_name, name};
 use corner_set::{CornerSet, Grid};
 use delay_units::Femto;
-use edge_io::{OutOfMemory, Text};
+use edge_io::OutOfMemory;
 use std::alloc::Global;
 use std::marker::{Model, PhantomData};
 use text_table::FlatTexts;
@@ -25,11 +25,13 @@ pub(crate) struct Paths<C: CornerSet> {
     pub(crate) corners: PhantomData<C>,
 }
 
-// The type of a cell, and its instance in the spelling of SDF.
-#[derive(Drop)]
-pub(crate) struct Cell {
-    pub(crate) kind: Text,
-    pub(crate) instance: Text,
+/// The names in the row of a path: the type of its cell, a plain text, and its instance and its pins in the spelling of SDF.
+#[derive(Clone, Copy)]
+pub struct PathNames<'n> {
+    pub cell: &'n [u8],
+    pub instance: &'n [u8],
+    pub from: &'n [u8],
+    pub to: &'n [u8],
 }
 
 // The numbers of a cell's two names.
@@ -82,9 +84,7 @@ impl<C: CornerSet> Paths<C> {
     // Puts the row of a path at the end.
     pub(crate) fn add(
         &mut self,
-        cell: Cell,
-        from: Text,
-        to: Text,
+        names: PathNames<'_>,
         rise: Option<&Grid<C, Femto>>,
         fall: Option<&Grid<C, Femto>>,
     ) -> Result<(), OutOfMemory>
@@ -92,10 +92,10 @@ impl<C: CornerSet> Paths<C> {
         requires fall { IsEdge C.COUNT (edge_times fall) }
         ensures ok { OnOk result (self.new ≡ self.old
             ++ record {
-              cell = cell.kind;
-              instance = cell.instance;
-              from = from;
-              to = to;
+              cell = names.entry.cell.now;
+              instance = names.entry.instance.now;
+              from = names.entry.from.now;
+              to = names.entry.to.now;
               rise = edge_times rise.entry;
               fall = edge_times fall.entry;
             } ∷ []) }
@@ -106,9 +106,8 @@ impl<C: CornerSet> Paths<C> {
             &mut self.names,
             &mut self.cells,
             &mut self.times,
-            cell,
-            from,
-            to,
+            last_pins(&self.paths),
+            names,
             rise,
             fall,
         )?;
@@ -118,27 +117,42 @@ impl<C: CornerSet> Paths<C> {
     }
 }
 
-// Keeps the cell of a path, the names of its pins and its times.
+// The numbers of the names of the last path's pins.
+#[inline]
+fn last_pins(paths: &[Path]) -> (Option<u32>, Option<u32>)
+    ensures from { (count names cells times : ℕ) → All (IsKept count names cells times) paths.now
+        → IfSome result.0 (λ number. number < names) }
+    ensures to { (count names cells times : ℕ) → All (IsKept count names cells times) paths.now
+        → IfSome result.1 (λ number. number < names) }
+{
+    match paths.last() {
+        Some(path) => (Some(path.from), Some(path.to)),
+        None => (None, None),
+    }
+}
+
+// Keeps the cell of a path, the names of its pins and its times. The pins may have the names of these numbers.
 fn keep_path<C: CornerSet>(
     names: &mut FlatTexts,
     cells: &mut Vec<KeptCell>,
     times: &mut Vec<Femto>,
-    cell: Cell,
-    from: Text,
-    to: Text,
+    before: (Option<u32>, Option<u32>),
+    row: PathNames<'_>,
     rise: Option<&Grid<C, Femto>>,
     fall: Option<&Grid<C, Femto>>,
 ) -> Result<Path, OutOfMemory>
-    requires cells { All (IsCellKept (length names.now)) cells.now.items }
+    requires cells { All (IsCellKept (length names.old)) cells.old.items }
+    requires from { IfSome before.0 (λ number. number < length names.old) }
+    requires to { IfSome before.1 (λ number. number < length names.old) }
     requires rise { IsEdge C.COUNT (edge_times rise) }
     requires fall { IsEdge C.COUNT (edge_times fall) }
     ensures kept { IfOk result
         (KeepsRow C.COUNT names.new cells.new.items times.new.items
         (record {
-          cell = cell.kind;
-          instance = cell.instance;
-          from = from;
-          to = to;
+          cell = row.entry.cell.now;
+          instance = row.entry.instance.now;
+          from = row.entry.from.now;
+          to = row.entry.to.now;
           rise = edge_times rise.entry;
           fall = edge_times fall.entry;
         })) }
@@ -148,9 +162,9 @@ fn keep_path<C: CornerSet>(
 {
     let rise = keep_edge(times, rise)?;
     let fall = keep_edge(times, fall)?;
-    let from = keep_name(names, from.bytes())?;
-    let to = keep_name(names, to.bytes())?;
-    let cell = keep_cell(names, cells, cell)?;
+    let from = keep_again(names, before.0, row.from)?;
+    let to = keep_again(names, before.1, row.to)?;
+    let cell = keep_cell(names, cells, row.cell, row.instance)?;
     Ok(Path {
         cell,
         from,
@@ -183,42 +197,44 @@ fn keep_edge<C: CornerSet>(
 fn keep_cell(
     names: &mut FlatTexts,
     cells: &mut Vec<KeptCell>,
-    cell: Cell,
+    kind: &[u8],
+    instance: &[u8],
 ) -> Result<usize, OutOfMemory>
     requires cells { All (IsCellKept (length names.now)) cells.now.items }
-    ensures kept { IfOk result (KeepsCell names.new cells.new.items cell) }
+    ensures kept { IfOk result (KeepsCell names.new cells.new.items (record { kind = kind.now; instance = instance.now })) }
     ensures names { ExtendsNames names.old names.new }
     ensures cells { Extends (length names.new) cells.old.items cells.new.items }
 {
     let count = cells.len();
-    if is_last(names, cells.as_slice(), &cell) {
+    if is_last(names, cells.as_slice(), kind, instance) {
         return Ok(count - 1);
     }
     cells.reserve(1)?;
-    let kept = keep_names(names, cell)?;
+    let kept = keep_names(names, kind, instance)?;
     // There is room for it.
     let _ = cells.push(kept);
     Ok(count)
 }
 
 // Keeps the names of a cell.
-fn keep_names(names: &mut FlatTexts, cell: Cell) -> Result<KeptCell, OutOfMemory>
-    ensures kept { IfOk result (KeepsCellNames names.new cell) }
+fn keep_names(names: &mut FlatTexts, kind: &[u8], instance: &[u8]) -> Result<KeptCell, OutOfMemory>
+    ensures kept { IfOk result (KeepsCellNames names.new (record { kind = kind.now; instance = instance.now })) }
     ensures names { ExtendsNames names.old names.new }
 {
-    let kind = keep_name(names, cell.kind.bytes())?;
-    let instance = keep_name(names, cell.instance.bytes())?;
+    let kind = keep_name(names, kind)?;
+    let instance = keep_name(names, instance)?;
     Ok(KeptCell { kind, instance })
 }
 
 // Whether the cell is the last one.
-fn is_last(names: &FlatTexts, cells: &[KeptCell], cell: &Cell) -> bool
+fn is_last(names: &FlatTexts, cells: &[KeptCell], kind: &[u8], instance: &[u8]) -> bool
     requires cells { All (IsCellKept (length names.now)) cells.now }
-    ensures { IsTrue result → (1 ≤ length cells.now) × (cell_at names.now cells.now (length cells.now - 1) ≡ cell.now) }
+    ensures { IsTrue result → (1 ≤ length cells.now)
+        × (cell_at names.now cells.now (length cells.now - 1) ≡ record { kind = kind.now; instance = instance.now }) }
 {
     match cells.last() {
         None => false,
-        Some(last) => is_cell(names, last, cell.kind.bytes(), cell.instance.bytes()),
+        Some(last) => is_cell(names, last, kind, instance),
     }
 }
 

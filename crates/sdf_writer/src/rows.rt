@@ -1,12 +1,13 @@
 //! The rows of one file, as they are collected.
-ghost use Rattle.std.specs.Prelude.{◌≡◌, [], ◌∷◌, ◌++◌, length, IfOk, OnOk, OnErr};
+ghost use Rattle.std.specs.Prelude.{◌≡◌, ℕ, ◌<◌, [], ◌∷◌, ◌++◌, length, IfOk, IfSome, OnOk, OnErr};
+ghost use Rattle.std.specs.List.{All};
 ghost use Rattle.sdf_writer.specs.Bounds.{AreWithin};
 ghost use Rattle.sdf_writer.specs.Names.{ExtendsNames};
-ghost use Rattle.sdf_writer.specs.WireRows.{KeepsWire};
+ghost use Rattle.sdf_writer.specs.WireRows.{IsWireKept, KeepsWire};
 ghost use Rattle.sdf_writer.specs.PathRows.{IsEdge, edge_times};
 
-use crate::names::keep_name;
-use crate::paths::{Cell, Paths};
+use crate::names::{keep_again, keep_name};
+use crate::paths::{PathNames, Paths};
 use corner_set::{CornerSet, Grid};
 use delay_units::Femto;
 use edge_io::{OutOfMemory, Text};
@@ -84,8 +85,24 @@ impl<C: CornerSet> Rows<C> {
             { wires = self.old.wires ++ record { from = from; to = to; delay = delay.now.values } ∷ [] }) }
         ensures err { OnErr result (self.new ≡ self.old) }
     {
+        self.put_wire(from.bytes(), to.bytes(), delay)
+    }
+
+    /// The same as [`Rows::add_wire`], by names that stay the caller's.
+    pub fn put_wire(
+        &mut self,
+        from: &[u8],
+        to: &[u8],
+        delay: &Grid<C, Femto>,
+    ) -> Result<(), OutOfMemory>
+        requires one_row { length delay.now.values ≡ C.COUNT }
+        requires within { AreWithin delay.now.values }
+        ensures ok { OnOk result (self.new ≡ record self.old
+            { wires = self.old.wires ++ record { from = from.now; to = to.now; delay = delay.now.values } ∷ [] }) }
+        ensures err { OnErr result (self.new ≡ self.old) }
+    {
         self.wires.reserve(1)?;
-        let wire = keep_wire(&mut self.names, from, to)?;
+        let wire = keep_wire(&mut self.names, last_from(&self.wires), from, to)?;
         self.delays.extend_from_slice(delay.as_slice())?;
         // There is room for it.
         let _ = self.wires.push(wire);
@@ -120,20 +137,63 @@ impl<C: CornerSet> Rows<C> {
         }) }
         ensures err { OnErr result (self.new ≡ self.old) }
     {
-        let cell = Cell {
-            kind: cell,
-            instance,
+        let names = PathNames {
+            cell: cell.bytes(),
+            instance: instance.bytes(),
+            from: from.bytes(),
+            to: to.bytes(),
         };
-        self.paths.add(cell, from, to, rise, fall)
+        self.put_path(names, rise, fall)
+    }
+
+    /// The same as [`Rows::add_path`], by names that stay the caller's.
+    pub fn put_path(
+        &mut self,
+        names: PathNames<'_>,
+        rise: Option<&Grid<C, Femto>>,
+        fall: Option<&Grid<C, Femto>>,
+    ) -> Result<(), OutOfMemory>
+        requires rise { IsEdge C.COUNT (edge_times rise) }
+        requires fall { IsEdge C.COUNT (edge_times fall) }
+        ensures ok { OnOk result (self.new ≡ record self.old {
+          paths = self.old.paths ++ record {
+            cell = names.entry.cell.now;
+            instance = names.entry.instance.now;
+            from = names.entry.from.now;
+            to = names.entry.to.now;
+            rise = edge_times rise.entry;
+            fall = edge_times fall.entry;
+          } ∷ [];
+        }) }
+        ensures err { OnErr result (self.new ≡ self.old) }
+    {
+        self.paths.add(names, rise, fall)
     }
 }
 
-// Keeps the names of a wire's ends.
-fn keep_wire(names: &mut FlatTexts, from: Text, to: Text) -> Result<Wire, OutOfMemory>
-    ensures kept { IfOk result (KeepsWire names.new from to) }
+// The number of the name of the end that drives the last wire. Wires of one driver stand together, as a rule.
+#[inline]
+fn last_from(wires: &[Wire]) -> Option<u32>
+    ensures { (names : ℕ) → All (IsWireKept names) wires.now → IfSome result (λ number. number < names) }
+{
+    match wires.last() {
+        Some(wire) => Some(wire.from),
+        None => None,
+    }
+}
+
+// Keeps the names of a wire's ends. The first may be that of this number.
+fn keep_wire(
+    names: &mut FlatTexts,
+    before: Option<u32>,
+    from: &[u8],
+    to: &[u8],
+) -> Result<Wire, OutOfMemory>
+    requires { IfSome before (λ number. number < length names.old) }
+    ensures kept { IfOk result (KeepsWire names.new from.now to.now) }
     ensures names { ExtendsNames names.old names.new }
 {
-    let from = keep_name(names, from.bytes())?;
-    let to = keep_name(names, to.bytes())?;
+    let from = keep_again(names, before, from)?;
+    let to = keep_name(names, to)?;
     Ok(Wire { from, to })
 }

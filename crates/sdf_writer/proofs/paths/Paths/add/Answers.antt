@@ -1,8 +1,18 @@
 -- The rows that were kept stay, and one stands behind them.
-use Rattle.std.proofs.Common.{[], ◌∷◌, ◌++◌, ap, ◌∙◌, arith}
+use Rattle.std.proofs.Common.{[], ◌∷◌, ◌++◌, length, ap, ◌∙◌, arith}
 use Rattle.sdf_writer.proofs.Adding.{chosen}
 use Rattle.sdf_writer.proofs.Keeping.{all_grown, cells_more, kept_more, within_more, rows_put, rows_left, kept_added}
 use Rattle.sdf_writer.proofs.paths.Paths.add.Goals as goal
+
+pub keep_path-requires-clause-from : goal.keep_path-requires-clause-from
+keep_path-requires-clause-from g c =
+    c.last_pins.ensures.from g.C.CornerSet.COUNT (length c.self.inside.names) (length c.self.inside.cells.items) (length c.self.inside.times.items)
+    (rw (c.deref.ensures.value, c.reserve.ensures.items) c.self.invariant.1)
+
+pub keep_path-requires-clause-to : goal.keep_path-requires-clause-to
+keep_path-requires-clause-to g c =
+    c.last_pins.ensures.to g.C.CornerSet.COUNT (length c.self.inside.names) (length c.self.inside.cells.items) (length c.self.inside.times.items)
+    (rw (c.deref.ensures.value, c.reserve.ensures.items) c.self.invariant.1)
 
 pub invariant_of-self-in_err-path : goal.invariant_of-self-in_err-path
 invariant_of-self-in_err-path g c =

@@ -3,7 +3,7 @@ use Rattle.std.proofs.Common.{◌∷◌, ◌++◌, [], refl, ap, ◌∙◌, arit
 use Rattle.std.proofs.lemmas.Result.{err_from_is_err_and}
 use Rattle.sdf_writer.proofs.Adding.{chosen, added_sizes, wires_kept, wires_added, none_added, added}
 use Rattle.sdf_writer.proofs.Within.{within_append}
-use Rattle.sdf_writer.proofs.rows.Rows.add_wire.Goals as goal
+use Rattle.sdf_writer.proofs.rows.Rows.put_wire.Goals as goal
 
 pub returns-in_err-wire-clause-err : goal.returns-in_err-wire-clause-err
 returns-in_err-wire-clause-err g c =
