@@ -96,6 +96,21 @@ rest_in_range (negsuc a) (pos c) h =
     (omega (arith, ints, b), omega (arith, ints, b))
 rest_in_range n (negsuc c) h = absurd (omega (arith, ints, h))
 
+-- the rest by the quotient
+pub rest_of : (n d q : ℤ) → pos 1 ≤ℤ d → q ≡ int_div_euclid n d → (n -ℤ (q *ℤ d)) ≡ int_rem_euclid n d
+rest_of n d q h eq =
+    let whole = division n d h in
+    let f : q *ℤ d ≡ int_div_euclid n d *ℤ d = ap (λ x. x *ℤ d) eq in
+    omega (arith, ints, whole, f)
+
+-- the multiple of the divisor that is next below
+pub next_below : (n d q : ℤ) → pos 1 ≤ℤ d → q ≡ int_div_euclid n d → ((q *ℤ d) ≤ℤ n) × (n <ℤ ((q *ℤ d) +ℤ d))
+next_below n d q h eq =
+    let whole = division n d h in
+    let range = rest_in_range n d h in
+    let f : q *ℤ d ≡ int_div_euclid n d *ℤ d = ap (λ x. x *ℤ d) eq in
+    (omega (arith, ints, whole, f, range.0), omega (arith, ints, whole, f, range.1))
+
 pub rounds_down : (n d q r : ℤ) → pos 1 ≤ℤ d → q ≡ int_div_euclid n d → r ≡ int_rem_euclid n d → (r +ℤ r) <ℤ d → IsRounding n d q
 rounds_down n d q r h eq er less =
     let whole = division n d h in
