@@ -74,11 +74,22 @@ pub fn used_cells(alloc: Global, modules: &Modules, top: &Text) -> Result<TextLi
     let Some(top) = modules.find(top.bytes()) else {
         return Err(UseEnd::NoTop);
     };
+    let names = cells_below(alloc, modules, top)?;
+    let used = texts_of(alloc, &names)?;
+    Ok(used)
+}
+
+// The names of the cells of a design, if it can be walked through.
+fn cells_below(alloc: Global, modules: &Modules, top: usize) -> Result<Names, UseEnd>
+    requires within { top < length modules.now }
+    ensures walkable { OnOk result (IsWalkable modules.now top) }
+    ensures names { IfOk result (λ names. names ≡ cells_used modules.now top) }
+    ensures refused { IfErr result (IsUseEnd modules.now (module_at modules.now top).name) }
+{
     let cells = InstanceCells::of(alloc, modules)?;
     check_walk(alloc, modules, &cells, top)?;
     let names = cells_along(alloc, modules, &cells, top)?;
-    let used = texts_of(alloc, &names)?;
-    Ok(used)
+    Ok(names)
 }
 
 // Whether a design can be walked through.

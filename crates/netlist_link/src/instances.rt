@@ -88,7 +88,8 @@ fn set_pin_nets(
         joints.now.starts.items joints.now.numbers.items joints.now.places.items) }
     requires within { i < length design.now.walk.now.met }
     requires cell { IsOfCell design.now i }
-    requires none { OverCells design.now (λ cells. nets.old ≡ replicate (length (pins_of cells (slice_index joints.now.places.items i))) None) }
+    requires none { OverCells design.now (λ cells.
+        nets.old ≡ replicate (length (pins_of cells (slice_index joints.now.places.items i))) None) }
     ensures { OverCells design.now (AreNetsOf design.now i (slice_index joints.now.places.items i) nets.new) }
 {
     design.modules.sound();

@@ -8,6 +8,8 @@ ghost use Rattle.spef_nets.specs.Faults.{IsFaultless, AreFaultless, IsSectionEnd
 ghost use Rattle.spef_nets.specs.Drafts.{corners_of, written_net};
 ghost use Rattle.spef_nets.specs.DraftOf.{drafted};
 ghost use Rattle.spef_nets.specs.Reading.{IsReading};
+ghost use Rattle.spef_nets.specs.Rows.{no_rows};
+ghost use Rattle.spef_nets.specs.RowsOf.{rows_of};
 ghost use Rattle.spef_nets.specs.TablesOf.{HoldNets, nets_in};
 
 use crate::draft::Draft;
@@ -101,6 +103,32 @@ fn push_next<'r, 'f, C: CornerSet>(
     Ok(())
 }
 
+// Reads all sections into the lists, which are empty.
+fn push_all<'r, 'f, C: CornerSet>(
+    source: &Source<'r, 'f>,
+    nets: &mut Names,
+    tables: &mut Tables,
+    lists: &mut SectionLists<'r>,
+) -> Result<(), SectionEnd>
+    requires head { IsHeadOf source.now.file.now source.now.head.now }
+    requires few { length source.now.file.now.reading.sections < 2 ^ 30 }
+    requires nets { nets.old ≡ [] }
+    requires nodes { tables.old.nodes.items ≡ [] }
+    requires rows { rows_of tables.old.elements ≡ no_rows }
+    requires ends { tables.old.ends.items ≡ [] }
+    ensures ok { OnOk result (AreNets (corners_of C.COUNT C.number_of C.member_of source.now.pick) source.now.file.now source.now.head.now
+        (nets_in source.now.file.now C.COUNT nets.new tables.new)) }
+    ensures held { OnOk result (HoldNets source.now.file.now source.now.head.now C.COUNT nets.new tables.new) }
+    ensures count { OnOk result (length nets.new ≡ length source.now.file.now.reading.sections) }
+    ensures refused { IfErr result (IsSectionEnd source.now.file.now source.now.head.now) }
+    ensures faultless { OnOk result (AreFaultless source.now.file.now source.now.head.now) }
+{
+    for _ in 0..source.file.section_count() {
+        push_next::<C>(source, nets, tables, lists)?;
+    }
+    Ok(())
+}
+
 /// Reads all sections of a file (IEEE 1481). A net has its nodes by first place, the connections (of several with one node the first
 /// alone), the capacitances, a coupling to ground at each of its two places whose node belongs to the section, and the resistors; each
 /// value is the rounded reading of the member that counts at the corner. One number stands for all three. It takes one look-up for
@@ -136,9 +164,7 @@ pub fn read_sections<'r, 'f, C: CornerSet>(
     let mut tables = Tables::with_room::<C>(alloc, file)?;
     let mut lists = SectionLists::new(alloc);
     file.formed();
-    for _ in 0..file.section_count() {
-        push_next::<C>(&source, &mut nets, &mut tables, &mut lists)?;
-    }
+    push_all::<C>(&source, &mut nets, &mut tables, &mut lists)?;
     Ok(Sections {
         file,
         head,

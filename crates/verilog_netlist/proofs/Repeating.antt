@@ -14,7 +14,7 @@ use Rattle.token_texts.specs.Spans.{text_at}
 use Rattle.verilog_netlist.specs.Namespaces.{name_of, own_names, header_names, IsAmong, by_own, in_header, begins_module, begins_instance, scope_of, IsRepeated}
 use Rattle.verilog_netlist.specs.Directions.{StandsAmong}
 pub use Rattle.verilog_netlist.specs.PartPlaces.{no_entry}
-use Rattle.verilog_netlist.specs.NameKeys.{code_of, Key, key_in, keys_in, same_key, scope_in, counted, key_of, holds, is_ports, keeps, ports_from, with_key, is_held, with_name, key_at, IsKeyBefore, HoldsNames}
+use Rattle.verilog_netlist.specs.NameKeys.{code_of, Key, key_in, keys_in, same_key, scope_in, counted, key_of, holds, is_ports, keeps, ports_from, with_key, is_held, with_name, is_either_held, with_both, key_at, IsKeyBefore, HoldsNames}
 use Rattle.verilog_netlist.specs.declared.entries.Decl.TheVariants as decl
 use Rattle.verilog_netlist.specs.declared.entries.Entry.{Entry}
 use Rattle.verilog_netlist.specs.declared.entries.Entry.TheVariants.{Declared}
@@ -137,15 +137,6 @@ module _ (scopes : Scopes) (name : List ℕ) where
 
   name_added : (among : Option Names) (of : Names) (has : Key → Bool) → among ≡ Some of → with_name among scopes name has (key_of of scopes name) ≡ true
   name_added among of has e = ap (λ (a : Option Names). with_name a scopes name has (key_of of scopes name)) e ∙ added has (key_of of scopes name)
-
-  -- two tests that tell the same tell the same with a name more
-  held_alike : (among : Option Names) (one other : Key → Bool) → ((key : Key) → one key ≡ other key) → is_held among scopes name one ≡ is_held among scopes name other
-  held_alike None one other same = refl
-  held_alike (Some of) one other same = same (key_of of scopes name)
-
-  with_alike : (among : Option Names) (one other : Key → Bool) → ((key : Key) → one key ≡ other key) → (key : Key) → with_name among scopes name one key ≡ with_name among scopes name other key
-  with_alike None one other same key = same key
-  with_alike (Some of) one other same key = ap (λ (b : Bool). b || same_key key (key_of of scopes name)) (same key)
 
 name_by_code : ℕ → Option Names
 name_by_code n =
@@ -455,9 +446,6 @@ module _ (bytes : List ℕ) (entries : List Entry) where
       abbrev with_header : Key → Bool
       with_header key = with_name (header_names e) now name has key
 
-      abbrev with_both : Key → Bool
-      with_both key = with_name (own_names e) now name with_header key
-
       header_repeats : is_held (header_names e) now name has ≡ true → IsRepeated bytes entries index
       header_repeats held = let p = held_is now name (header_names e) has held in repeats p.0 (in_header p.1) p.2
 
@@ -469,7 +457,7 @@ module _ (bytes : List ℕ) (entries : List Entry) where
             | inr new ↦ absurd (apart e p.0 p.1 (new.1 ∙ ap (λ (a : Names). Some a) (one_code new.0 p.0 (sym (ap (λ (k : Key). k.code) new.2)))))
           ]
 
-      held_now : (key : Key) → with_both key ≡ true → Seen (index + 1) key
+      held_now : (key : Key) → with_both e now name has key ≡ true → Seen (index + 1) key
       held_now key held = elim (name_more now name (own_names e) with_header key held) [
         | inr new ↦ seen_here key new.0 (by_own new.1) new.2
         | inl old ↦ elim (name_more now name (header_names e) has key old) [
@@ -478,18 +466,18 @@ module _ (bytes : List ℕ) (entries : List Entry) where
         ]
       ]
 
-      here_held : (among : Names) → IsAmong among e → with_both (key_of among now name) ≡ true
+      here_held : (among : Names) → IsAmong among e → with_both e now name has (key_of among now name) ≡ true
       here_held among (by_own own) = name_added now name (own_names e) among with_header own
       here_held among (in_header header) = name_stays now name (own_names e) with_header (key_of among now name) (name_added now name (header_names e) among has header)
 
-      seen_now : (key : Key) → Seen (index + 1) key → IsCurrent now key → with_both key ≡ true
+      seen_now : (key : Key) → Seen (index + 1) key → IsCurrent now key → with_both e now name has key ≡ true
       seen_now key s current = elim (cases_eq s.before index) [
         | inr other ↦ name_stays now name (own_names e) with_header key (name_stays now name (header_names e) has key
             (h.seen key (record { among = s.among; before = s.before; e = s.e; below = let below = s.below in omega arith; stands = s.stands; is = s.is; key_is = s.key_is }) current))
         | inl at ↦
             let same : s.e ≡ e = let f = s.stands in let g = ap (slice_get entries) at in cc in
             let key_is : key ≡ key_of s.among now name = s.key_is ∙ ap₂ (λ (p : ℕ) (x : Entry). key_at bytes entries p x s.among) at same ∙ sym (key_is_here s.among) in
-            subst (λ (k : Key). with_both k ≡ true) (sym key_is) (here_held s.among (subst (λ (x : Entry). IsAmong s.among x) same s.is))
+            subst (λ (k : Key). with_both e now name has k ≡ true) (sym key_is) (here_held s.among (subst (λ (x : Entry). IsAmong s.among x) same s.is))
       ]
 
       not_here : is_held (header_names e) now name has ≡ false → is_held (own_names e) now name with_header ≡ false → IsRepeated bytes entries index → ⊥
@@ -505,29 +493,14 @@ module _ (bytes : List ℕ) (entries : List Entry) where
       decides false true h o = ((λ yes. own_repeats o), (λ r. refl))
       decides false false h o = ((λ yes. absurd (true≢false (sym yes))), (λ r. absurd (not_here h o r)))
 
-      -- the name, as what the header names, and then as its own
-      module _ (between after : Key → Bool) (header own : Bool) (header_is : header ≡ is_held (header_names e) now name has)
-          (between_is : (key : Key) → between key ≡ with_name (header_names e) now name has key) (own_is : own ≡ is_held (own_names e) now name between)
-          (after_is : (key : Key) → after key ≡ with_name (own_names e) now name between key) where
-        pub decides_repeated : Decides (header || own) (IsRepeated bytes entries index)
-        decides_repeated = decides header own (sym header_is) (sym (held_alike now name (own_names e) between with_header between_is) ∙ sym own_is)
+      pub decides_repeated : Decides (is_either_held e now name has) (IsRepeated bytes entries index)
+      decides_repeated = decides (is_held (header_names e) now name has) (is_held (own_names e) now name with_header) refl refl
 
-        pub goes_on : Collected (index + 1) after now
-        goes_on = record {
-          counts = count_on entries index scopes counts e within here;
-          names = holds_alike (index + 1) after with_both now (λ key. after_is key ∙ with_alike now name (own_names e) between with_header between_is key)
-              (record { held = held_now; seen = seen_now });
-        }
-
--- the same of what is equal to what is asked for
-module _ {among among' : Option Names} {scopes scopes' : Scopes} {name name' : List ℕ} (e : among ≡ among') (f : scopes ≡ scopes') (g : name ≡ name') (has : Key → Bool) where
-  pub held_so : (held : Bool) → held ≡ is_held among scopes name has → held ≡ is_held among' scopes' name' has
-  held_so held h =
-      h ∙ ap (λ (a : Option Names). is_held a scopes name has) e ∙ ap (λ (s : Scopes). is_held among' s name has) f ∙ ap (λ (n : List ℕ). is_held among' scopes' n has) g
-
-  pub with_so : (after : Key → Bool) → ((key : Key) → after key ≡ with_name among scopes name has key) → (key : Key) → after key ≡ with_name among' scopes' name' has key
-  with_so after h key =
-      h key ∙ ap (λ (a : Option Names). with_name a scopes name has key) e ∙ ap (λ (s : Scopes). with_name among' s name has key) f ∙ ap (λ (n : List ℕ). with_name among' scopes' n has key) g
+      pub goes_on : (after : Key → Bool) → ((key : Key) → after key ≡ with_both e now name has key) → Collected (index + 1) after now
+      goes_on after after_is = record {
+        counts = count_on entries index scopes counts e within here;
+        names = holds_alike (index + 1) after (with_both e now name has) now after_is (record { held = held_now; seen = seen_now });
+      }
 
 pub stands_at : (entries : List Entry) (place : ℕ) → place < length entries → slice_get entries place ≡ Some (get_or entries place no_entry)
 stands_at entries place below = slice_get-get_or entries place no_entry below

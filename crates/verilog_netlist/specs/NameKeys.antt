@@ -3,7 +3,7 @@ use Rattle.std.specs.Prelude.{◌≡◌, ℕ, ◌+◌, ◌<◌, Bool, true, fals
 use Rattle.std.specs.List.{list_any}
 use Rattle.std.specs.Str.{bytes_eq}
 use Rattle.token_texts.specs.Spans.{text_at}
-use Rattle.verilog_netlist.specs.Namespaces.{name_of, IsAmong, begins_module, begins_instance, scope_of}
+use Rattle.verilog_netlist.specs.Namespaces.{name_of, own_names, header_names, IsAmong, begins_module, begins_instance, scope_of}
 use Rattle.verilog_netlist.specs.declared.entries.Decl.TheVariants as decl
 use Rattle.verilog_netlist.specs.declared.entries.Entry.{Entry}
 use Rattle.verilog_netlist.specs.declared.entries.Entry.TheVariants.{Header, Declared}
@@ -76,6 +76,14 @@ with_key has new key = has key || same_key key new
 abbrev pub with_name : Option Names → Scopes → List ℕ → (Key → Bool) → Key → Bool
 with_name None scopes name has key = has key
 with_name (Some among) scopes name has key = with_key has (key_of among scopes name) key
+
+-- of the name of an entry, as one of those of its header and then as one of its own: whether it is held, and what tells the keys with it
+abbrev pub is_either_held : Entry → Scopes → List ℕ → (Key → Bool) → Bool
+is_either_held entry scopes name has =
+    is_held (header_names entry) scopes name has || is_held (own_names entry) scopes name (with_name (header_names entry) scopes name has)
+
+abbrev pub with_both : Entry → Scopes → List ℕ → (Key → Bool) → Key → Bool
+with_both entry scopes name has = with_name (own_names entry) scopes name (with_name (header_names entry) scopes name has)
 
 -- the key of an entry at this place, as one of these names
 abbrev pub key_at : List ℕ → List Entry → ℕ → Entry → Names → Key

@@ -1,10 +1,10 @@
 //! Collects the names that must differ, and looks for one that stands twice.
-ghost use Rattle.std.specs.Prelude.{◌≡◌, ◌+◌, ◌^◌, ◌<◌, length, IfOk, OnOk};
+ghost use Rattle.std.specs.Prelude.{◌≡◌, ◌+◌, ◌^◌, ◌<◌, [], length, IfOk, OnOk};
 ghost use Rattle.token_texts.specs.Spans.{text_at};
 ghost use Rattle.verilog_netlist.specs.Namespaces.{name_of, IsFirstRepeated, begins_module, begins_instance};
 ghost use Rattle.verilog_netlist.specs.DeclaredNames.{AddsRanged, CoversRanged};
 ghost use Rattle.verilog_netlist.specs.Firsts.{first_or};
-ghost use Rattle.verilog_netlist.specs.NameKeys.{Key, code_of, keys_in, key_of, scope_in, holds, is_ports, keeps, ports_from, with_key, is_held, with_name, counted, HoldsNames};
+ghost use Rattle.verilog_netlist.specs.NameKeys.{Key, code_of, keys_in, key_of, scope_in, holds, is_ports, keeps, ports_from, with_key, is_held, with_name, is_either_held, with_both, counted, HoldsNames};
 
 use crate::entries::Entry;
 use crate::name_text::NameText;
@@ -137,6 +137,18 @@ fn is_ports(among: Names) -> bool
     matches!(among, Names::Ports)
 }
 
+// What was found before this place, or this place if it is one.
+#[inline]
+fn first_or(found: Option<usize>, place: usize, here: bool) -> Option<usize>
+    ensures { result ≡ first_or found place here }
+{
+    match found {
+        Some(before) => Some(before),
+        None if here => Some(place),
+        None => None,
+    }
+}
+
 /// The names before a place: the ports of the instance there, and all other names.
 #[derive(Drop)]
 pub struct NamesSoFar<'a> {
@@ -182,6 +194,56 @@ impl<'a> NamesSoFar<'a> {
         let is_held = add_key(&mut self.keys, among, scopes, name)?;
         Ok(is_held)
     }
+
+    /// Comes to this entry, adds its name as one of those of its header and as its own, and tells whether it was there.
+    #[inline(always)]
+    fn take(
+        &mut self,
+        alloc: Global,
+        bytes: &'a [u8],
+        entry: Entry,
+        scopes: Scopes,
+    ) -> Result<bool, OutOfMemory>
+        ensures held { IfOk result (λ held. held ≡ is_either_held entry scopes (text_at bytes.now (name_of entry))
+            (keeps scopes.instances (keys_in self.old.keys.keys) (ports_from entry self.old.ports))) }
+        ensures names { OnOk result ((key : Key) → keeps scopes.instances (keys_in self.new.keys.keys) self.new.ports key
+            ≡ with_both entry scopes (text_at bytes.now (name_of entry))
+            (keeps scopes.instances (keys_in self.old.keys.keys) (ports_from entry self.old.ports)) key) }
+    {
+        self.come_to(alloc, entry);
+        let in_header = self.add(bytes, entry, entry.header_names(), scopes)?;
+        let by_own = self.add(bytes, entry, entry.own_names(), scopes)?;
+        let is_held = in_header || by_own;
+        Ok(is_held)
+    }
+
+    /// Takes all entries where none was taken before, and tells the place of the first whose name was there. The names that are declared
+    /// with a range go into a table of their own.
+    fn take_all(
+        &mut self,
+        alloc: Global,
+        bytes: &'a [u8],
+        entries: &[Entry],
+        ranged: &mut IndexSet<NameKey<'a>, NameHash>,
+    ) -> Result<Option<usize>, OutOfMemory>
+        requires few { length entries.now < 2 ^ 30 }
+        requires keys { self.old.keys.keys ≡ [] }
+        requires ports { self.old.ports ≡ [] }
+        requires ranged { ranged.old.keys ≡ [] }
+        ensures repeated { IfOk result (IsFirstRepeated bytes.now entries.now) }
+        ensures keys { OnOk result (HoldsNames bytes.now entries.now (length entries.now) (keys_in self.new.keys.keys)) }
+        ensures ranged { OnOk result (CoversRanged bytes.now entries.now (length entries.now) (keys_in ranged.new.keys)) }
+    {
+        let mut repeated = None;
+        let mut scopes = Scopes::new();
+        for (place, entry) in entries.iter().enumerate() {
+            scopes = scopes.from(*entry);
+            let is_held = self.take(alloc, bytes, *entry, scopes)?;
+            repeated = first_or(repeated, place, is_held);
+            add_ranged(ranged, scopes, bytes, *entry)?;
+        }
+        Ok(repeated)
+    }
 }
 
 /// The names of a netlist but for ports, the place of the first entry whose name is repeated, and the names that are declared with a
@@ -193,19 +255,7 @@ pub struct NameTable<'a> {
     pub ranged: IndexSet<NameKey<'a>, NameHash>,
 }
 
-/// What was found before this place, or this place if it is one.
-#[inline]
-fn first_or(found: Option<usize>, place: usize, here: bool) -> Option<usize>
-    ensures { result ≡ first_or found place here }
-{
-    match found {
-        Some(before) => Some(before),
-        None if here => Some(place),
-        None => None,
-    }
-}
-
-/// Collects all names. It takes time in proportion to the bytes of the names.
+//// Collects all names. It takes time in proportion to the bytes of the names.
 pub(crate) fn collect_names<'a>(
     alloc: Global,
     bytes: &'a [u8],
@@ -222,17 +272,8 @@ pub(crate) fn collect_names<'a>(
         keys: IndexSet::with_capacity_and_hasher(alloc, many, NameHash::default())?,
         ports: PortNames::new(alloc),
     };
-    let mut repeated = None;
     let mut ranged = IndexSet::with_hasher(alloc, NameHash::default());
-    let mut scopes = Scopes::new();
-    for (place, entry) in entries.iter().enumerate() {
-        scopes = scopes.from(*entry);
-        names.come_to(alloc, *entry);
-        let in_header = names.add(bytes, *entry, entry.header_names(), scopes)?;
-        let by_own = names.add(bytes, *entry, entry.own_names(), scopes)?;
-        repeated = first_or(repeated, place, in_header || by_own);
-        add_ranged(&mut ranged, scopes, bytes, *entry)?;
-    }
+    let repeated = names.take_all(alloc, bytes, entries, &mut ranged)?;
     Ok(NameTable {
         keys: names.keys,
         repeated,

@@ -7,16 +7,6 @@ use Rattle.hierarchy.proofs.uses.used_cells.Goals as goal
 pub returns-in_default-clause-refused : goal.returns-in_default-clause-refused
 returns-in_default-clause-refused c = no_top (λ m lt e. c.in_default.ensures.none m lt (e ∙ sym c.bytes.ensures))
 
-pub returns-in_err-names-clause-refused : goal.returns-in_err-names-clause-refused
-returns-in_err-names-clause-refused c =
-    let p = err_from_is_err_and c.from_residual-in_err-names.result c.from_residual-in_err-names.ensures.1 in
-    rw (p.1, p.2) no_memory
-
-pub returns-in_err-cells-clause-refused : goal.returns-in_err-cells-clause-refused
-returns-in_err-cells-clause-refused c =
-    let p = err_from_is_err_and c.from_residual.result c.from_residual.ensures.1 in
-    rw (p.1, p.2) no_memory
-
 pub returns-in_err-used-clause-refused : goal.returns-in_err-used-clause-refused
 returns-in_err-used-clause-refused c =
     let p = err_from_is_err_and c.from_residual-in_err-used.result c.from_residual-in_err-used.ensures.1 in

@@ -1,4 +1,4 @@
-use Rattle.std.proofs.Common.{rules, ◌≡◌, ◌+◌, ◌++◌, ◌∷◌, [], ◌≤◌, length, take, All, subst, sym}
+use Rattle.std.proofs.Common.{rules, ◌≡◌, ◌+◌, ◌++◌, ◌∷◌, [], ◌≤◌, length, take, All, subst, sym, arith}
 use Rattle.std.specs.List.{flat_map, AllZip}
 use Rattle.liberty_groups.specs.Tables.{tree_of}
 use Rattle.timing_arcs.specs.PinModel.{IsPin}
@@ -38,7 +38,7 @@ returns-clause-ok c =
     let tree = c.args.tree.now in
     let entries = entries_in tree c.args.table.now.names c.args.table.now.groups.items in
     let long = entries_length tree c.args.table.now.names c.args.table.now.groups.items c.requires.even in
-    let past : length entries ≤ c.loop-place.place = search rules in
+    let past : length entries ≤ c.loop-place.place = omega (arith, long, c.loop-place-test.false) in
     subst (λ l. AllZip (IsPin (tree_of tree)) l c.loop-place.pins.items) (all_taken entries c.loop-place.place past) c.loop-place.invariant.pins
 
 pub returns-clause-sound : goal.returns-clause-sound
@@ -46,5 +46,5 @@ returns-clause-sound c =
     let tree = c.args.tree.now in
     let entries = entries_in tree c.args.table.now.names c.args.table.now.groups.items in
     let long = entries_length tree c.args.table.now.names c.args.table.now.groups.items c.requires.even in
-    let past : length entries ≤ c.loop-place.place = search rules in
+    let past : length entries ≤ c.loop-place.place = omega (arith, long, c.loop-place-test.false) in
     subst (λ l. All (IsSound (tree_of tree)) (flat_map pin_questions l)) (all_taken entries c.loop-place.place past) c.loop-place.invariant.sound
