@@ -10,7 +10,7 @@ use Rattle.token_texts.specs.Readings.{MakesParts, StopsParts, IfRefused}
 use Rattle.token_texts.specs.declared.reading.ReadEnd.{ReadEnd}
 use Rattle.token_texts.specs.declared.reading.ReadEnd.TheVariants.{Refused}
 use Rattle.spef_text.specs.Tokens.{cut_at, texts_of, AreTokens, IsToken}
-use Rattle.spef_text.specs.Starts.{texts}
+use Rattle.spef_text.specs.Starts.{texts, short_lens}
 use Rattle.spef_text.specs.Grammar.{IsSpef}
 use Rattle.spef_text.specs.Entries.{Reading}
 use Rattle.spef_text.specs.Modes.{State, first_state, next, finish}
@@ -102,6 +102,11 @@ module _ {bytes : List ℕ} {reader : Reader} (h : MakesParts cut_at Makes bytes
   made_there : outcome next finish first_state 1 (texts bytes reader.starts.items) ≡ Ok (reading_of reader)
   unfolding parted_there
   made_there = subst (λ (l : List (List ℕ)). outcome next finish first_state 1 l ≡ Ok (reading_of reader)) (sym parted_there.are) h.made.reading
+
+  -- the lengths that it has are theirs
+  pub lens_there : reader.lens.items ≡ short_lens (texts bytes reader.starts.items)
+  unfolding parted_there
+  lens_there = h.made.lens ∙ ap short_lens (sym parted_there.are)
 
   pub reads_there : Reads bytes (text_of_reader bytes reader)
   reads_there = reads bytes (texts bytes reader.starts.items) parted_there (reading_of reader) made_there

@@ -1,12 +1,13 @@
 -- One token more leads the reader on, or stops it.
 use Rattle.std.proofs.Common.{◌≡◌, ℕ, ◌+◌, ◌-◌, List, [], ◌∷◌, ◌++◌, length, true, false, Some, None, Ok, Err, refl, sym, ap, ◌∙◌, subst, arith}
 use Rattle.std.specs.Prelude.{slice_get}
+use Rattle.std.proofs.lemmas.List.{map-append}
 use Rattle.token_texts.specs.Cuts.{Part, gap, token, lexemes}
 use Rattle.token_texts.specs.Leading as leading
 use Rattle.token_texts.specs.Leading.{leads_on, leads_to_stop, leads_to_value, leads_to_end}
 use Rattle.token_texts.specs.Readings.{IsNext}
 use Rattle.spef_text.specs.Tokens.{texts_of}
-use Rattle.spef_text.specs.Starts.{starts_from}
+use Rattle.spef_text.specs.Starts.{starts_from, short_len, short_lens}
 use Rattle.spef_text.specs.Modes.{first_state, next, may_end, finish}
 use Rattle.spef_text.specs.ReaderStates.{state_of, reading_of}
 use Rattle.spef_text.specs.Leading.{Leads, Stops, Makes}
@@ -22,6 +23,7 @@ pub passed : (before : List (Part Kind)) (bytes : List ℕ) (reader : Reader) �
 passed before bytes reader h = record {
   state = subst (λ (texts : List (List ℕ)). leading.Leads next finish first_state texts (state_of reader)) (sym (texts_gap before bytes)) h.state;
   starts = h.starts ∙ sym (starts_gap 0 before bytes);
+  lens = h.lens ∙ ap short_lens (sym (texts_gap before bytes));
 }
 
 module _ (before : List (Part Kind)) (number start : ℕ) (kind : Kind) (text : List ℕ) (reader : Reader) (is_next : IsNext before number start)
@@ -31,13 +33,16 @@ module _ (before : List (Part Kind)) (number start : ℕ) (kind : Kind) (text : 
 
   -- a token is taken
   pub taken : (after : Reader) → next (state_of reader) (record { number = number; text = text }) ≡ Ok (state_of after)
-      → after.starts.items ≡ reader.starts.items ++ start ∷ [] → Leads (before ++ token (record { kind = kind; bytes = text }) ∷ []) after
-  taken after moves pushed = record {
+      → after.starts.items ≡ reader.starts.items ++ start ∷ [] → after.lens.items ≡ reader.lens.items ++ short_len text ∷ []
+      → Leads (before ++ token (record { kind = kind; bytes = text }) ∷ []) after
+  taken after moves pushed measured = record {
     state = subst (λ (texts : List (List ℕ)). leading.Leads next finish first_state texts (state_of after))
         (sym (texts_behind before (token (record { kind = kind; bytes = text }) ∷ [])))
         (leads_on next finish first_state (texts_of before) number (state_of reader) (state_of after) text count h.state moves);
     starts = pushed ∙ ap (λ l. l ++ start ∷ []) h.starts ∙ ap (λ n. starts_from 0 before ++ n ∷ []) (let e = is_next.place in omega arith)
         ∙ sym (starts_token 0 before (record { kind = kind; bytes = text }));
+    lens = measured ∙ ap (λ l. l ++ short_len text ∷ []) h.lens ∙ sym (map-append short_len (texts_of before) (text ∷ []))
+        ∙ ap short_lens (sym (texts_behind before (token (record { kind = kind; bytes = text }) ∷ [])));
   }
 
   there : (more : List (List ℕ)) (texts : List (List ℕ)) (n : ℕ) → n ≡ length texts + 1 → slice_get (texts ++ text ∷ more) (n - 1) ≡ Some text
@@ -77,6 +82,7 @@ pub ended : (parts : List (Part Kind)) (reader : Reader) → Leads parts reader 
 ended parts reader h may = record {
   reading = leads_to_value next finish first_state (texts_of parts) (state_of reader) (reading_of reader) h.state (simp may);
   starts = h.starts;
+  lens = h.lens;
 }
 
 -- it may not

@@ -1,10 +1,14 @@
 -- Where tokens begin: behind each part that is read, and that each token is the one at its place.
-use Rattle.std.proofs.Common.{◌≡◌, ℕ, ◌+◌, ◌≤◌, List, [], ◌∷◌, ◌++◌, length, take, drop, refl, sym, ap, ◌∙◌, subst, arith, append-nil}
-use Rattle.std.proofs.lemmas.List.{drop-drop, length-take}
+use Rattle.std.proofs.Common.{◌≡◌, ℕ, zero, suc, ◌+◌, ◌<◌, ◌≤◌, List, [], ◌∷◌, ◌++◌, length, take, drop, Option, Some, refl, sym, ap, ◌∙◌, subst, arith, append-nil}
+use Rattle.std.specs.Prelude.{slice_get, get_or}
+use Rattle.std.specs.Option.{option_map}
+use Rattle.std.proofs.lemmas.Option.{slice_get-map, slice_get-get_or}
+use Rattle.std.proofs.lemmas.List.{drop-drop, length-take, length-map}
 use Rattle.token_texts.specs.Cuts.{Part, gap, token, Lexeme, AreParts, no_part, and_gap, and_token, lexemes, byte_count, IsWithin}
+use Rattle.token_texts.specs.declared.cuts.Cut.{Cut}
 use Rattle.token_texts.specs.declared.cuts.Cut.TheVariants.{Skip, Take}
 use Rattle.spef_text.specs.Tokens.{cut_at, texts_of}
-use Rattle.spef_text.specs.Starts.{taken_by, front_token, token_at, texts, starts_from}
+use Rattle.spef_text.specs.Starts.{taken_by, front_cut, front_token, token_at, short_len, short_lens, texts, starts_from}
 use Rattle.spef_text.specs.Within.{cut_within}
 use Rattle.spef_text.specs.declared.scan.Kind.{Kind}
 
@@ -69,3 +73,31 @@ texts_there bytes place (and_token {first = first} {rest = rest} {parts = parts}
     (texts_there bytes (place + n) later (sym (drop-drop n place bytes) ∙ ap (drop n) there)) in
     ap (λ text. text ∷ texts bytes (starts_from (place + length (take n (first ∷ rest))) parts)) here
     ∙ ap (λ l. take n (first ∷ rest) ∷ l) behind
+
+-- ---- the length of a token
+
+taken_size : (cut : Cut Kind) (bytes : List ℕ) → taken_by cut bytes ≡ take (length (taken_by cut bytes)) bytes
+taken_size (Skip n) bytes = refl
+taken_size (Take n kind) bytes = front n bytes
+  where
+    front : (n : ℕ) (bytes : List ℕ) → take n bytes ≡ take (length (take n bytes)) bytes
+    front zero bytes = refl
+    front (suc n) [] = refl
+    front (suc n) (first ∷ rest) = ap (λ l. first ∷ l) (front n rest)
+
+-- a token is as many bytes as it has from its place on
+pub token_size : (bytes : List ℕ) (start : ℕ) → token_at bytes start ≡ take (length (token_at bytes start)) (drop start bytes)
+token_size bytes start = taken_size (front_cut (drop start bytes)) (drop start bytes)
+
+-- the lengths that are kept of tokens are theirs, place by place
+pub length_there : (bytes starts lens : List ℕ) (place start len : ℕ) → lens ≡ short_lens (texts bytes starts) → place < length starts
+    → start ≡ get_or starts place start → len ≡ get_or lens place len → len ≡ short_len (token_at bytes start)
+length_there bytes starts lens place start len are within at_start at_len =
+    let as_many : length lens ≡ length starts = ap length are ∙ length-map (texts bytes starts) short_len ∙ length-map starts (token_at bytes) in
+    let here : slice_get starts place ≡ Some start = slice_get-get_or starts place start within ∙ ap Some (sym at_start) in
+    let there : slice_get (short_lens (texts bytes starts)) place ≡ Some (short_len (token_at bytes start))
+    = slice_get-map short_len (texts bytes starts) place
+    ∙ ap (option_map short_len) (slice_get-map (token_at bytes) starts place ∙ ap (option_map (token_at bytes)) here) in
+    let same : Some len ≡ Some (short_len (token_at bytes start))
+    = ap Some at_len ∙ sym (slice_get-get_or lens place len (omega (arith, as_many, within))) ∙ ap (λ l. slice_get l place) are ∙ there in
+    cc

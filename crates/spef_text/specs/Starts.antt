@@ -1,5 +1,5 @@
 -- The tokens of a file by the places of their first bytes.
-use Rattle.std.specs.Prelude.{ℕ, ◌+◌, List, [], ◌∷◌, length, map, take, drop}
+use Rattle.std.specs.Prelude.{ℕ, ◌+◌, List, [], ◌∷◌, length, map, min, take, drop}
 use Rattle.token_texts.specs.Cuts.{Part, gap, token}
 use Rattle.token_texts.specs.declared.cuts.Cut.{Cut}
 use Rattle.token_texts.specs.declared.cuts.Cut.TheVariants.{Skip, Take}
@@ -27,6 +27,14 @@ token_at bytes start = front_token (drop start bytes)
 -- the texts of tokens, in order
 abbrev pub texts : List ℕ → List ℕ → List (List ℕ)
 texts bytes starts = map (token_at bytes) starts
+
+-- the length of a token in a byte; the last number stands for all lengths that do not fit
+abbrev pub short_len : List ℕ → ℕ
+short_len text = min (length text) 255
+
+-- the same of tokens, in order
+abbrev pub short_lens : List (List ℕ) → List ℕ
+short_lens texts = map short_len texts
 
 -- where the tokens among parts begin, if the parts begin at this place
 abbrev pub starts_from : ℕ → List (Part Kind) → List ℕ

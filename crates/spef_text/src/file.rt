@@ -1,6 +1,6 @@
 //! A SPEF file that has been read.
 ghost use Rattle.std.specs.Prelude.{◌≡◌, ◌-◌, ◌^◌, ◌<◌, ◌≤◌, length, slice_get, Some};
-ghost use Rattle.spef_text.specs.Starts.{texts};
+ghost use Rattle.spef_text.specs.Starts.{texts, short_lens};
 ghost use Rattle.spef_text.specs.Entries.{section_at};
 ghost use Rattle.spef_text.specs.SpefFiles.{SpefText, IsFormed, IsKept};
 
@@ -15,6 +15,7 @@ use std::marker::Model;
 pub struct SpefFile<'a> {
     pub(crate) bytes: &'a [u8],
     pub(crate) starts: Vec<u32>,
+    pub(crate) lens: Vec<u8>,
     pub(crate) head: HeadItems,
     pub(crate) sections: Sections,
 }
@@ -27,10 +28,10 @@ impl<'a> Model for SpefFile<'a> {
       reading = record { head = f.head; sections = f.sections.done };
     } };
 
-    // what is kept is what the tokens say, they are few, and so are the bytes
+    // what is kept is what the tokens say, they are few, and so are the bytes; their lengths are theirs
     ghost invariant = { λ f. IsKept
         (record { texts = texts f.bytes.now f.starts.items; reading = record { head = f.head; sections = f.sections.done } })
-        × (length f.bytes.now < 2 ^ 30) };
+        × (length f.bytes.now < 2 ^ 30) × (f.lens.items ≡ short_lens (texts f.bytes.now f.starts.items)) };
 }
 
 impl<'a> SpefFile<'a> {
@@ -40,7 +41,11 @@ impl<'a> SpefFile<'a> {
         requires last { t ≤ length self.now.texts }
         ensures { slice_get self.now.texts (t - 1) ≡ Some result.now }
     {
-        token_at(self.bytes, self.starts[t as usize - 1])
+        token_at(
+            self.bytes,
+            self.starts[t as usize - 1],
+            self.lens[t as usize - 1],
+        )
     }
 
     /// The law of files, which its contract states: a file says what its tokens say by the grammar, has fewer than 2^30 of them,

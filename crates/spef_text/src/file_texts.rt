@@ -13,9 +13,11 @@ impl<'a> SpefFile<'a> {
         if number == 0 {
             return &[];
         }
-        match self.starts.get(number as usize - 1) {
-            Some(start) => token_at(self.bytes, *start),
-            None => &[],
+        let place = number as usize - 1;
+        if place < self.starts.len() {
+            token_at(self.bytes, self.starts[place], self.lens[place])
+        } else {
+            &[]
         }
     }
 }

@@ -64,6 +64,7 @@ pub fn parse(alloc: Global, bytes: &[u8]) -> Result<SpefFile<'_>, SpefEnd>
         Ok(reader) => Ok(SpefFile {
             bytes,
             starts: reader.starts,
+            lens: reader.lens,
             head: reader.head,
             sections: reader.sections,
         }),

@@ -11,16 +11,18 @@ use crate::modes::{Mode, Step};
 use crate::parsing::{SpefEnd, refusal};
 use crate::scan::{Kind, cut_at};
 use crate::sections::Sections;
+use crate::starts::short_len;
 use edge_io::OutOfMemory;
 use edge_io::lists::push;
 use std::alloc::Global;
 use token_texts::{Cut, TokenReader};
 
-/// What is waited for, what has been read, and where each token begins.
+/// What is waited for, what has been read, where each token begins, and how long it is.
 #[derive(Drop)]
 pub struct Reader {
     pub mode: Mode,
     pub starts: Vec<u32>,
+    pub lens: Vec<u8>,
     pub head: HeadItems,
     pub sections: Sections,
     pub alloc: Global,
@@ -31,10 +33,12 @@ impl Reader {
     pub(crate) fn new(alloc: Global) -> Reader
         ensures state { state_of result ≡ first_state }
         ensures starts { result.starts.items ≡ [] }
+        ensures lens { result.lens.items ≡ [] }
     {
         Reader {
             mode: Mode::Start,
             starts: Vec::new(alloc),
+            lens: Vec::new(alloc),
             head: HeadItems::new(alloc),
             sections: Sections::new(alloc),
             alloc,
@@ -45,6 +49,7 @@ impl Reader {
     fn step(&mut self, step: &Step) -> Result<bool, OutOfMemory>
         ensures state { IfOk result (Steps (state_of self.old) (state_of self.new) step.now) }
         ensures starts { self.new.starts ≡ self.old.starts }
+        ensures lens { self.new.lens ≡ self.old.lens }
     {
         match *step {
             Step::Refuse => return Ok(false),
@@ -85,6 +90,7 @@ impl Reader {
         ensures state { IfOk result (Steps (state_of self.old) (state_of self.new)
             (next_mode self.old.mode self.old.head.marks.delimiter number text.now)) }
         ensures starts { self.new.starts ≡ self.old.starts }
+        ensures lens { self.new.lens ≡ self.old.lens }
     {
         let step = self.mode.next(self.head.delimiter(), number, text);
         self.step(&step)
@@ -124,6 +130,7 @@ impl TokenReader for Reader {
         bytes: &[u8],
     ) -> Result<Option<SpefEnd>, OutOfMemory> {
         push(&mut self.starts, start as u32)?;
+        push(&mut self.lens, short_len(bytes))?;
         if self.take_token(number as u32, bytes)? {
             Ok(None)
         } else {

@@ -1,8 +1,9 @@
-//! Tokens by the places of their first bytes. A place takes 4 bytes; where the token ends is seen again when its text is asked for.
+//! Tokens by the places of their first bytes, in 4 bytes, and by their lengths, in one. Few are longer than that byte tells: where they
+//! end is seen again when their texts are asked for.
 ghost use Rattle.std.specs.Prelude.{◌≡◌, ◌<◌, ◌^◌, length};
-ghost use Rattle.spef_text.specs.Starts.{front_token, token_at};
+ghost use Rattle.spef_text.specs.Starts.{front_token, token_at, short_len};
 
-use crate::scan::{cut_at, short_run};
+use crate::scan::cut_at;
 use token_texts::Cut;
 
 /// The token at the front of the bytes, or none of them where none is there.
@@ -20,16 +21,27 @@ fn front_token(bytes: &[u8]) -> &[u8]
     }
 }
 
-/// The token that begins at a place, or no bytes where none does.
+/// The length of a token as it is kept: 255 stands for all that are longer.
 #[inline]
-pub fn token_at(bytes: &[u8], start: u32) -> &[u8]
-    requires { length bytes.now < 2 ^ 32 }
+pub fn short_len(text: &[u8]) -> u8
+    ensures { result ≡ short_len text.now }
+{
+    text.len().min(255) as u8
+}
+
+/// The token that begins at a place and has this length, or no bytes where none begins there.
+#[inline]
+pub fn token_at(bytes: &[u8], start: u32, len: u8) -> &[u8]
+    requires bytes { length bytes.now < 2 ^ 32 }
+    requires len { len ≡ short_len (token_at bytes.now start) }
     ensures { result.now ≡ token_at bytes.now start }
 {
     let start = (start as usize).min(bytes.len());
     let behind = bytes.split_at(start).1;
-    match short_run(behind) {
-        Some(len) => behind.split_at(len).0,
-        None => front_token(behind),
+    let len = len as usize;
+    if len < 255 && len <= behind.len() {
+        behind.split_at(len).0
+    } else {
+        front_token(behind)
     }
 }

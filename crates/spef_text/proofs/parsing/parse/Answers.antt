@@ -1,9 +1,9 @@
 -- The answers, from what the loop over the tokens answers.
-use Rattle.spef_text.proofs.Answering.{reads_there, only_there, kept_there, dead_there, form_there, nothing_there, if_dead}
+use Rattle.spef_text.proofs.Answering.{lens_there, reads_there, only_there, kept_there, dead_there, form_there, nothing_there, if_dead}
 use Rattle.spef_text.proofs.parsing.parse.Goals as goal
 
 pub invariant_of-result : goal.invariant_of-result
-invariant_of-result c = (kept_there c.in-Ok.ensures.ok c.requires, c.requires)
+invariant_of-result c = (kept_there c.in-Ok.ensures.ok c.requires, c.requires, lens_there c.in-Ok.ensures.ok)
 
 pub returns-in-Ok-clause-ok : goal.returns-in-Ok-clause-ok
 returns-in-Ok-clause-ok c = reads_there c.in-Ok.ensures.ok
