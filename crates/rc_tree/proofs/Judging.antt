@@ -52,19 +52,19 @@ pins_apart pins later apart i j d less j_below same =
     let at_j = here j j_below in
     apart i j d less at_j.0 (at_i.1 ∙ same ∙ sym at_j.1)
 
--- the nodes of a table of the pins, to which those of the section were added
-pub numbered_all : (section : SectionElements) (pins : Pins) (before table : List Node) (spots : List ℕ) (count : ℕ) → before ≡ pin_nodes pins → table ≡ with_nodes before (map node_of section.nodes) → Apart table → count ≡ length table
-    → AreSpots section.nodes table spots → IsNumbered section pins spots count
-numbered_all section pins before table spots count before_is table_is apart counted are = record {
+-- the nodes of a table of the pins, and those of the section behind them
+pub numbered_all : (section : SectionElements) (pins : Pins) (table : List Node) (spots : List ℕ) (count : ℕ) → table ≡ pin_nodes pins → Apart (with_nodes table (map node_of section.nodes)) → count ≡ length (with_nodes table (map node_of section.nodes))
+    → AreSpots section.nodes (with_nodes table (map node_of section.nodes)) spots → IsNumbered section pins spots count
+numbered_all section pins table spots count table_is apart counted are = record {
   are_spots = subst (λ l. AreSpots section.nodes l spots) is are;
   counted = counted ∙ ap length is;
   apart = subst Apart is apart;
 }
   where
-    added : table ≡ with_nodes (pin_nodes pins) (map node_of section.nodes)
-    added = table_is ∙ ap (λ l. with_nodes l (map node_of section.nodes)) before_is
+    added : with_nodes table (map node_of section.nodes) ≡ with_nodes (pin_nodes pins) (map node_of section.nodes)
+    added = ap (λ l. with_nodes l (map node_of section.nodes)) table_is
 
-    is : table ≡ all_nodes section pins
+    is : with_nodes table (map node_of section.nodes) ≡ all_nodes section pins
     is = added ∙ sym (pins_first section pins (pins_apart (pin_nodes pins) (map node_of section.nodes) (subst Apart added apart)))
 
 -- the ends of the resistors are nodes

@@ -27,3 +27,4 @@ pub mod Growing
 pub mod LoneTree
 pub mod ListedLemmas
 pub mod MarkingLemmas
+pub mod SectionNumbers

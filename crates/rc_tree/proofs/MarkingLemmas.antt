@@ -24,7 +24,7 @@ not_among : (nodes : List Node) (k : ℕ) (x : Node) → among x nodes ≡ false
 not_among nodes k x new at = true≢false (sym (at_among nodes k x at) ∙ new)
 
 -- a node that is neither among some nodes nor the last is not among them
-still_new : (nodes : List Node) (last x : Node) → among x nodes ≡ false → (x ≡ last → ⊥) → among x (nodes ++ last ∷ []) ≡ false
+pub still_new : (nodes : List Node) (last x : Node) → among x nodes ≡ false → (x ≡ last → ⊥) → among x (nodes ++ last ∷ []) ≡ false
 still_new [] last x new differ = elim (same_cases x last) [ inl h ↦ absurd (differ h.0) | inr h ↦ ap (λ b. b || false) h.1 ]
 still_new (first ∷ nodes) last x new differ = elim (same_cases x first) [
   | inl h ↦ absurd (true≢false (sym (ap (λ b. b || among x nodes) h.1) ∙ new))

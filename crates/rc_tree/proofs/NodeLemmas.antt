@@ -1,5 +1,5 @@
 -- A node is among others where the test says so.
-use Rattle.std.proofs.Common.{◌≡◌, ◌≢◌, ℕ, ◌+◌, ◌<◌, Bool, true, false, if◌then◌else◌, List, [], ◌∷◌, ◌++◌, length, Contains, Some, sym, ap, ◌∙◌, arith, true≢false}
+use Rattle.std.proofs.Common.{◌≡◌, ◌≢◌, ℕ, Bool, true, false, if◌then◌else◌, List, [], ◌∷◌, ◌++◌, length, Contains, Some, sym, ap, ◌∙◌, arith, true≢false}
 use Rattle.std.specs.Prelude.{slice_get, AllPairs}
 use Rattle.std.proofs.lemmas.List.{length-append, get_or_default}
 use Rattle.std.proofs.lemmas.List.Quantifiers.{all_pairs_push}
@@ -23,9 +23,6 @@ pub node_held : (node : Node) (nodes : List Node) (place : ℕ) → slice_get no
 node_held node nodes place at =
     let there = among_is node nodes (place, slice_get_within nodes place node at, get_or_from_slice_get nodes place node node at) in
     sym (ap (λ (b : Bool). if b then nodes else nodes ++ node ∷ []) there)
-
-pub node_put : (node : Node) (nodes : List Node) → among node nodes ≡ false → nodes ++ node ∷ [] ≡ with_node nodes node
-node_put node nodes other = sym (ap (λ (b : Bool). if b then nodes else nodes ++ node ∷ []) other)
 
 pub node_last : (node : Node) (nodes : List Node) → slice_get (nodes ++ node ∷ []) (length nodes) ≡ Some node
 node_last node nodes =

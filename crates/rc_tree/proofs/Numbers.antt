@@ -1,13 +1,13 @@
 -- The numbers of a net's nodes.
-use Rattle.std.proofs.Common.{◌≡◌, ◌≢◌, ℕ, ◌+◌, ◌<◌, ◌⊎◌, Bool, true, false, if◌then◌else◌, List, [], ◌∷◌, ◌++◌, map, take, length, get_or, slice_get, slice_index, slice_index_or, Some, AllPairs, length-append, append-nil, append_assoc, refl, sym, ◌∙◌, ap, ap₂, subst, arith, inl, inr}
+use Rattle.std.proofs.Common.{◌≡◌, ◌≢◌, ℕ, ◌+◌, ◌<◌, ◌⊎◌, Bool, true, false, if◌then◌else◌, List, [], ◌∷◌, ◌++◌, map, take, length, get_or, slice_get, slice_index, Some, AllPairs, length-append, append-nil, append_assoc, refl, sym, ◌∙◌, ap, ap₂, subst, arith, inl, inr}
 use Rattle.std.proofs.lemmas.Bool.{cases_eq}
-use Rattle.std.proofs.lemmas.List.{get_or_push, get_or_append_left, take_more, map_push, take_all, get_or_at}
+use Rattle.std.proofs.lemmas.List.{get_or_push, get_or_append_left, take_more, map_push, get_or_at}
 use Rattle.std.proofs.lemmas.Option.{slice_get-get_or, get_or_from_slice_get, slice_get_within}
 use Rattle.name_table.specs.declared.spef_names.NodeName.{NodeName}
 use Rattle.spef_nets.specs.NetElements.{NetElements as SectionElements}
 use Rattle.name_table.specs.NodeKeys.{among}
 use Rattle.rc_tree.specs.Nodes.{Node, node_of, with_node, with_nodes}
-use Rattle.rc_tree.specs.Numbering.{AreSpots, AreEnds}
+use Rattle.rc_tree.specs.Numbering.{AreEnds}
 use Rattle.rc_tree.specs.SectionNets.{joint_at}
 use Rattle.rc_tree.proofs.NodeLemmas.{among_from}
 
@@ -75,39 +75,6 @@ pub names_more : (names : List NodeName) (before table after : List Node) (i : �
 names_more names before table after i name below at table_is after_is =
     after_is ∙ ap (λ l. with_node l (node_of name)) table_is ∙ sym (with_more before (map node_of (take i names)) (node_of name))
     ∙ sym (ap (with_nodes before) (ap (map node_of) (take_more names i name below ∙ ap (λ x. take i names ++ x ∷ []) at) ∙ map_push node_of (take i names) name))
-
--- the nodes of a section so far
-pub record Numbering (names : List NodeName) (before table : List Node) (spots : List ℕ) (many : ℕ) : Type 0 where
-  pub nodes : table ≡ with_nodes before (map node_of (take many names))
-  pub size : length spots ≡ many
-  pub each : (number : ℕ) (d : NodeName) → number < many → slice_get table (slice_index spots number) ≡ Some (node_of (slice_index_or names number d))
-
-pub numbering_start : (names : List NodeName) (table : List Node) (spots : List ℕ) → spots ≡ [] → Numbering names table table spots 0
-numbering_start names table spots is = record { nodes = refl; size = ap length is; each = λ number d below. absurd (omega arith) }
-
-pub numbering_step : (names : List NodeName) (before table after : List Node) (spots spots' : List ℕ) (many number : ℕ) (name : NodeName) → slice_get names many ≡ Some name → slice_get after number ≡ Some (node_of name) → after ≡ with_node table (node_of name)
-    → spots' ≡ spots ++ number ∷ [] → Numbering names before table spots many → Numbering names before after spots' (many + 1)
-numbering_step names before table after spots spots' many number name at number_is after_is spots_are state =
-    let below = slice_get_within names many name at in
-    record {
-      nodes = after_is ∙ ap (λ l. with_node l (node_of name)) state.nodes ∙ sym (with_more before (map node_of (take many names)) (node_of name))
-          ∙ sym (ap (with_nodes before) (ap (map node_of) (take_more names many name below ∙ ap (λ x. take many names ++ x ∷ []) (get_or_from_slice_get names many name name at)) ∙ map_push node_of (take many names) name));
-      size = ap length spots_are ∙ length-append spots (number ∷ []) ∙ ap (λ k. k + 1) state.size;
-      each = λ k d k_below. elim (cases_eq k many) [
-        | inl is ↦ ap (slice_get after) (ap (λ l. get_or l k 0) spots_are ∙ get_or_push spots number 0 k (state.size ∙ sym is)) ∙ number_is ∙ ap (λ x. Some (node_of x)) (sym (ap (λ j. get_or names j d) is ∙ get_or_from_slice_get names many name d at))
-        | inr ne ↦
-            let ne' : k ≢ many = ne in
-            let k_less : k < many = omega (arith, ne', k_below) in
-            ap (slice_get after) (ap (λ l. get_or l k 0) spots_are ∙ get_or_append_left spots (number ∷ []) 0 k (let l = state.size in omega (arith, l, k_less)))
-            ∙ ap (λ l. slice_get l (slice_index spots k)) after_is ∙ with_keeps table (node_of name) (slice_index spots k) (node_of (slice_index_or names k d)) (state.each k d k_less)
-      ];
-    }
-
-pub numbering_nodes : (names : List NodeName) (before table : List Node) (spots : List ℕ) (many : ℕ) → many ≡ length names → Numbering names before table spots many → table ≡ with_nodes before (map node_of names)
-numbering_nodes names before table spots many is state = state.nodes ∙ ap (λ l. with_nodes before (map node_of l)) (take_all many names (omega (arith, is)))
-
-pub numbering_spots : (names : List NodeName) (before table : List Node) (spots : List ℕ) (many : ℕ) → many ≡ length names → Numbering names before table spots many → AreSpots names table spots
-numbering_spots names before table spots many is state = record { size = state.size ∙ is; each = λ number d below. state.each number d (omega (arith, is, below)) }
 
 -- the ends of the resistors so far
 pub record Copying (section : SectionElements) (spots froms tos : List ℕ) (many : ℕ) : Type 0 where

@@ -1,5 +1,6 @@
 -- The nodes of a section, its resistors and its capacitances by other numbers of the nodes.
-use Rattle.std.specs.Prelude.{◌≡◌, ℕ, ◌*◌, ◌<◌, List, length, slice_get, slice_index, slice_index_or, Some}
+use Rattle.std.specs.Prelude.{◌≡◌, ℕ, ◌+◌, ◌*◌, ◌<◌, false, List, [], ◌∷◌, ◌++◌, length, slice_get, slice_index, slice_index_or, Some}
+use Rattle.name_table.specs.NodeKeys.{among}
 use Rattle.name_table.specs.declared.spef_names.NodeName.{NodeName}
 use Rattle.spef_nets.specs.NetElements.{NetElements as SectionElements}
 use Rattle.rc_tree.specs.Nodes.{Node, node_of}
@@ -14,6 +15,11 @@ pub record AreSpots (names : List NodeName) (nodes : List Node) (spots : List �
   pub size : length spots ≡ length names
   pub each : (number : ℕ) (d : NodeName) → number < length names
       → slice_get nodes (slice_index spots number) ≡ Some (node_of (slice_index_or names number d))
+
+-- a node gets a number behind those of others: a pin has its own place, and another node gets the next number
+pub data Gets (pins : List Node) (node : Node) (count : ℕ) (spots spots' : List ℕ) (count' : ℕ) : Type 0 where
+  pin : (number : ℕ) → slice_get pins number ≡ Some node → spots' ≡ spots ++ number ∷ [] → count' ≡ count → Gets pins node count spots spots' count'
+  other : among node pins ≡ false → spots' ≡ spots ++ count ∷ [] → count' ≡ count + 1 → Gets pins node count spots spots' count'
 
 -- the ends of each resistor, by the numbers of its nodes
 pub record AreEnds (section : SectionElements) (spots froms tos : List ℕ) : Type 0 where

@@ -1,4 +1,4 @@
-//! The nodes of a net, numbered by their first places.
+//! Nodes of a net, numbered by their first places.
 ghost use Rattle.std.specs.Prelude.{◌≡◌, ◌≢◌, [], length, slice_get, Some, false, IfOk, OnOk, IfSome, IfNone, AllPairs};
 ghost use Rattle.name_table.specs.NodeKeys.{among};
 ghost use Rattle.rc_tree.specs.Nodes.{with_node};
@@ -19,7 +19,7 @@ pub struct NodeTable<'p> {
     nodes: Nodes<'p>,
 }
 
-// Most nets have a few nodes.
+// Most nets have a few pins.
 #[derive(Drop)]
 enum Nodes<'p> {
     Few(Vec<NodeKey<'p>>),
@@ -39,12 +39,12 @@ impl<'p> Model for NodeTable<'p> {
 }
 
 impl<'p> NodeTable<'p> {
-    /// No node yet, and room for so many as a rule. Never are more than `most` put in.
-    pub fn with_room(alloc: Global, many: usize, most: usize) -> Result<NodeTable<'p>, OutOfMemory>
+    /// No node yet, and room for so many: never are more put in.
+    pub fn with_room(alloc: Global, many: usize) -> Result<NodeTable<'p>, OutOfMemory>
         ensures { IfOk result (λ table. table ≡ []) }
     {
-        let nodes = if most <= FEW {
-            Nodes::Few(Vec::with_capacity(alloc, most)?)
+        let nodes = if many <= FEW {
+            Nodes::Few(Vec::with_capacity(alloc, many)?)
         } else {
             Nodes::Many(IndexSet::with_capacity_and_hasher(alloc, many, NameHash::default())?)
         };
@@ -62,10 +62,21 @@ impl<'p> NodeTable<'p> {
         }
     }
 
-    /// The number of a node: its own where it is held, and else that of a new last one. It is one look-up.
-    pub fn intern(&mut self, key: NodeKey<'p>) -> Result<usize, OutOfMemory>
-        ensures number { IfOk result (λ number. slice_get self.new number ≡ Some key.entry) }
-        ensures nodes { OnOk result (self.new ≡ with_node self.old key.entry) }
+    /// The number of a node, if it is held. It takes no memory.
+    #[inline]
+    pub fn find(&self, key: &NodeKey<'p>) -> Option<usize>
+        ensures found { IfSome result (λ place. slice_get self.now place ≡ Some key.now) }
+        ensures absent { IfNone result (among key.now self.now ≡ false) }
+    {
+        match &self.nodes {
+            Nodes::Few(keys) => place_of(keys, key),
+            Nodes::Many(keys) => place_in(keys, key),
+        }
+    }
+
+    /// Puts a node at the end, where it is not held already.
+    pub fn intern(&mut self, key: NodeKey<'p>) -> Result<(), OutOfMemory>
+        ensures { OnOk result (self.new ≡ with_node self.old key.entry) }
     {
         match &mut self.nodes {
             Nodes::Few(keys) => put_behind(keys, key),
@@ -74,19 +85,19 @@ impl<'p> NodeTable<'p> {
     }
 }
 
-// Puts a key at the end of a list that does not have it, and answers its place.
-fn put_behind<'p>(keys: &mut Vec<NodeKey<'p>>, key: NodeKey<'p>) -> Result<usize, OutOfMemory>
+// Puts a key at the end of a list that does not have it.
+fn put_behind<'p>(keys: &mut Vec<NodeKey<'p>>, key: NodeKey<'p>) -> Result<(), OutOfMemory>
     requires { AllPairs (λ one other. one ≢ other) keys.old.items }
-    ensures number { IfOk result (λ number. slice_get keys.new.items number ≡ Some key.entry) }
     ensures nodes { OnOk result (keys.new.items ≡ with_node keys.old.items key.entry) }
     ensures apart { AllPairs (λ one other. one ≢ other) keys.new.items }
 {
-    if let Some(place) = place_of(keys, &key) {
-        return Ok(place);
+    match place_of(keys, &key) {
+        Some(_) => Ok(()),
+        None => {
+            push(keys, key)?;
+            Ok(())
+        }
     }
-    let place = keys.len();
-    push(keys, key)?;
-    Ok(place)
 }
 
 // The place of a key, if the list has it.
@@ -103,18 +114,23 @@ fn place_of(keys: &[NodeKey<'_>], key: &NodeKey<'_>) -> Option<usize>
     None
 }
 
-// Puts a key at the end that is not held, and answers its place.
-fn put<'p>(
-    keys: &mut IndexSet<NodeKey<'p>, NameHash>,
-    key: NodeKey<'p>,
-) -> Result<usize, OutOfMemory>
+// The place of a key, if the table has it.
+#[inline]
+fn place_in<'p>(keys: &IndexSet<NodeKey<'p>, NameHash>, key: &NodeKey<'p>) -> Option<usize>
+    ensures found { IfSome result (λ place. slice_get keys.now.keys place ≡ Some key.now) }
+    ensures absent { IfNone result (among key.now keys.now.keys ≡ false) }
+{
+    keys.get_index_of(key)
+}
+
+// Puts a key at the end that is not held.
+fn put<'p>(keys: &mut IndexSet<NodeKey<'p>, NameHash>, key: NodeKey<'p>) -> Result<(), OutOfMemory>
     requires { AllPairs (λ one other. one ≢ other) keys.old.keys }
-    ensures number { IfOk result (λ number. slice_get keys.new.keys number ≡ Some key.entry) }
     ensures nodes { OnOk result (keys.new.keys ≡ with_node keys.old.keys key.entry) }
     ensures apart { AllPairs (λ one other. one ≢ other) keys.new.keys }
 {
-    let Ok((place, _)) = keys.insert_full(key) else {
+    let Ok(_) = keys.insert_full(key) else {
         return Err(OutOfMemory);
     };
-    Ok(place)
+    Ok(())
 }

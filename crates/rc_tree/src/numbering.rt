@@ -1,9 +1,9 @@
 //! The numbers of a net's nodes: the driver's is 0, then come the sinks, then the other nodes of the section.
-ghost use Rattle.std.specs.Prelude.{◌≡◌, ◌+◌, ◌≤◌, length, map, IfOk, IfErr, OnOk};
+ghost use Rattle.std.specs.Prelude.{◌≡◌, ◌≢◌, ◌+◌, ◌≤◌, length, map, IfOk, IfErr, OnOk, AllPairs};
 ghost use Rattle.rc_tree.specs.Nodes.{node_of, with_nodes};
 ghost use Rattle.rc_tree.specs.PinNames.{pin_name};
 ghost use Rattle.rc_tree.specs.Pins.{pin_nodes};
-ghost use Rattle.rc_tree.specs.Numbering.{AreSpots, AreEnds};
+ghost use Rattle.rc_tree.specs.Numbering.{AreSpots, AreEnds, Gets};
 ghost use Rattle.rc_tree.specs.SectionNets.{AreListed};
 ghost use Rattle.rc_tree.specs.Builds.{IsTreeEnd};
 ghost use Rattle.rc_tree.specs.Searched.{IsNumbered};
@@ -16,6 +16,7 @@ use crate::pins::PinLoads;
 use corner_set::CornerSet;
 use edge_io::lists::{empty, push, to_u32};
 use edge_io::{OutOfMemory, Steps};
+use name_table::NodeKey;
 use spef_nets::Net;
 use std::alloc::Global;
 use std::sync::ledger::Ledger;
@@ -38,10 +39,8 @@ pub fn number_named<'k, C: CornerSet>(
     ensures listed { OnOk result (AreListed section.now (pin_nodes pins.now)) }
     ensures refused { IfErr result (λ end. IsTreeEnd C.COUNT section.now pins.now end) }
 {
-    // each pin is a node of the section, as a rule
-    let mut table = number_pins(alloc, pins, section.node_count())?;
-    number_section(alloc, &mut table, section, &mut numbered.spots)?;
-    numbered.count = table.len();
+    let table = number_pins(alloc, pins)?;
+    numbered.count = number_section(alloc, &table, section, &mut numbered.spots)?;
     refuse_stranger(alloc, pins, section, numbered)?;
     Ok(())
 }
@@ -68,16 +67,14 @@ fn refuse_stranger<C: CornerSet>(
     Ok(())
 }
 
-// The pins, in order, and room for so many nodes.
+// The pins, in order.
 fn number_pins<'p, C: CornerSet>(
     alloc: Global,
     pins: &PinLoads<'p, C>,
-    many: usize,
 ) -> Result<NodeTable<'p>, OutOfMemory>
     ensures { IfOk result (λ table. table ≡ pin_nodes pins.now) }
 {
-    let most = pins.len().saturating_add(1).saturating_add(many);
-    let mut table = NodeTable::with_room(alloc, many, most)?;
+    let mut table = NodeTable::with_room(alloc, pins.len().saturating_add(1))?;
     table.intern(pins.driver.key())?;
     intern_all(&mut table, pins.sinks.as_slice())?;
     Ok(table)
@@ -93,23 +90,48 @@ fn intern_all<'p>(table: &mut NodeTable<'p>, names: &[PinName<'p>]) -> Result<()
     Ok(())
 }
 
-// The numbers of the section's nodes, each of which is in the table afterwards.
+// The numbers of the section's nodes, and how many nodes there are with the pins. The section's nodes differ from one another, so each
+// is a pin or a new node: the table holds the pins alone.
 fn number_section<'k, C: CornerSet>(
     alloc: Global,
-    table: &mut NodeTable<'k>,
+    table: &NodeTable<'k>,
     section: &Net<'k, '_, C>,
     spots: &mut Vec<u32>,
-) -> Result<(), OutOfMemory>
-    ensures nodes { OnOk result (table.new ≡ with_nodes table.old (map node_of section.now.nodes)) }
-    ensures spots { OnOk result (AreSpots section.now.nodes table.new spots.new.items) }
+) -> Result<usize, OutOfMemory>
+    ensures spots { OnOk result (AreSpots section.now.nodes (with_nodes table.now (map node_of section.now.nodes)) spots.new.items) }
+    ensures count { IfOk result (λ count. count ≡ length (with_nodes table.now (map node_of section.now.nodes))) }
+    ensures apart { OnOk result (AllPairs (λ one other. one ≢ other) (with_nodes table.now (map node_of section.now.nodes))) }
 {
+    section.distinct();
     empty(spots, section.node_count())?;
+    let mut count = table.len();
     for node in 0..section.node_count() {
         let key = section.node_key(alloc, node)?;
-        let number = table.intern(key)?;
-        push(spots, to_u32(number)?)?;
+        count = number_node(table, &key, count, spots)?;
     }
-    Ok(())
+    Ok(count)
+}
+
+// Notes the number of a node that is not among the earlier ones of its section: a pin has its own, another gets the next. It answers how
+// many nodes there are with it.
+fn number_node<'k>(
+    table: &NodeTable<'k>,
+    key: &NodeKey<'k>,
+    count: usize,
+    spots: &mut Vec<u32>,
+) -> Result<usize, OutOfMemory>
+    ensures { IfOk result (Gets table.now key.now count spots.old.items spots.new.items) }
+{
+    match table.find(key) {
+        Some(number) => {
+            push(spots, to_u32(number)?)?;
+            Ok(count)
+        }
+        None => {
+            push(spots, to_u32(count)?)?;
+            Ok(count + 1)
+        }
+    }
 }
 
 /// The ends of the resistors, from the numbers of the section's nodes: one step a resistor.

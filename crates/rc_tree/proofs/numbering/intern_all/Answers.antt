@@ -11,4 +11,4 @@ loop-name-preserved c =
     let size = length-map c.args.names.now pin_name in
     names_more (map pin_name c.args.names.now) c.args.table.now c.loop-name.table c.intern.new.self c.loop-name.name-index _ (omega (arith, size, c.loop-name-test.true))
     (get_or-map pin_name c.args.names.now c.loop-name.name-index _ _ (omega (arith, c.loop-name-test.true)))
-    c.loop-name.invariant (c.in_ok-intern.ensures.nodes ∙ ap (with_node c.loop-name.table) c.key.ensures)
+    c.loop-name.invariant (c.in_ok-intern.ensures ∙ ap (with_node c.loop-name.table) c.key.ensures)

@@ -9,5 +9,5 @@ use Rattle.rc_tree.proofs.numbering.number_pins.Goals as goal
 pub returns : goal.returns
 returns g c =
     pins_named pin_name (pin_name c.pins.inside.driver) c.pins.inside.sinks.items c.as_slice.result.now c.pins.invariant.apart c.intern.new.self c.intern_all.new.table
-    (c.in_ok-intern.ensures.nodes ∙ ap (with_node c.in_ok-table.table) c.key.ensures ∙ ap (λ t. with_node t (node_of (pin_name c.pins.inside.driver))) c.in_ok-table.ensures) c.as_slice.ensures.value c.in_ok-intern_all.ensures
+    (c.in_ok-intern.ensures ∙ ap (with_node c.in_ok-table.table) c.key.ensures ∙ ap (λ t. with_node t (node_of (pin_name c.pins.inside.driver))) c.in_ok-table.ensures) c.as_slice.ensures.value c.in_ok-intern_all.ensures
     ∙ ap pin_nodes c.pins.view_is

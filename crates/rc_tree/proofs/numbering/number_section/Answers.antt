@@ -1,11 +1,15 @@
-use Rattle.std.proofs.Common.{[], ◌∷◌, ◌++◌, ap, ◌∙◌}
-use Rattle.std.specs.Prelude.{Some}
-use Rattle.rc_tree.specs.Nodes.{with_node}
-use Rattle.rc_tree.proofs.Numbers.{numbering_step}
+use Rattle.std.proofs.Common.{map, subst}
+use Rattle.rc_tree.specs.Nodes.{node_of}
+use Rattle.rc_tree.specs.Numbering.{Gets}
+use Rattle.rc_tree.proofs.SectionNumbers.{numbering_step, all_apart}
 use Rattle.rc_tree.proofs.numbering.number_section.Goals as goal
 
 -- src/numbering.rt
 pub loop-node-preserved : goal.loop-node-preserved
 loop-node-preserved g c =
-    numbering_step c.args.section.now.nodes c.args.table.now c.loop-node.table c.intern.new.self c.loop-node.spots.items c.push.new.items.items c.loop-node.node _ c.in_ok-key.ensures.0
-    c.in_ok-key.ensures.1 (c.in_ok-number.ensures.number ∙ ap Some c.in_ok-key.ensures.2) (c.in_ok-number.ensures.nodes ∙ ap (with_node c.loop-node.table) c.in_ok-key.ensures.2) (c.in_ok-push.ensures.ok ∙ ap (λ n. c.loop-node.spots.items ++ n ∷ []) c.in_ok-to_u32.ensures) c.loop-node.invariant
+    let named = c.in_ok-key.ensures in
+    numbering_step c.args.section.now.nodes c.args.table.now c.loop-node.spots.items c.number_node.new.spots.items c.loop-node.count c.in_ok-count.count c.loop-node.node named.0 c.distinct.ensures named.1
+    (subst (λ node. Gets c.args.table.now node c.loop-node.count c.loop-node.spots.items c.number_node.new.spots.items c.in_ok-count.count) named.2 c.in_ok-count.ensures) c.loop-node.invariant
+
+pub returns-clause-apart : goal.returns-clause-apart
+returns-clause-apart g c = all_apart c.args.table.now (map node_of c.args.section.now.nodes) c.len-count.ensures.apart

@@ -1,5 +1,5 @@
-use Rattle.rc_tree.proofs.Numbers.{Numbering}
+use Rattle.rc_tree.proofs.SectionNumbers.{Numbering}
 use Rattle.rc_tree.proofs.numbering.number_section.Given as goal
 
 abbrev pub invariant-loop-node : goal.invariant-loop-node
-invariant-loop-node g l = Numbering l.section.nodes l.fn.table l.table l.spots.items l.node
+invariant-loop-node g l = Numbering l.section.nodes l.table l.spots.items l.count l.node
