@@ -4,6 +4,8 @@ SLEWS = (1, 4, 10, 20, 35, 60, 100)
 LOADS = (0.5, 1, 1.5, 2, 3, 5, 10)
 # The cells: their inputs, and the sense of their arcs.
 CELLS = {"INV": ("A", "negative_unate"), "BUF": ("A", "positive_unate"), "NAND2": ("AB", "negative_unate")}
+# Where the edges of the tables begin and end, in percent of the swing; `gdc` reads over them, and other tools ask for them.
+THRESHOLDS = {"input": 50, "output": 50, "slew_lower": 20, "slew_upper": 80}
 # The rise and the fall of the delay and of the transition: a part that stands, and those by the slew and by the load.
 TABLES = {"cell_rise": (4, 0.2, 6), "cell_fall": (3, 0.15, 5), "rise_transition": (5, 0.3, 4), "fall_transition": (4, 0.25, 3)}
 
@@ -22,7 +24,10 @@ def table(name, parts, scale):
 
 def library(scale=1):
     """The lines of the library, all of whose times are so many times as long."""
-    yield 'library (L) {\n  time_unit : "1ps";\n  capacitive_load_unit (1, ff);\n  lu_table_template (t77) {\n'
+    yield 'library (L) {\n  time_unit : "1ps";\n  capacitive_load_unit (1, ff);\n'
+    for name, percent in THRESHOLDS.items():
+        yield "".join(f"  {name}_threshold_pct_{edge} : {percent};\n" for edge in ("rise", "fall"))
+    yield "  lu_table_template (t77) {\n"
     yield "    variable_1 : input_net_transition;\n    variable_2 : total_output_net_capacitance;\n"
     yield f'    index_1 ("{points(SLEWS)}");\n    index_2 ("{points(LOADS)}");\n  }}\n'
     for cell, (inputs, sense) in CELLS.items():
