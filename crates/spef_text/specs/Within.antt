@@ -21,7 +21,8 @@ pub run_taking : (b c : ℕ) (rest : List ℕ) → is_backslash b ≡ true → r
 run_taking b c rest p = escaped_taking is_solid b c rest p
 
 -- a run that is no backslash alone has a byte
-pub run_from : (first : ℕ) (rest : List ℕ) → is_blank first ≡ false → is_backslash first && is_nothing rest ≡ false → 0 < run_length (first ∷ rest)
+pub run_from : (first : ℕ) (rest : List ℕ) → is_blank first ≡ false → is_backslash first && is_nothing rest ≡ false
+    → 0 < run_length (first ∷ rest)
 run_from first rest p q = by (is_backslash first) refl rest q
   where
     by : (slash : Bool) → is_backslash first ≡ slash → (rest : List ℕ) → slash && is_nothing rest ≡ false → 0 < run_length (first ∷ rest)
@@ -50,7 +51,8 @@ Fits rest cut = IsWithin (length rest + 1) cut
 pub cut_within : (first : ℕ) (rest : List ℕ) → IsWithin (length rest + 1) (cut_at first rest)
 unfolding cut_at
 cut_within first rest =
-    by (is_blank first) (is_quote first) (first == slash && begins_with slash rest) (first == slash && begins_with star rest) (is_backslash first && is_nothing rest)
+    by (is_blank first) (is_quote first) (first == slash && begins_with slash rest) (first == slash && begins_with star rest)
+    (is_backslash first && is_nothing rest)
     (text_within rest (position ends_text rest) (λ i e. (position-Some ends_text rest i 0 e).0))
     (line_within rest)
     (λ h. comment_within Broken slash rest (second (first == slash) (begins_with star rest) h))

@@ -9,7 +9,6 @@ use crate::classes::{
 };
 use crate::entries::{CapAt, ConnAt, HeadItem, MapEntry, ResAt};
 use crate::words::{Word, word_of};
-use delay_units::is_literal;
 
 /// What is waited for, with what has been read of the entry that has begun.
 #[derive(Clone, Copy)]
@@ -107,13 +106,15 @@ pub enum Step {
     Close(Option<ConnAt>),
 }
 
-fn go_if(test: bool, mode: Mode) -> Step
+#[inline(always)]
+pub(crate) fn go_if(test: bool, mode: Mode) -> Step
     ensures { result ≡ (if test then Step.Go mode else Step.Refuse) }
 {
     if test { Step::Go(mode) } else { Step::Refuse }
 }
 
-fn put_if(test: bool, mode: Mode, item: HeadItem) -> Step
+#[inline(always)]
+pub(crate) fn put_if(test: bool, mode: Mode, item: HeadItem) -> Step
     ensures { result ≡ (if test then Step.Put mode item else Step.Refuse) }
 {
     if test {
@@ -124,7 +125,7 @@ fn put_if(test: bool, mode: Mode, item: HeadItem) -> Step
 }
 
 /// What the file's first token does.
-fn start_step(word: Option<Word>) -> Step
+pub(crate) fn start_step(word: Option<Word>) -> Step
     ensures { result ≡ start_step word }
 {
     match word {
@@ -134,7 +135,7 @@ fn start_step(word: Option<Word>) -> Step
 }
 
 /// What a keyword does where an item may begin.
-fn top_step(word: Option<Word>) -> Step
+pub(crate) fn top_step(word: Option<Word>) -> Step
     ensures { result ≡ top_step word }
 {
     match word {
@@ -152,7 +153,7 @@ fn top_step(word: Option<Word>) -> Step
 }
 
 /// What a keyword does where only a net may begin.
-fn sections_step(word: Option<Word>) -> Step
+pub(crate) fn sections_step(word: Option<Word>) -> Step
     ensures { result ≡ sections_step word }
 {
     match word {
@@ -162,7 +163,7 @@ fn sections_step(word: Option<Word>) -> Step
 }
 
 /// What a keyword does behind a net's total.
-fn total_step(word: Option<Word>) -> Step
+pub(crate) fn total_step(word: Option<Word>) -> Step
     ensures { result ≡ total_step word }
 {
     match word {
@@ -176,7 +177,7 @@ fn total_step(word: Option<Word>) -> Step
 }
 
 /// What a keyword does behind a net's confidence.
-fn confident_step(word: Option<Word>) -> Step
+pub(crate) fn confident_step(word: Option<Word>) -> Step
     ensures { result ≡ confident_step word }
 {
     match word {
@@ -189,7 +190,7 @@ fn confident_step(word: Option<Word>) -> Step
 }
 
 /// What a keyword does where a connection may begin.
-fn conns_step(word: Option<Word>) -> Step
+pub(crate) fn conns_step(word: Option<Word>) -> Step
     ensures { result ≡ conns_step word }
 {
     match word {
@@ -232,7 +233,8 @@ fn tail_step(conn: ConnAt, word: Option<Word>, loose: bool) -> Step
 }
 
 /// The same, of a token whose keyword is looked for once.
-fn conn_tail_step(conn: ConnAt, text: &[u8]) -> Step
+#[inline(always)]
+pub(crate) fn conn_tail_step(conn: ConnAt, text: &[u8]) -> Step
     ensures { result ≡ tail_step conn (is_loose text.now) (word_of text.now) }
 {
     let word = word_of(text);
@@ -280,14 +282,14 @@ fn second_byte(text: &[u8]) -> u8
 }
 
 /// What the mark behind `*DIVIDER` does, and the one behind `*DELIMITER`.
-fn divider_step(text: &[u8]) -> Step
+pub(crate) fn divider_step(text: &[u8]) -> Step
     ensures { (mark number : ℕ) → result ≡ next_mode Mode.DividerMark mark number text.now }
 {
     let item = HeadItem::Divider(first_byte(text));
     put_if(is_mark(text), Mode::Items, item)
 }
 
-fn delimiter_step(text: &[u8]) -> Step
+pub(crate) fn delimiter_step(text: &[u8]) -> Step
     ensures { (mark number : ℕ) → result ≡ next_mode Mode.DelimiterMark mark number text.now }
 {
     let item = HeadItem::Delimiter(first_byte(text));
@@ -295,7 +297,7 @@ fn delimiter_step(text: &[u8]) -> Step
 }
 
 /// What the bus marks do: both in one token, or the left one.
-fn bus_step(text: &[u8]) -> Step
+pub(crate) fn bus_step(text: &[u8]) -> Step
     ensures { (mark number : ℕ) → result ≡ next_mode Mode.BusLeft mark number text.now }
 {
     if is_two_marks(text) {
@@ -307,7 +309,7 @@ fn bus_step(text: &[u8]) -> Step
 }
 
 /// What the right bus mark does.
-fn right_step(left: u8, text: &[u8]) -> Step
+pub(crate) fn right_step(left: u8, text: &[u8]) -> Step
     ensures { (mark number : ℕ) → result ≡ next_mode (Mode.BusRight left) mark number text.now }
 {
     let item = HeadItem::BusDelimiter(left, first_byte(text));
@@ -315,7 +317,8 @@ fn right_step(left: u8, text: &[u8]) -> Step
 }
 
 /// What a token does behind a connection's node.
-fn direction_step(port: bool, node: u32, text: &[u8]) -> Step
+#[inline(always)]
+pub(crate) fn direction_step(port: bool, node: u32, text: &[u8]) -> Step
     ensures { (mark number : ℕ) → result ≡ next_mode (Mode.ConnDirection port node) mark number text.now }
 {
     let conn = ConnAt {
@@ -328,7 +331,7 @@ fn direction_step(port: bool, node: u32, text: &[u8]) -> Step
 }
 
 /// What a token does behind `*L`.
-fn load_step(conn: ConnAt, number: u32, text: &[u8]) -> Step
+pub(crate) fn load_step(conn: ConnAt, number: u32, text: &[u8]) -> Step
     ensures { (mark : ℕ) → result ≡ next_mode (Mode.ConnLoad conn) mark number text.now }
 {
     let conn = ConnAt {
@@ -341,7 +344,8 @@ fn load_step(conn: ConnAt, number: u32, text: &[u8]) -> Step
 }
 
 /// What a token does behind a capacitance's first node.
-fn second_step(first: u32, mark: u8, number: u32, text: &[u8]) -> Step
+#[inline(always)]
+pub(crate) fn second_step(first: u32, mark: u8, number: u32, text: &[u8]) -> Step
     ensures { result ≡ next_mode (Mode.CapSecond first) mark number text.now }
 {
     if is_value(text) {
@@ -356,7 +360,7 @@ fn second_step(first: u32, mark: u8, number: u32, text: &[u8]) -> Step
 }
 
 /// What a token does behind a capacitance's second node.
-fn cap_value_step(first: u32, second: u32, number: u32, text: &[u8]) -> Step
+pub(crate) fn cap_value_step(first: u32, second: u32, number: u32, text: &[u8]) -> Step
     ensures { (mark : ℕ) → result ≡ next_mode (Mode.CapValue first second) mark number text.now }
 {
     if is_value(text) {
@@ -371,7 +375,8 @@ fn cap_value_step(first: u32, second: u32, number: u32, text: &[u8]) -> Step
 }
 
 /// What a token does behind a resistance's second node.
-fn res_value_step(first: u32, second: u32, number: u32, text: &[u8]) -> Step
+#[inline(always)]
+pub(crate) fn res_value_step(first: u32, second: u32, number: u32, text: &[u8]) -> Step
     ensures { (mark : ℕ) → result ≡ next_mode (Mode.ResValue first second) mark number text.now }
 {
     if is_value(text) {
@@ -386,7 +391,7 @@ fn res_value_step(first: u32, second: u32, number: u32, text: &[u8]) -> Step
 }
 
 /// What a token does where others may stand.
-fn others_step(text: &[u8]) -> Step
+pub(crate) fn others_step(text: &[u8]) -> Step
     ensures { (mark number : ℕ) → result ≡ next_mode Mode.Others mark number text.now }
 {
     if is_other(text) {
@@ -397,7 +402,7 @@ fn others_step(text: &[u8]) -> Step
 }
 
 /// What a token does behind `*DESIGN`.
-fn design_step(number: u32, text: &[u8]) -> Step
+pub(crate) fn design_step(number: u32, text: &[u8]) -> Step
     ensures { (mark : ℕ) → result ≡ next_mode Mode.DesignName mark number text.now }
 {
     if is_other(text) {
@@ -408,7 +413,8 @@ fn design_step(number: u32, text: &[u8]) -> Step
 }
 
 /// What a token does in the name map.
-fn map_step(number: u32, text: &[u8]) -> Step
+#[inline(always)]
+pub(crate) fn map_step(number: u32, text: &[u8]) -> Step
     ensures { (mark : ℕ) → result ≡ next_mode Mode.NameMap mark number text.now }
 {
     if is_index(text) {
@@ -419,7 +425,8 @@ fn map_step(number: u32, text: &[u8]) -> Step
 }
 
 /// What the name of an index does.
-fn map_name_step(index: u32, number: u32, text: &[u8]) -> Step
+#[inline(always)]
+pub(crate) fn map_name_step(index: u32, number: u32, text: &[u8]) -> Step
     ensures { (mark : ℕ) → result ≡ next_mode (Mode.MapName index) mark number text.now }
 {
     let entry = MapEntry {
@@ -430,7 +437,8 @@ fn map_name_step(index: u32, number: u32, text: &[u8]) -> Step
 }
 
 /// What a token does behind `*D_NET`.
-fn net_step(mark: u8, number: u32, text: &[u8]) -> Step
+#[inline(always)]
+pub(crate) fn net_step(mark: u8, number: u32, text: &[u8]) -> Step
     ensures { result ≡ next_mode Mode.NetName mark number text.now }
 {
     if is_ref(mark, text) {
@@ -441,7 +449,7 @@ fn net_step(mark: u8, number: u32, text: &[u8]) -> Step
 }
 
 /// What a token does in a `*N` line.
-fn node_line_step(text: &[u8]) -> Step
+pub(crate) fn node_line_step(text: &[u8]) -> Step
     ensures { (mark number : ℕ) → result ≡ next_mode Mode.NodeLine mark number text.now }
 {
     if is_loose(text) {
@@ -452,7 +460,8 @@ fn node_line_step(text: &[u8]) -> Step
 }
 
 /// What a token does among the capacitances, and among the resistances.
-fn cap_id_step(text: &[u8]) -> Step
+#[inline(always)]
+pub(crate) fn cap_id_step(text: &[u8]) -> Step
     ensures { (mark number : ℕ) → result ≡ next_mode Mode.Caps mark number text.now }
 {
     if is_id(text) {
@@ -462,7 +471,8 @@ fn cap_id_step(text: &[u8]) -> Step
     }
 }
 
-fn res_id_step(text: &[u8]) -> Step
+#[inline(always)]
+pub(crate) fn res_id_step(text: &[u8]) -> Step
     ensures { (mark number : ℕ) → result ≡ next_mode Mode.Ress mark number text.now }
 {
     if is_id(text) {
@@ -473,48 +483,6 @@ fn res_id_step(text: &[u8]) -> Step
 }
 
 impl Mode {
-    /// What the token of this number and text does, where `mark` is the delimiter.
-    pub fn next(&self, mark: u8, number: u32, text: &[u8]) -> Step
-        ensures { result ≡ next_mode self.now mark number text.now }
-    {
-        match *self {
-            Mode::Start => start_step(word_of(text)),
-            Mode::Others => others_step(text),
-            Mode::DesignName => design_step(number, text),
-            Mode::Items => top_step(word_of(text)),
-            Mode::DividerMark => divider_step(text),
-            Mode::DelimiterMark => delimiter_step(text),
-            Mode::BusLeft => bus_step(text),
-            Mode::BusRight(left) => right_step(left, text),
-            Mode::CapNumber => go_if(is_literal(text), Mode::CapWord(number)),
-            Mode::CapWord(at) => put_if(is_other(text), Mode::Items, HeadItem::CapUnit(at)),
-            Mode::ResNumber => go_if(is_literal(text), Mode::ResWord(number)),
-            Mode::ResWord(at) => put_if(is_other(text), Mode::Items, HeadItem::ResUnit(at)),
-            Mode::NameMap => map_step(number, text),
-            Mode::MapName(index) => map_name_step(index, number, text),
-            Mode::Sections => sections_step(word_of(text)),
-            Mode::NetName => net_step(mark, number, text),
-            Mode::NetTotal => go_if(is_value(text), Mode::AfterTotal),
-            Mode::AfterTotal => total_step(word_of(text)),
-            Mode::Confidence => go_if(is_literal(text), Mode::AfterConfidence),
-            Mode::AfterConfidence => confident_step(word_of(text)),
-            Mode::Conns => conns_step(word_of(text)),
-            Mode::ConnNode(port) => go_if(is_ref(mark, text), Mode::ConnDirection(port, number)),
-            Mode::ConnDirection(port, node) => direction_step(port, node, text),
-            Mode::ConnTail(conn) => conn_tail_step(conn, text),
-            Mode::ConnLoad(conn) => load_step(conn, number, text),
-            Mode::NodeLine => node_line_step(text),
-            Mode::Caps => cap_id_step(text),
-            Mode::CapFirst => go_if(is_ref(mark, text), Mode::CapSecond(number)),
-            Mode::CapSecond(first) => second_step(first, mark, number, text),
-            Mode::CapValue(first, second) => cap_value_step(first, second, number, text),
-            Mode::Ress => res_id_step(text),
-            Mode::ResFirst => go_if(is_ref(mark, text), Mode::ResSecond(number)),
-            Mode::ResSecond(first) => go_if(is_ref(mark, text), Mode::ResValue(first, number)),
-            Mode::ResValue(first, second) => res_value_step(first, second, number, text),
-        }
-    }
-
     /// Whether the file may end here.
     pub fn may_end(&self) -> bool
         ensures { result ≡ may_end self.now }
