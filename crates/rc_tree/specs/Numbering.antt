@@ -18,8 +18,10 @@ pub record AreSpots (names : List NodeName) (nodes : List Node) (spots : List �
 
 -- a node gets a number behind those of others: a pin has its own place, and another node gets the next number
 pub data Gets (pins : List Node) (node : Node) (count : ℕ) (spots spots' : List ℕ) (count' : ℕ) : Type 0 where
-  pin : (number : ℕ) → slice_get pins number ≡ Some node → spots' ≡ spots ++ number ∷ [] → count' ≡ count → Gets pins node count spots spots' count'
-  other : among node pins ≡ false → spots' ≡ spots ++ count ∷ [] → count' ≡ count + 1 → Gets pins node count spots spots' count'
+  pin : (number : ℕ) → slice_get pins number ≡ Some node → spots' ≡ spots ++ number ∷ [] → count' ≡ count
+      → Gets pins node count spots spots' count'
+  other : among node pins ≡ false → spots' ≡ spots ++ count ∷ [] → count' ≡ count + 1
+      → Gets pins node count spots spots' count'
 
 -- the ends of each resistor, by the numbers of its nodes
 pub record AreEnds (section : SectionElements) (spots froms tos : List ℕ) : Type 0 where

@@ -104,9 +104,10 @@ fn number_section<'k, C: CornerSet>(
 {
     section.distinct();
     empty(spots, section.node_count())?;
+    let mut keys = section.keys();
     let mut count = table.len();
     for node in 0..section.node_count() {
-        let key = section.node_key(alloc, node)?;
+        let key = keys.key(alloc, node)?;
         count = number_node(table, &key, count, spots)?;
     }
     Ok(count)

@@ -4,15 +4,16 @@ ghost use Rattle.corner_set.specs.Places.{value_at};
 ghost use Rattle.delay_units.specs.Bounds.{most_farads, most_ohms};
 ghost use Rattle.spef_nets.specs.NetElements.{NetElements};
 ghost use Rattle.spef_nets.specs.Nodes.{AreDistinctNodes};
-ghost use Rattle.spef_nets.specs.NodeNames.{IsKeyOf, IsSdfAt};
+ghost use Rattle.spef_nets.specs.NodeNames.{IsSdfAt};
 
+use crate::net_keys::NetKeys;
 use crate::node_names::NodeNames;
 use crate::parts::{Ends, Listed, Resistor};
 use crate::tables::ElementParts;
 use corner_set::CornerSet;
 use delay_units::{Farads, Ohms};
 use edge_io::{OutOfMemory, Steps, Text};
-use name_table::{NodeKey, NodeName};
+use name_table::NodeName;
 use std::alloc::Global;
 use std::marker::{Model, PhantomData};
 use std::sync::ledger::Ledger;
@@ -66,12 +67,11 @@ impl<'s, 'f, C: CornerSet> Net<'s, 'f, C> {
         self.names.name(alloc, i)
     }
 
-    /// What makes a node the one that it is, by its number. Of most nodes nothing is copied.
-    pub fn node_key(&self, alloc: Global, i: usize) -> Result<NodeKey<'s>, OutOfMemory>
-        requires { i < length self.now.nodes }
-        ensures { IfOk result (IsKeyOf self.now.nodes i) }
+    /// What makes the nodes the ones that they are.
+    pub fn keys(&self) -> NetKeys<'s, 'f>
+        ensures { result ≡ self.now.nodes }
     {
-        self.names.key(alloc, i)
+        NetKeys::new(self.names)
     }
 
     /// The spelling in SDF of the name of a node by its number.

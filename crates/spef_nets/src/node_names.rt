@@ -1,11 +1,11 @@
 //! The names of a net's nodes, made of the words of a file.
 ghost use Rattle.std.specs.Prelude.{◌≡◌, ◌<◌, length, slice_get, Some, IfOk};
 ghost use Rattle.spef_nets.specs.Nodes.{nodes_at};
-ghost use Rattle.spef_nets.specs.NodeNames.{AreSpelled, IsKeyOf, IsSdfAt};
+ghost use Rattle.spef_nets.specs.NodeNames.{AreSpelled, IsSdfAt};
 
 use edge_io::{OutOfMemory, Text};
-use name_table::{NodeKey, NodeName};
-use spef_text::{Head, ResolveEnd, SpefFile};
+use name_table::NodeName;
+use spef_text::{Head, ResolveEnd, SpefFile, WrittenNames};
 use std::alloc::Global;
 
 /// The names of a net's nodes by their numbers: the tokens where they stand first in a file, whose head this is.
@@ -42,25 +42,13 @@ impl<'s, 'f> NodeNames<'s, 'f> {
         }
     }
 
-    /// What makes a node the one that it is. Of most nodes parts of the file tell it, and nothing is copied.
-    pub fn key(&self, alloc: Global, node: usize) -> Result<NodeKey<'s>, OutOfMemory>
-        requires spelled { AreSpelled self.now.file.now self.now.head.now self.now.tokens.now }
-        requires within { node < length self.now.tokens.now }
-        ensures { IfOk result (IsKeyOf (nodes_at self.now.file.now self.now.tokens.now) node) }
-    {
-        match self.head.written(self.file, self.tokens[node] as u64, true) {
-            Some(name) => Ok(NodeKey::of_written(name)),
-            None => NodeKey::of(alloc, self.name(alloc, node)?),
-        }
-    }
-
     /// The spelling of a node in SDF. Where its name stands as it is written, nothing else of it is made.
     pub fn sdf(&self, alloc: Global, node: usize) -> Result<Text, OutOfMemory>
         requires spelled { AreSpelled self.now.file.now self.now.head.now self.now.tokens.now }
         requires within { node < length self.now.tokens.now }
         ensures { IfOk result (IsSdfAt (nodes_at self.now.file.now self.now.tokens.now) node) }
     {
-        match self.head.written(self.file, self.tokens[node] as u64, true) {
+        match WrittenNames::new(self.file, self.head).name(self.tokens[node] as u64, true) {
             Some(name) => name.sdf(alloc),
             None => Ok(self.name(alloc, node)?.sdf),
         }

@@ -1,20 +1,21 @@
 //! The nodes of a section, by the tokens where they stand first.
-ghost use Rattle.std.specs.Prelude.{◌≡◌, [], ◌∷◌, ◌++◌, length, Some, OnOk, OnErr};
+ghost use Rattle.std.specs.Prelude.{◌≡◌, [], ◌∷◌, ◌++◌, true, length, Some, OnOk, OnErr, IfSome};
 ghost use Rattle.name_table.specs.declared.spef_names.NodeName.{NodeName};
-ghost use Rattle.spef_text.specs.Heads.{IsHeadOf};
+ghost use Rattle.spef_text.specs.Heads.{IsHeadOf, text_of};
+ghost use Rattle.spef_text.specs.References.{NamesAsWritten};
 ghost use Rattle.spef_nets.specs.Nodes.{node_at, nodes_at};
 ghost use Rattle.spef_nets.specs.NodeNames.{NameNodes};
 
 use edge_io::OutOfMemory;
-use spef_text::{Head, SpefFile};
+use name_table::WrittenName;
+use spef_text::{Head, SpefFile, WrittenNames};
 use std::alloc::Global;
 use std::marker::Model;
 
 /// The nodes of a section, each by a token that names it, in a file whose head this is. Contracts see the file and the nodes.
 #[derive(Drop)]
 pub struct NodeTokens<'r, 'f> {
-    file: &'r SpefFile<'f>,
-    head: &'r Head,
+    names: WrittenNames<'r, 'f>,
     tokens: Vec<u32>,
 }
 
@@ -24,9 +25,9 @@ impl<'r, 'f> Model for NodeTokens<'r, 'f> {
 
     ghost Value = { SpelledNodes };
 
-    ghost view = { λ n. record { file = n.file.now; nodes = nodes_at n.file.now n.tokens.items } };
+    ghost view = { λ n. record { file = n.names.file; nodes = nodes_at n.names.file n.tokens.items } };
 
-    ghost invariant = { λ n. AreSpelled n.file.now n.head.now n.tokens.items };
+    ghost invariant = { λ n. AreSpelled n.names.file n.names.head n.tokens.items };
 }
 
 impl<'r, 'f> NodeTokens<'r, 'f> {
@@ -37,7 +38,10 @@ impl<'r, 'f> NodeTokens<'r, 'f> {
     {
         let mut tokens = tokens;
         tokens.clear();
-        NodeTokens { file, head, tokens }
+        NodeTokens {
+            names: WrittenNames::new(file, head),
+            tokens,
+        }
     }
 
     /// Lets go of all nodes, and makes room for so many.
@@ -62,7 +66,15 @@ impl<'r, 'f> NodeTokens<'r, 'f> {
     pub fn file(&self) -> &'r SpefFile<'f>
         ensures { result.now ≡ self.now.file }
     {
-        self.file
+        self.names.file()
+    }
+
+    /// The head and the tail of the node that a token of the file names, where both stand there as they are written.
+    pub fn written(&mut self, token: u64) -> Option<WrittenName<'r>>
+        ensures name { IfSome result (NamesAsWritten self.old.file true (text_of self.old.file token)) }
+        ensures same { self.new ≡ self.old }
+    {
+        self.names.name(token, true)
     }
 
     /// How many nodes there are.
@@ -77,11 +89,7 @@ impl<'r, 'f> NodeTokens<'r, 'f> {
         ensures nodes { nodes_at self.entry.file result.items ≡ self.entry.nodes }
         ensures each { NameNodes self.entry.file result.items }
     {
-        let NodeTokens {
-            file: _,
-            head: _,
-            tokens,
-        } = self;
+        let NodeTokens { names: _, tokens } = self;
         tokens
     }
 }

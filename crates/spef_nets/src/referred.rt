@@ -1,7 +1,8 @@
 //! The nodes that a section refers to, and which of them belong to it.
-ghost use Rattle.std.specs.Prelude.{◌≡◌, ◌<◌, false, [], ◌∷◌, ◌++◌, length, slice_get, Some, None, IfOk, OnOk, IfSome};
+ghost use Rattle.std.specs.Prelude.{◌≡◌, ◌<◌, true, false, [], ◌∷◌, ◌++◌, length, slice_get, Some, None, IfOk, OnOk, IfSome};
 ghost use Rattle.name_table.specs.declared.spef_names.NodeName.{NodeName};
 ghost use Rattle.spef_text.specs.Heads.{IsHeadOf, text_of};
+ghost use Rattle.spef_text.specs.References.{NamesAsWritten};
 ghost use Rattle.spef_nets.specs.Nodes.{node_at};
 ghost use Rattle.spef_nets.specs.NodeKeys.{IsKeyAt};
 ghost use Rattle.spef_nets.specs.Refs.{no_refs, ArePlaced, IsNamed, IsFound, Belongs, Joins, Lists, Numbers};
@@ -14,7 +15,7 @@ use crate::node_tokens::NodeTokens;
 use crate::spellings::Spellings;
 use edge_io::lists::{empty, push, to_u32};
 use edge_io::{OutOfMemory, Text, are_equal};
-use name_table::NodeKey;
+use name_table::{NodeKey, WrittenName};
 use spef_text::{Head, SpefFile};
 use std::alloc::Global;
 
@@ -104,6 +105,14 @@ impl<'r, 'f> Referred<'r, 'f> {
         ensures same { refs_of self.new ≡ refs_of self.old }
     {
         self.words.find(self.nodes.file(), word)
+    }
+
+    /// The head and the tail of the node that a token names, where both stand in the file as they are written.
+    pub fn written(&mut self, token: u64) -> Option<WrittenName<'r>>
+        ensures name { IfSome result (NamesAsWritten (refs_of self.old).file true (text_of (refs_of self.old).file token)) }
+        ensures same { refs_of self.new ≡ refs_of self.old }
+    {
+        self.nodes.written(token)
     }
 
     /// The number of a spelling, which is that of a token: its own where the node that it names was spelled so last, and else that of a

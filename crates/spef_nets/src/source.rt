@@ -17,7 +17,7 @@ use corner_set::Pick;
 use delay_units::{Farads, Ohms, Unit};
 use edge_io::{OutOfMemory, Text};
 use name_table::{NodeKey, NodeName};
-use spef_text::{Head, ResolveEnd, SpefFile};
+use spef_text::{Head, ResolveEnd, SpefFile, WrittenNames};
 use std::alloc::Global;
 
 /// What sections are read from.
@@ -48,7 +48,7 @@ impl<'r, 'f> Source<'r, 'f> {
         ensures ok { IfOk result (λ net. net_at self.now.file.now token ≡ Some net) }
         ensures err { IfErr result (IsUnless (IsUnknownAt self.now.file.now token)) }
     {
-        match self.head.written(self.file, token, false) {
+        match WrittenNames::new(self.file, self.head).name(token, false) {
             Some(name) => Ok(Text::from_bytes(self.alloc, name.head)?),
             None => self.named_net(token),
         }
@@ -67,11 +67,17 @@ impl<'r, 'f> Source<'r, 'f> {
     }
 
     // What makes the node that a token names the one that it is. Of most nodes parts of the file tell it, and nothing is copied.
-    fn key_at(&self, token: u64) -> Result<Option<NodeKey<'r>>, OutOfMemory>
-        requires { IsHeadOf self.now.file.now self.now.head.now }
-        ensures { IfOk result (IsKeyAt self.now.file.now token) }
+    fn key_at(
+        &self,
+        refs: &mut Referred<'r, 'f>,
+        token: u64,
+    ) -> Result<Option<NodeKey<'r>>, OutOfMemory>
+        requires head { IsHeadOf self.now.file.now self.now.head.now }
+        requires file { (refs_of refs.old).file ≡ self.now.file.now }
+        ensures key { IfOk result (IsKeyAt self.now.file.now token) }
+        ensures same { refs_of refs.new ≡ refs_of refs.old }
     {
-        match self.head.written(self.file, token, true) {
+        match refs.written(token) {
             Some(name) => Ok(Some(NodeKey::of_written(name))),
             None => self.named_key(token),
         }
@@ -103,7 +109,7 @@ impl<'r, 'f> Source<'r, 'f> {
         let word = self.file.text_of(token);
         match refs.find(word) {
             Some(spelling) => Ok(Some(spelling)),
-            None => match self.key_at(token)? {
+            None => match self.key_at(refs, token)? {
                 Some(key) => Ok(Some(refs.put(word, token, key, net)?)),
                 None => Ok(None),
             },

@@ -17,6 +17,11 @@ pub record HeadText : Type 0 where
   pub cap_unit : Unit
   pub res_unit : Unit
 
+-- a file and its head
+pub record HeadedFile : Type 0 where
+  pub file : SpefText
+  pub head : HeadText
+
 -- the text of a token, which counts from 1; no text is that of a number of none
 abbrev pub text_of : SpefText → ℕ → List ℕ
 text_of file number = if number == 0 then [] else slice_index_or file.texts (number - 1) []

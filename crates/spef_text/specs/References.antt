@@ -9,7 +9,7 @@ use Rattle.name_table.specs.declared.written_names.WrittenName.{WrittenName}
 use Rattle.edge_io.specs.Bytes.{begins_with}
 use Rattle.spef_text.specs.Classes.{index_digits}
 use Rattle.spef_text.specs.SpefFiles.{SpefText}
-use Rattle.spef_text.specs.Heads.{text_of, digits_of}
+use Rattle.spef_text.specs.Heads.{HeadText, IsHeadOf, text_of, digits_of}
 use Rattle.spef_text.specs.declared.entries.Marks.{Marks}
 use Rattle.spef_text.specs.declared.entries.MapEntry.{MapEntry}
 use Rattle.spef_text.specs.declared.references.ResolveEnd.{ResolveEnd}
@@ -75,3 +75,8 @@ pub record IsUnknown (file : SpefText) (word : List ℕ) : Type 0 where
 abbrev pub IsResolveEnd : SpefText → ℕ → ResolveEnd → Type 0
 IsResolveEnd file token (UnknownIndex at) = (at ≡ token) × IsUnknown file (text_of file token)
 IsResolveEnd file token OutOfMemory = ⊤
+
+-- a file and its head, with an index of the map and the name that it stands for, if one is kept
+pub record KeepsNames (file : SpefText) (head : HeadText) (index : List ℕ) (name : Option (List ℕ)) : Type 0 where
+  pub head_of_file : IsHeadOf file head
+  pub mapped : (kept : List ℕ) → name ≡ Some kept → IsMapped file (index_digits index) kept

@@ -31,4 +31,4 @@ pub use head_ends::HeadEnd;
 pub use head_laws::{map_in_order, one_head_end};
 pub use laws::{one_dead_token, one_spef, one_tokens, sections_in_order, token_texts};
 pub use parsing::{SpefEnd, parse};
-pub use references::ResolveEnd;
+pub use references::{ResolveEnd, WrittenNames};

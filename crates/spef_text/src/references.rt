@@ -18,6 +18,7 @@ use name_table::{
     written_whole,
 };
 use std::alloc::Global;
+use std::marker::Model;
 
 /// Why a reference names nothing. Tokens count from 1.
 #[derive(Debug, Drop)]
@@ -207,25 +208,81 @@ impl Head {
             Err(_) => Err(ResolveEnd::OutOfMemory),
         }
     }
+}
+
+/// Finds the names of tokens that stand in a file as they are written, as most do. It keeps the index that was looked up last: the nodes
+/// of a large net begin with the net's own index, as a rule. Contracts see the file and its head.
+#[derive(Drop)]
+pub struct WrittenNames<'r, 'f> {
+    file: &'r SpefFile<'f>,
+    head: &'r Head,
+    // the index that was looked up last, and the name that it stands for
+    index: &'r [u8],
+    name: Option<&'r [u8]>,
+}
+
+impl<'r, 'f> Model for WrittenNames<'r, 'f> {
+    ghost use Rattle.std.specs.Option.{option_copied};
+    ghost use Rattle.spef_text.specs.Heads.{HeadedFile};
+    ghost use Rattle.spef_text.specs.References.{KeepsNames};
+
+    ghost Value = { HeadedFile };
+
+    ghost view = { λ n. record { file = n.file.now; head = n.head.now } };
+
+    ghost invariant = { λ n. KeepsNames n.file.now n.head.now n.index.now (option_copied n.name) };
+}
+
+impl<'r, 'f> WrittenNames<'r, 'f> {
+    /// The names of a file. None has been looked up yet.
+    pub fn new(file: &'r SpefFile<'f>, head: &'r Head) -> WrittenNames<'r, 'f>
+        requires { IsHeadOf file.now head.now }
+        ensures { result ≡ record { file = file.now; head = head.now } }
+    {
+        WrittenNames {
+            file,
+            head,
+            index: &[],
+            name: None,
+        }
+    }
+
+    /// The file.
+    pub fn file(&self) -> &'r SpefFile<'f>
+        ensures { result.now ≡ self.now.file }
+    {
+        self.file
+    }
 
     /// The head and the tail of the node that a token names, cut as [`resolve`](Head::resolve) cuts it, where both stand in the file as
-    /// they are written. Most do. It takes no memory, and at most one look-up in the map.
-    pub fn written<'f>(
-        &self,
-        file: &'f SpefFile<'_>,
-        token: u64,
-        cut: bool,
-    ) -> Option<WrittenName<'f>>
-        requires { IsHeadOf file.now self.now }
-        ensures { IfSome result (NamesAsWritten file.now cut (text_of file.now token)) }
+    /// they are written. It takes no memory, and at most one look-up in the map.
+    pub fn name(&mut self, token: u64, cut: bool) -> Option<WrittenName<'r>>
+        ensures name { IfSome result (NamesAsWritten self.old.file cut (text_of self.old.file token)) }
+        ensures same { self.new ≡ self.old }
     {
-        let word = file.text_of(token);
-        let marks = file.marks();
+        let word = self.file.text_of(token);
+        let marks = self.file.marks();
         if !is_starred(word) {
             return written_name(word, cut, &marks);
         }
         let end = index_end(word, marks.delimiter);
-        let name = self.name_of(file, before(end, word))?;
+        let name = self.name_of(before(end, word))?;
         written_mapped(name, word, end, cut, &marks)
+    }
+
+    // The name that an index stands for, if the map has it.
+    fn name_of(&mut self, index: &'r [u8]) -> Option<&'r [u8]>
+        ensures mapped { IfSome result (λ name. IsMapped self.old.file (index_digits index.now) name.now) }
+        ensures same { self.new ≡ self.old }
+    {
+        if let Some(name) = self.name {
+            if are_equal(self.index, index) {
+                return Some(name);
+            }
+        }
+        let name = self.head.name_of(self.file, index)?;
+        self.index = index;
+        self.name = Some(name);
+        Some(name)
     }
 }

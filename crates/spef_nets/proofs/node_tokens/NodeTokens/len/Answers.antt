@@ -7,4 +7,4 @@ use Rattle.spef_nets.proofs.node_tokens.NodeTokens.len.Goals as goal
 pub returns : goal.returns
 returns c =
     let count : c.len.result ≡ length c.self.inside.tokens.items = search rules in
-    count ∙ sym (as_many_names c.self.inside.file.now c.self.inside.tokens.items c.self.invariant.each) ∙ ap (λ (n : SpelledNodes). length n.nodes) c.self.view_is
+    count ∙ sym (as_many_names c.self.inside.names.file c.self.inside.tokens.items c.self.invariant.each) ∙ ap (λ (n : SpelledNodes). length n.nodes) c.self.view_is
