@@ -19,11 +19,13 @@ use std::alloc::Global;
 use std::marker::Model;
 use std::sync::ledger::Ledger;
 
-/// The tree of a net with its Elmore sums, and the lists that serve net after net. Contracts see the tree and the sums.
+/// The tree of a net with its Elmore sums, and what serves net after net. Contracts see the tree and the sums.
 #[derive(Drop)]
 pub struct TreeWork<C: CornerSet> {
     pub tree: RcTree<C>,
     pub sums: Scratch<C>,
+    // where the section of the next net is likely to stand
+    pub near: usize,
     workspace: Workspace,
     // the loads of one sink
     row: Grid<C, Farads>,
@@ -46,6 +48,7 @@ impl<C: CornerSet> TreeWork<C> {
         Ok(TreeWork {
             tree: RcTree::new(alloc)?,
             sums: Scratch::reserve(alloc, 0)?,
+            near: 0,
             workspace: Workspace::new(alloc),
             row: Grid::with_rows(alloc, 1, Farads(0))?,
         })

@@ -1,5 +1,5 @@
 //! The loads of all nets of a netlist, and the Elmore sums of all their sinks.
-ghost use Rattle.std.specs.Prelude.{◌≡◌, ◌≤◌, ◌<◌, ◌↔◌, ℕ, length, Contains, IsTrue, IfOk, IfErr, IfSome, IfNone, OnOk};
+ghost use Rattle.std.specs.Prelude.{◌≡◌, ◌≤◌, ◌<◌, ◌↔◌, ℕ, length, slice_get, Contains, Some, IsTrue, IfOk, IfErr, IfSome, IfNone, OnOk};
 ghost use Rattle.delay_units.specs.Bounds.{most_farads};
 ghost use Rattle.netlist_link.specs.FlatNetlist.{net_at};
 ghost use Rattle.netlist_link.specs.Linked.{IsLinked};
@@ -44,13 +44,26 @@ impl<'a, 'r, 'f, C: CornerSet> NetInputs<'a, 'r, 'f, C> {
         self.netlist.driver(net)
     }
 
+    // The place of the section of a net, if it has one. It is looked for first where it is likely to stand: behind the one that was
+    // found last.
+    fn section_of(&self, net: usize, near: &mut usize) -> Option<usize>
+        requires { net < length self.now.netlist.nets }
+        ensures found { IfSome result (λ place. slice_get (net_names self.now.sections) place ≡ Some (net_at self.now.netlist net).text) }
+        ensures within { IfSome result (λ place. place < length self.now.sections) }
+        ensures absent { IfNone result (¬ Contains (net_names self.now.sections) (net_at self.now.netlist net).text) }
+    {
+        let place = self.sections.find_near(self.netlist.net_text(net), *near)?;
+        *near = place.saturating_add(1);
+        Some(place)
+    }
+
     // Whether a net has a driver and a sink but no section.
-    fn is_missing(&self, net: usize) -> bool
+    fn is_missing(&self, net: usize, near: &mut usize) -> bool
         requires { net < length self.now.netlist.nets }
         ensures { IsTrue result ↔ IsMissing self.now net }
     {
         match self.wired_driver(net) {
-            Some(_) => self.sections.find(self.netlist.net_text(net)).is_none(),
+            Some(_) => self.section_of(net, near).is_none(),
             None => false,
         }
     }
@@ -60,8 +73,9 @@ impl<'a, 'r, 'f, C: CornerSet> NetInputs<'a, 'r, 'f, C> {
         ensures none { OnOk result ((net : ℕ) → ¬ IsMissing self.now net) }
         ensures refused { IfErr result (IsFirstMissing self.now) }
     {
+        let mut near = 0;
         for net in 0..self.netlist.net_count() {
-            if self.is_missing(net) {
+            if self.is_missing(net, &mut near) {
                 return Err(ParasiticsEnd::MissingNet { net });
             }
         }
@@ -150,7 +164,7 @@ impl<'a, 'r, 'f, C: CornerSet> NetInputs<'a, 'r, 'f, C> {
         ensures refused { IfErr result (IsNetEnd self.now net) }
         ensures work { TakesWork self.now net steps.old steps.new }
     {
-        match self.sections.find(self.netlist.net_text(net)) {
+        match self.section_of(net, &mut work.near) {
             Some(place) => {
                 let section = self.sections.get(place);
                 self.put_written(alloc, net, driver, &section, work, delays, steps)

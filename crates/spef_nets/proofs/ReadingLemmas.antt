@@ -103,10 +103,19 @@ module _ {I : Type 0} (corners : Corners I) (file : SpefText) (head : HeadText) 
     known = step file head place section [] (naming section.net ∷ behind) (reference section.net) begin (good_net corners file head place net named)
 
     -- a net that has a section already
-    pub repeated_net : Contains nets net → IsStop file head place (RepeatedNet net section.net)
+    repeated_net : Contains nets net → IsStop file head place (RepeatedNet net section.net)
     repeated_net again =
         stop file head place section (reference section.net ∷ []) behind (naming section.net) (RepeatedNet net section.net) known
         (refl, named, subst (λ (l : List (Option (List ℕ))). Contains l (Some net)) before (some_contains nets net again))
+
+    -- there was no memory for the net's name, or the net has a section already
+    pub refused_net : (end : SectionEnd) → IsUnless (λ end. Contains nets net × (end ≡ RepeatedNet net section.net)) end → IsStop file head place end
+    refused_net OutOfMemory is = tt
+    refused_net (UnknownIndex token) (again, is) = subst (IsStop file head place) (sym is) (repeated_net again)
+    refused_net (BadNumber token) (again, is) = subst (IsStop file head place) (sym is) (repeated_net again)
+    refused_net (ValueTooLarge token) (again, is) = subst (IsStop file head place) (sym is) (repeated_net again)
+    refused_net (RepeatedNet other token) (again, is) = subst (IsStop file head place) (sym is) (repeated_net again)
+    refused_net (ForeignCoupling other token) (again, is) = subst (IsStop file head place) (sym is) (repeated_net again)
 
     pub new_net : (Contains nets net → ⊥) → IsGood file place section (naming section.net)
     new_net new (UnknownIndex token) is = is

@@ -5,7 +5,7 @@ ghost use Rattle.spef_text.specs.Entries.{section_at};
 ghost use Rattle.spef_nets.specs.NetElements.{NetElements, AreWhole};
 ghost use Rattle.spef_nets.specs.Sections.{Corners, IsNet, AreNets};
 ghost use Rattle.spef_nets.specs.Faults.{IsFaultless, AreFaultless, IsSectionEnd, IsLeastFault};
-ghost use Rattle.spef_nets.specs.Drafts.{corners_of, written_net};
+ghost use Rattle.spef_nets.specs.Drafts.{corners_of, written_net, IsUnless};
 ghost use Rattle.spef_nets.specs.DraftOf.{drafted};
 ghost use Rattle.spef_nets.specs.Reading.{IsReading};
 ghost use Rattle.spef_nets.specs.Rows.{no_rows};
@@ -19,35 +19,26 @@ use crate::sections::Sections;
 use crate::source::Source;
 use crate::tables::Tables;
 use corner_set::{CornerSet, Pick};
-use edge_io::{OutOfMemory, Text};
+use edge_io::Text;
 use name_table::Names;
 use spef_text::{Head, SpefFile};
 use std::alloc::Global;
 use std::marker::PhantomData;
 
-// Refuses a net that has a section already.
-fn new_net(nets: &Names, net: Text, token: u64) -> Result<Text, SectionEnd>
-    ensures new { OnOk result (¬ Contains nets.now net) }
+// Numbers a net by its section's place, or refuses it where it has a section already.
+fn put_net(nets: &mut Names, net: Text, token: u64) -> Result<Text, SectionEnd>
+    requires room { length nets.old < 2 ^ 30 }
+    ensures new { OnOk result (¬ Contains nets.old net) }
+    ensures put { OnOk result (nets.new ≡ nets.old ++ net ∷ []) }
     ensures same { IfOk result (λ new. new ≡ net) }
-    ensures err { IfErr result (λ end. Contains nets.now net × (end ≡ SectionEnd.RepeatedNet net token)) }
+    ensures err { IfErr result (IsUnless (λ end. Contains nets.old net × (end ≡ SectionEnd.RepeatedNet net token))) }
 {
-    if nets.find(net.bytes()).is_some() {
+    let many = nets.len();
+    nets.intern(net.bytes())?;
+    if nets.len() == many {
         return Err(SectionEnd::RepeatedNet { net, token });
     }
     Ok(net)
-}
-
-// Numbers a net by its section's place.
-fn put_net(nets: &mut Names, net: &Text) -> Result<(), OutOfMemory>
-    requires new { ¬ Contains nets.old net.now }
-    requires room { length nets.old < 2 ^ 30 }
-    ensures put { OnOk result (nets.new ≡ nets.old ++ net.now ∷ []) }
-    ensures same { OnErr result (nets.new ≡ nets.old) }
-{
-    match nets.intern(net.bytes()) {
-        Ok(_) => Ok(()),
-        Err(_) => Err(OutOfMemory),
-    }
 }
 
 // Reads the section behind those of these nets, and puts the name of its net behind theirs.
@@ -72,9 +63,8 @@ fn read_behind<'r, 'f, C: CornerSet>(
     let place = nets.len();
     let token = source.file.net_token(place);
     let name = source.net_of(token)?;
-    let net = new_net(nets, name, token)?;
+    let net = put_net(nets, name, token)?;
     let draft = source.read_section::<C>(place, net, lists)?;
-    put_net(nets, &draft.net)?;
     Ok(draft)
 }
 

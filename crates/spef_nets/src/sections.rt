@@ -7,6 +7,7 @@ use crate::net::Net;
 use crate::node_names::NodeNames;
 use crate::tables::Tables;
 use corner_set::CornerSet;
+use edge_io::are_equal;
 use name_table::{NameId, Names};
 use spef_text::{Head, SpefFile};
 use std::marker::{Model, PhantomData};
@@ -72,6 +73,20 @@ impl<'r, 'f, C: CornerSet> Sections<'r, 'f, C> {
     {
         let id = self.nets.find(net)?;
         Some(id.0 as usize)
+    }
+
+    /// The same where the section is likely to stand at this place, which is looked at first: a file has its nets in the order of the
+    /// netlist, as a rule.
+    pub fn find_near(&self, net: &[u8], place: usize) -> Option<usize>
+        ensures found { IfSome result (λ s. slice_get (net_names self.now) s ≡ Some net.now) }
+        ensures within { IfSome result (λ s. s < length self.now) }
+        ensures absent { IfNone result (¬ Contains (net_names self.now) net.now) }
+    {
+        if place < self.nets.len() && are_equal(self.nets.text(NameId(place as u32)), net) {
+            Some(place)
+        } else {
+            self.find(net)
+        }
     }
 
     /// No two nets have one name. It does nothing when it is called.

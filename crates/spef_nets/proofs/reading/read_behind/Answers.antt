@@ -1,11 +1,12 @@
-use Rattle.std.proofs.Common.{ℕ, List, [], ◌∷◌, ◌++◌, sym, ap, ◌∙◌, subst}
-use Rattle.std.specs.Prelude.{Some}
+use Rattle.std.proofs.Common.{◌≡◌, ℕ, List, [], ◌∷◌, ◌++◌, sym, ap, ◌∙◌, subst}
+use Rattle.std.specs.Prelude.{Some, Contains}
 use Rattle.spef_nets.specs.Nodes.{net_at}
 use Rattle.spef_nets.specs.Faults.{IsUnknownAt, IsSectionEnd}
-use Rattle.spef_nets.specs.Drafts.{corners_of, IsStop, IsUnless}
+use Rattle.spef_nets.specs.Drafts.{corners_of, IsUnless}
+use Rattle.spef_nets.specs.declared.ends.SectionEnd.{SectionEnd}
 use Rattle.spef_nets.specs.declared.ends.SectionEnd.TheVariants.{RepeatedNet}
 use Rattle.spef_nets.proofs.Stepping.{handed_on}
-use Rattle.spef_nets.proofs.ReadingLemmas.{section_end, unknown_net, repeated_net, new_net, read_more}
+use Rattle.spef_nets.proofs.ReadingLemmas.{section_end, unknown_net, refused_net, new_net, read_more}
 use Rattle.spef_nets.proofs.reading.read_behind.Goals as goal
 
 -- src/reading.rt
@@ -20,9 +21,9 @@ pub returns-in_err-net-clause-refused : goal.returns-in_err-net-clause-refused
 returns-in_err-net-clause-refused g c =
     handed_on c.from_residual-in_err-net.result c.in_err-net.field-0.0 (IsSectionEnd c.args.source.now.file.now c.args.source.now.head.now) c.from_residual-in_err-net.ensures.1
     (section_end (corners_of g.C.CornerSet.COUNT g.C.CornerSet.number_of g.C.CornerSet.member_of c.args.source.now.pick) c.args.source.now.file.now c.args.source.now.head.now c.args.nets.now c.requires.reading c.len-place.result c.len-place.ensures.len c.requires.left c.in_err-net.field-0.0
-    (subst (IsStop c.args.source.now.file.now c.args.source.now.head.now c.len-place.result) (sym (c.in_err-net.ensures.err.1 ∙ ap (RepeatedNet c.in_ok-name.name) c.net_token-token.ensures))
-    (repeated_net (corners_of g.C.CornerSet.COUNT g.C.CornerSet.number_of g.C.CornerSet.member_of c.args.source.now.pick) c.args.source.now.file.now c.args.source.now.head.now c.args.nets.now c.requires.reading c.len-place.result c.len-place.ensures.len c.requires.left
-    c.in_ok-name.name (ap (net_at c.args.source.now.file.now) (sym c.net_token-token.ensures) ∙ c.in_ok-name.ensures.ok) c.in_err-net.ensures.err.0)))
+    (refused_net (corners_of g.C.CornerSet.COUNT g.C.CornerSet.number_of g.C.CornerSet.member_of c.args.source.now.pick) c.args.source.now.file.now c.args.source.now.head.now c.args.nets.now c.requires.reading c.len-place.result c.len-place.ensures.len c.requires.left
+    c.in_ok-name.name (ap (net_at c.args.source.now.file.now) (sym c.net_token-token.ensures) ∙ c.in_ok-name.ensures.ok) c.in_err-net.field-0.0
+    (subst (λ (t : ℕ). IsUnless (λ (end : SectionEnd). Contains c.args.nets.now c.in_ok-name.name × (end ≡ RepeatedNet c.in_ok-name.name t)) c.in_err-net.field-0.0) c.net_token-token.ensures c.in_err-net.ensures.err)))
 
 pub read_section-requires-clause-net : goal.read_section-requires-clause-net
 read_section-requires-clause-net g c = ap (net_at c.args.source.now.file.now) (sym c.net_token-token.ensures) ∙ c.in_ok-name.ensures.ok ∙ ap Some (sym c.in_ok-net.ensures.same)
@@ -40,5 +41,7 @@ returns-in_err-draft-clause-refused g c =
 pub returns-clause-reading : goal.returns-clause-reading
 returns-clause-reading g c =
     read_more (corners_of g.C.CornerSet.COUNT g.C.CornerSet.number_of g.C.CornerSet.member_of c.args.source.now.pick) c.args.source.now.file.now c.args.source.now.head.now c.args.nets.now c.requires.reading c.len-place.result c.len-place.ensures.len c.requires.left
-    c.in_ok-name.name (ap (net_at c.args.source.now.file.now) (sym c.net_token-token.ensures) ∙ c.in_ok-name.ensures.ok) c.put_net.new.nets c.in_ok-draft.ensures.faultless
-    (c.in_ok-put_net.ensures.put ∙ ap (λ (n : List ℕ). c.args.nets.now ++ n ∷ []) (c.in_ok-draft.ensures.net ∙ c.in_ok-net.ensures.same))
+    c.in_ok-name.name (ap (net_at c.args.source.now.file.now) (sym c.net_token-token.ensures) ∙ c.in_ok-name.ensures.ok) c.put_net.new.nets c.in_ok-draft.ensures.faultless c.in_ok-net.ensures.put
+
+pub returns-clause-put : goal.returns-clause-put
+returns-clause-put g c = c.in_ok-net.ensures.put ∙ ap (λ (n : List ℕ). c.args.nets.now ++ n ∷ []) (sym (c.in_ok-draft.ensures.net ∙ c.in_ok-net.ensures.same))
