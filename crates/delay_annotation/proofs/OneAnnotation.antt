@@ -14,7 +14,8 @@ use Rattle.delay_core.specs.SpefPhases.{DesignNets}
 use Rattle.delay_core.specs.declared.refusal.FileKey.TheVariants.{Netlist, Spef}
 use Rattle.delay_core.specs.declared.refusal.Refusal.{Refusal}
 use Rattle.delay_core.proofs.NetsApart.{apart_nets}
-use Rattle.delay_core.proofs.OneChain.{Steps, Then, stops, goes, Plain, one_plain, one_then, one_made, one_by}
+use Rattle.delay_core.specs.Refused.{WithoutFile}
+use Rattle.delay_core.proofs.OneChain.{Steps, Then, stops, goes, one_plain, one_then, one_made, one_by}
 use Rattle.delay_core.proofs.OneDesign.{one_inputs, links_one}
 use Rattle.delay_core.proofs.OneNet.{AreNumbered}
 use Rattle.delay_core.proofs.OneSpefFile.{one_file_refusal, no_design_beside, one_design}
@@ -77,13 +78,13 @@ module _ {I : Type 0} (corners : Corners I) (numbered : AreNumbered corners) (so
     annotated_by design delays = with_delays_of design.netlist design.cells delays
 
     abbrev Timed : LinkedDesign → List ℕ → Steps AnnotatedDesign → Type 0
-    Timed design bytes step = Then (Plain (TimesFromText corners design bytes settings)) (λ delays end. end ≡ Go (annotated_by design delays)) step
+    Timed design bytes step = Then (WithoutFile (TimesFromText corners design bytes settings)) (λ delays end. end ≡ Go (annotated_by design delays)) step
 
     abbrev Lent : List ℕ → LinkedDesign → Steps AnnotatedDesign → Type 0
     Lent spef design step = Then (ReadsSpefFile (Some held) spef) (Timed design) step
 
     module _ (inputs : ReadInputs) (spef : List ℕ) where
-      from_view : (step : Steps AnnotatedDesign) → AnnotatesFrom (Some held) corners inputs spef settings step → Then (Plain (LinksInputs inputs settings.top)) (Lent spef) step
+      from_view : (step : Steps AnnotatedDesign) → AnnotatesFrom (Some held) corners inputs spef settings step → Then (WithoutFile (LinksInputs inputs settings.top)) (Lent spef) step
       from_view _ (at_link refusal links) = stops (RefusedBy refusal) links refl
       from_view _ (at_spef design why links reads) = goes design links (stops why reads refl)
       from_view _ (at_timing design bytes refusal links reads times) = goes design links (goes bytes reads (stops (RefusedBy refusal) times refl))
@@ -91,12 +92,12 @@ module _ {I : Type 0} (corners : Corners I) (numbered : AreNumbered corners) (so
 
       one_lent : (design : LinkedDesign) → HasOneAnswer (Lent spef design)
       one_lent design = one_then (ReadsSpefFile (Some held) spef) (Timed design) (one_file held Spef spef)
-          (λ bytes reads. one_then (Plain (TimesFromText corners design bytes settings)) (λ delays end. end ≡ Go (annotated_by design delays))
+          (λ bytes reads. one_then (WithoutFile (TimesFromText corners design bytes settings)) (λ delays end. end ≡ Go (annotated_by design delays))
           (one_plain (TimesFromText corners design bytes settings) (one_text_timing design bytes)) (λ delays times. one_made (annotated_by design delays)))
 
-      one_from : HasOneAnswer (Plain (LinksInputs inputs settings.top)) → HasOneAnswer (AnnotatesFrom (Some held) corners inputs spef settings)
-      one_from links = one_by (AnnotatesFrom (Some held) corners inputs spef settings) (Then (Plain (LinksInputs inputs settings.top)) (Lent spef)) from_view
-          (one_then (Plain (LinksInputs inputs settings.top)) (Lent spef) links (λ design is. one_lent design))
+      one_from : HasOneAnswer (WithoutFile (LinksInputs inputs settings.top)) → HasOneAnswer (AnnotatesFrom (Some held) corners inputs spef settings)
+      one_from links = one_by (AnnotatesFrom (Some held) corners inputs spef settings) (Then (WithoutFile (LinksInputs inputs settings.top)) (Lent spef)) from_view
+          (one_then (WithoutFile (LinksInputs inputs settings.top)) (Lent spef) links (λ design is. one_lent design))
 
     -- ---- the files
 

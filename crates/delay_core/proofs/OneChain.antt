@@ -4,6 +4,7 @@ use Rattle.verdict_phases.specs.Phases.{Stop, RefusedBy, Unread, Reads, Step, Go
 use Rattle.delay_core.specs.OneAnswer.{SameAnswer}
 use Rattle.delay_core.specs.declared.refusal.FileKey.{FileKey}
 use Rattle.delay_core.specs.declared.refusal.Refusal.{Refusal}
+use Rattle.delay_core.specs.Refused.{WithoutFile}
 use Rattle.delay_core.specs.OneStep.{IsFinal, IsDecided, SameStop, SameStep, HasOneAnswer}
 
 abbrev pub Steps : Type 0 → Type 0
@@ -14,14 +15,7 @@ pub data Then {A B : Type 0} (first : Steps A → Type 0) (next : A → Steps B 
   stops : (why : Stop Refusal FileKey) → first (Halt why) → step ≡ Halt why → Then first next step
   goes : (value : A) → first (Go value) → next value step → Then first next step
 
--- a phase that reads no file
-abbrev pub Plain : {A : Type 0} → (Result A Refusal → Type 0) → Steps A → Type 0
-Plain phase (Go value) = phase (Ok value)
-Plain phase (Halt (RefusedBy refusal)) = phase (Err refusal)
-Plain phase (Halt (Unread key)) = ⊥
-Plain phase (Halt (Reads key)) = ⊥
-
-pub one_plain : {A : Type 0} (phase : Result A Refusal → Type 0) → ((one other : Result A Refusal) → phase one → phase other → SameAnswer one other) → HasOneAnswer (Plain phase)
+pub one_plain : {A : Type 0} (phase : Result A Refusal → Type 0) → ((one other : Result A Refusal) → phase one → phase other → SameAnswer one other) → HasOneAnswer (WithoutFile phase)
 one_plain phase law (Go x) (Go y) r s d e = law (Ok x) (Ok y) r s
 one_plain phase law (Go x) (Halt (RefusedBy f)) r s d e = law (Ok x) (Err f) r s
 one_plain phase law (Go x) (Halt (Unread k)) r s d e = absurd s

@@ -28,7 +28,8 @@ use Rattle.delay_core.proofs.OneNetlist.{one_netlist_lem}
 use Rattle.delay_core.proofs.Places.{some_is}
 use Rattle.delay_core.specs.OneDesign.{OneInputs, OneLinking, OneDesign}
 use Rattle.delay_core.specs.OneStep.{IsFinal, IsDecided, HasOneAnswer}
-use Rattle.delay_core.proofs.OneChain.{Steps, Then, stops, goes, Plain, one_plain, same_answers, one_then, one_made, one_by}
+use Rattle.delay_core.specs.Refused.{WithoutFile}
+use Rattle.delay_core.proofs.OneChain.{Steps, Then, stops, goes, one_plain, same_answers, one_then, one_made, one_by}
 use Rattle.delay_core.proofs.OneText.{one_file, same_stop, stops_equal, reads_or_stops, reads_alike}
 
 -- ---- the libraries
@@ -114,10 +115,10 @@ module _ (held : Held) (corners : ℕ) (top : List ℕ) (names : List (List ℕ)
   Libraries modules used step = Then (ReadsLibraries (Some held) corners names) (λ libraries end. end ≡ Go (made modules used libraries)) step
 
   abbrev Uses : List NetModule → Steps ReadInputs → Type 0
-  Uses modules step = Then (Plain (UsesCells modules top)) (Libraries modules) step
+  Uses modules step = Then (WithoutFile (UsesCells modules top)) (Libraries modules) step
 
   abbrev Inputs : List ℕ → Steps ReadInputs → Type 0
-  Inputs bytes step = Then (Plain (ParsesNetlist bytes)) Uses step
+  Inputs bytes step = Then (WithoutFile (ParsesNetlist bytes)) Uses step
 
   inputs_view : (bytes : List ℕ) (step : Steps ReadInputs) → ReadsInputs (Some held) corners bytes top names step → Inputs bytes step
   inputs_view bytes _ (at_grammar refusal parses) = stops (RefusedBy refusal) parses refl
@@ -126,12 +127,12 @@ module _ (held : Held) (corners : ℕ) (top : List ℕ) (names : List (List ℕ)
   inputs_view bytes _ (with_inputs modules used trees parses uses reads) = goes modules parses (goes used uses (goes trees reads refl))
 
   one_uses : (modules : List NetModule) → NamesDiffer modules → HasOneAnswer (Uses modules)
-  one_uses modules differ = one_then (Plain (UsesCells modules top)) (Libraries modules) (one_plain (UsesCells modules top) (λ one other r s. one_use_lem modules top one other differ r s))
+  one_uses modules differ = one_then (WithoutFile (UsesCells modules top)) (Libraries modules) (one_plain (UsesCells modules top) (λ one other r s. one_use_lem modules top one other differ r s))
       (λ used uses. one_then (ReadsLibraries (Some held) corners names) (λ libraries end. end ≡ Go (made modules used libraries)) (one_libraries held corners names) (λ libraries reads. one_made (made modules used libraries)))
 
   inputs_alike : (bytes : List ℕ) → HasOneAnswer (ReadsInputs (Some held) corners bytes top names)
   inputs_alike bytes = one_by (ReadsInputs (Some held) corners bytes top names) (Inputs bytes) (inputs_view bytes)
-      (one_then (Plain (ParsesNetlist bytes)) Uses (one_plain (ParsesNetlist bytes) (λ one other r s. same_answers one other (one_netlist_lem bytes one other r s)))
+      (one_then (WithoutFile (ParsesNetlist bytes)) Uses (one_plain (ParsesNetlist bytes) (λ one other r s. same_answers one other (one_netlist_lem bytes one other r s)))
       (λ modules parses. one_uses modules (sound_modules bytes modules parses)))
 
 -- the inputs of a netlist's bytes have one answer
@@ -201,7 +202,7 @@ pub one_linking : OneLinking
 one_linking held corners bytes top names inputs one other are r s = links_alike inputs top (sound_inputs held corners bytes top names inputs are) one other r s
 
 -- and so as phases
-pub links_one : (held : Option Held) (corners : ℕ) (bytes top : List ℕ) (names : List (List ℕ)) (inputs : ReadInputs) → ReadsInputs held corners bytes top names (Go inputs) → HasOneAnswer (Plain (LinksInputs inputs top))
+pub links_one : (held : Option Held) (corners : ℕ) (bytes top : List ℕ) (names : List (List ℕ)) (inputs : ReadInputs) → ReadsInputs held corners bytes top names (Go inputs) → HasOneAnswer (WithoutFile (LinksInputs inputs top))
 links_one held corners bytes top names inputs are =
     one_plain (LinksInputs inputs top) (λ one other r s. same_answers one other (one_linking held corners bytes top names inputs one other are r s))
 
@@ -209,7 +210,7 @@ links_one held corners bytes top names inputs are =
 
 module _ (held : Held) (corners : ℕ) (file top : List ℕ) (names : List (List ℕ)) where
   abbrev AfterFile : List ℕ → Steps LinkedDesign → Type 0
-  AfterFile bytes step = Then (ReadsInputs (Some held) corners bytes top names) (λ inputs. Plain (LinksInputs inputs top)) step
+  AfterFile bytes step = Then (ReadsInputs (Some held) corners bytes top names) (λ inputs. WithoutFile (LinksInputs inputs top)) step
 
   design_view : (step : Steps LinkedDesign) → ReadsDesign (Some held) corners file top names step → Then (ReadsNetlistFile (Some held) file) AfterFile step
   design_view _ (at_netlist why reads) = stops why reads refl
@@ -221,5 +222,5 @@ module _ (held : Held) (corners : ℕ) (file top : List ℕ) (names : List (List
 pub one_design : OneDesign
 one_design held corners file top names = one_by (ReadsDesign (Some held) corners file top names) (Then (ReadsNetlistFile (Some held) file) (AfterFile held corners file top names)) (design_view held corners file top names)
     (one_then (ReadsNetlistFile (Some held) file) (AfterFile held corners file top names) (one_file held Netlist file)
-    (λ bytes reads. one_then (ReadsInputs (Some held) corners bytes top names) (λ inputs. Plain (LinksInputs inputs top)) (one_inputs held corners bytes top names)
+    (λ bytes reads. one_then (ReadsInputs (Some held) corners bytes top names) (λ inputs. WithoutFile (LinksInputs inputs top)) (one_inputs held corners bytes top names)
     (λ inputs are. links_one (Some held) corners bytes top names inputs are)))

@@ -1,6 +1,6 @@
--- A fact of an answer that is a refusal, or a read fault.
+-- A fact of an answer that is a refusal, or a read fault; and phases that have no read fault.
 use Rattle.std.specs.Prelude.{Result, Ok, Err}
-use Rattle.verdict_phases.specs.Phases.{Stop, RefusedBy, Reads}
+use Rattle.verdict_phases.specs.Phases.{Stop, RefusedBy, Unread, Reads, Step, Go, Halt}
 use Rattle.verdict_phases.specs.declared.ends.NoFileEnd.{NoFileEnd}
 use Rattle.verdict_phases.specs.declared.ends.NoFileEnd.TheVariants as no_file
 use Rattle.verdict_phases.specs.declared.ends.PhaseEnd.{PhaseEnd}
@@ -27,3 +27,10 @@ OnStop (Ok value) fact = Unit {0}
 OnStop (Err (phase.Refused refusal)) fact = fact (RefusedBy refusal)
 OnStop (Err (phase.ReadFault key)) fact = fact (Reads key)
 OnStop (Err phase.OutOfMemory) fact = Unit {0}
+
+-- a phase that reads no file, as one that may: it goes on with its value, or it is refused
+abbrev pub WithoutFile : {A : Type 0} → (Result A Refusal → Type 0) → Step Refusal FileKey A → Type 0
+WithoutFile phase (Go value) = phase (Ok value)
+WithoutFile phase (Halt (RefusedBy refusal)) = phase (Err refusal)
+WithoutFile phase (Halt (Unread key)) = ⊥
+WithoutFile phase (Halt (Reads key)) = ⊥

@@ -19,4 +19,5 @@ pub mod Saying
 pub mod SettledNames
 pub mod SmallDelays
 pub mod WireTexts
+pub mod WithoutFile
 pub mod Work

@@ -1,13 +1,16 @@
 -- What `lookup` gives at the one corner of a run.
-use Rattle.std.proofs.Common.{ℕ, List, Option, Ok, Err}
+use Rattle.std.proofs.Common.{ℕ, List, Option, Result, Ok, Err}
 use Rattle.edge_io.specs.Holding.{Held}
 use Rattle.nldm_lookup.specs.declared.beyond.Beyond.{Beyond}
-use Rattle.verdict_phases.specs.Phases.{Stop, RefusedBy, Step, Go, Halt}
+use Rattle.verdict_phases.specs.Phases.{Stop, RefusedBy, Step, Go, Halt, Follows}
+use Rattle.verdict_phases.specs.declared.ends.PhaseEnd.{PhaseEnd}
+use Rattle.verdict_phases.specs.declared.ends.PhaseEnd.TheVariants as phase
 use Rattle.delay_core.specs.LibraryReading.{ReadsLibraryFile}
 use Rattle.delay_core.specs.declared.refusal.FileKey.{FileKey}
 use Rattle.delay_core.specs.declared.refusal.FileKey.TheVariants.{Lib}
 use Rattle.delay_core.specs.declared.refusal.Refusal.{Refusal}
 use Rattle.gdc_run.specs.declared.arc_rows.ArcRow.{ArcRow}
+use Rattle.delay_core.specs.Refused.{WithoutFile}
 use Rattle.gdc_run.specs.Verdict.{ReadsArcs, LookupGives, at_library_reading, at_arcs, with_arc_rows}
 
 -- the library of the one corner is read
@@ -17,10 +20,17 @@ ReadsSoleLibrary held file step = ReadsLibraryFile held Lib file step
 pub library_halts : {held : Option Held} {file name : List ℕ} {slew load : ℕ} {beyond : Beyond} (why : Stop Refusal FileKey) → ReadsSoleLibrary held file (Halt why) → LookupGives 1 0 held file name slew load beyond (Halt why)
 library_halts why reads = at_library_reading why reads
 
-pub arcs_refused : {held : Option Held} {file name : List ℕ} {slew load : ℕ} {beyond : Beyond} (bytes : List ℕ) (refusal : Refusal) → ReadsSoleLibrary held file (Go bytes) → ReadsArcs 0 name slew load beyond bytes (Err refusal)
+arcs_refused : {held : Option Held} {file name : List ℕ} {slew load : ℕ} {beyond : Beyond} (bytes : List ℕ) (refusal : Refusal) → ReadsSoleLibrary held file (Go bytes) → ReadsArcs 0 name slew load beyond bytes (Err refusal)
     → LookupGives 1 0 held file name slew load beyond (Halt (RefusedBy refusal))
 arcs_refused bytes refusal reads arcs = at_arcs bytes refusal reads arcs
 
-pub arcs_given : {held : Option Held} {file name : List ℕ} {slew load : ℕ} {beyond : Beyond} (bytes : List ℕ) (rows : List ArcRow) → ReadsSoleLibrary held file (Go bytes) → ReadsArcs 0 name slew load beyond bytes (Ok rows)
+arcs_given : {held : Option Held} {file name : List ℕ} {slew load : ℕ} {beyond : Beyond} (bytes : List ℕ) (rows : List ArcRow) → ReadsSoleLibrary held file (Go bytes) → ReadsArcs 0 name slew load beyond bytes (Ok rows)
     → LookupGives 1 0 held file name slew load beyond (Go rows)
 arcs_given bytes rows reads arcs = with_arc_rows bytes rows reads arcs
+
+pub arcs_follow : (held : Option Held) (file name : List ℕ) (slew load : ℕ) (beyond : Beyond) (bytes : List ℕ) (result : Result (List ArcRow) (PhaseEnd Refusal FileKey)) → ReadsSoleLibrary held file (Go bytes)
+    → Follows (WithoutFile (ReadsArcs 0 name slew load beyond bytes)) result → Follows (LookupGives 1 0 held file name slew load beyond) result
+arcs_follow held file name slew load beyond bytes (Ok rows) reads arcs = arcs_given bytes rows reads arcs
+arcs_follow held file name slew load beyond bytes (Err (phase.Refused refusal)) reads arcs = arcs_refused bytes refusal reads arcs
+arcs_follow held file name slew load beyond bytes (Err (phase.ReadFault key)) reads arcs = absurd arcs
+arcs_follow held file name slew load beyond bytes (Err phase.OutOfMemory) reads arcs = tt

@@ -38,7 +38,8 @@ use Rattle.gdc_run.specs.Verdict.{ReadsLib, ReadsArcs, at_library, at_cell, of_c
 use Rattle.delay_core.specs.OneStep.{HasOneAnswer}
 use Rattle.delay_core.proofs.OneLibrary.{one_library_lem, one_cell_lem}
 use Rattle.rc_tree.proofs.NetShapes.{first_without}
-use Rattle.delay_core.proofs.OneChain.{Steps, Then, stops, goes, Plain, one_plain, same_answers, one_then, one_by}
+use Rattle.delay_core.specs.Refused.{WithoutFile}
+use Rattle.delay_core.proofs.OneChain.{Steps, Then, stops, goes, one_plain, same_answers, one_then, one_by}
 use Rattle.delay_core.proofs.OneText.{one_file}
 use Rattle.delay_core.proofs.Places.{some_is}
 
@@ -242,7 +243,7 @@ module _ (corner : ℕ) (name : List ℕ) (slew load : ℕ) (beyond : Beyond) (b
 module _ (corners corner : ℕ) (held : Held) (file name : List ℕ) (slew load : ℕ) (beyond : Beyond) where
   -- the library is read, and then its bytes have an answer
   abbrev Looks : Steps (List ArcRow) → Type 0
-  Looks step = Then (ReadsLib corners corner (Some held) file) (λ bytes. Plain (ReadsArcs corner name slew load beyond bytes)) step
+  Looks step = Then (ReadsLib corners corner (Some held) file) (λ bytes. WithoutFile (ReadsArcs corner name slew load beyond bytes)) step
 
   lookup_view : (step : Steps (List ArcRow)) → LookupGives corners corner (Some held) file name slew load beyond step → Looks step
   lookup_view _ (at_library_reading why r) = stops why r refl
@@ -251,5 +252,5 @@ module _ (corners corner : ℕ) (held : Held) (file name : List ℕ) (slew load 
 
   pub one_lookup : HasOneAnswer (LookupGives corners corner (Some held) file name slew load beyond)
   one_lookup = one_by (LookupGives corners corner (Some held) file name slew load beyond) Looks lookup_view
-      (one_then (ReadsLib corners corner (Some held) file) (λ bytes. Plain (ReadsArcs corner name slew load beyond bytes)) (one_file held (library_key corners corner) file)
+      (one_then (ReadsLib corners corner (Some held) file) (λ bytes. WithoutFile (ReadsArcs corner name slew load beyond bytes)) (one_file held (library_key corners corner) file)
       (λ bytes reads. one_plain (ReadsArcs corner name slew load beyond bytes) (λ one other r s. same_answers one other (one_answer corner name slew load beyond bytes one other r s))))

@@ -20,7 +20,8 @@ use Rattle.gdc_run.specs.declared.output.Output.TheVariants as output
 use Rattle.delay_core.specs.OneStep.{HasOneAnswer}
 use Rattle.delay_core.specs.SpefPhases.{sole_corner}
 use Rattle.delay_core.proofs.OneDesign.{one_design}
-use Rattle.delay_core.proofs.OneChain.{Steps, Then, stops, goes, Plain, one_plain, same_answers, one_then, one_made, one_by}
+use Rattle.delay_core.specs.Refused.{WithoutFile}
+use Rattle.delay_core.proofs.OneChain.{Steps, Then, stops, goes, one_plain, same_answers, one_then, one_made, one_by}
 use Rattle.delay_core.proofs.OneText.{one_file}
 use Rattle.gdc_run.specs.Verdict.{ParsesSdf, is_sdf_file, is_no_sdf_file, ReadsSdf, ShowGives, WiresGives, LookupGives, FlatGives, at_sdf_reading, at_sdf, with_sdf_rows, CommandGives, Faulty, Answers}
 use Rattle.gdc_run.specs.Putting.{As}
@@ -42,14 +43,14 @@ one_listing bytes one other (is_no_sdf_file token cause fault) (is_no_sdf_file o
     ap (λ n. Err (SdfSyntax n)) (one_fault bytes token other_token cause because fault its).0
 
 -- the file is read, and then its bytes have an answer
-show_view : (held : Held) (name : List ℕ) (step : Steps (List SdfRow)) → ShowGives (Some held) name step → Then (ReadsSdf (Some held) name) (λ bytes. Plain (ParsesSdf bytes)) step
+show_view : (held : Held) (name : List ℕ) (step : Steps (List SdfRow)) → ShowGives (Some held) name step → Then (ReadsSdf (Some held) name) (λ bytes. WithoutFile (ParsesSdf bytes)) step
 show_view held name _ (at_sdf_reading why r) = stops why r refl
 show_view held name _ (at_sdf bytes refusal r parses) = goes bytes r parses
 show_view held name _ (with_sdf_rows bytes rows r parses) = goes bytes r parses
 
 one_show : (held : Held) (name : List ℕ) → HasOneAnswer (ShowGives (Some held) name)
-one_show held name = one_by (ShowGives (Some held) name) (Then (ReadsSdf (Some held) name) (λ bytes. Plain (ParsesSdf bytes))) (show_view held name)
-    (one_then (ReadsSdf (Some held) name) (λ bytes. Plain (ParsesSdf bytes)) (one_file held Sdf name)
+one_show held name = one_by (ShowGives (Some held) name) (Then (ReadsSdf (Some held) name) (λ bytes. WithoutFile (ParsesSdf bytes))) (show_view held name)
+    (one_then (ReadsSdf (Some held) name) (λ bytes. WithoutFile (ParsesSdf bytes)) (one_file held Sdf name)
     (λ bytes reads. one_plain (ParsesSdf bytes) (λ one other r s. same_answers one other (one_listing bytes one other r s))))
 
 -- ---- the verdict

@@ -18,7 +18,8 @@ use Rattle.delay_core.specs.OneStep.{HasOneAnswer}
 use Rattle.delay_core.proofs.OneSpefFile.{one_file_refusal, no_design_beside, one_design}
 use Rattle.delay_core.proofs.OneNet.{sole_numbered}
 use Rattle.delay_core.proofs.OneRows.{one_rows}
-use Rattle.delay_core.proofs.OneChain.{Steps, Then, stops, goes, Plain, one_plain, one_then, one_by}
+use Rattle.delay_core.specs.Refused.{WithoutFile}
+use Rattle.delay_core.proofs.OneChain.{Steps, Then, stops, goes, one_plain, one_then, one_by}
 use Rattle.delay_core.proofs.OneText.{one_file}
 
 whole_nets : (pick : Pick) (file : SpefText) (head : HeadText) (nets : List NetElements) → NetsSpef (sole_corner pick) file head (Ok nets) → All (AreWhole 1) nets
@@ -36,12 +37,12 @@ one_text_answer pick bytes one other (of_design design answer r rows) (of_design
     one_rows design (whole_design pick bytes design r) answer its rows (subst (λ (d : DesignNets). RowsOf 1 d its) (one_design (sole_corner pick) (sole_numbered pick) bytes more design s r) others)
 
 -- the file is read, and then its text has an answer
-wires_view : (held : Held) (pick : Pick) (name : List ℕ) (step : Steps SdfRows) → WiresGives (sole_corner pick) (Some held) name step → Then (ReadsSpef (Some held) name) (λ bytes. Plain (TextGives (sole_corner pick) bytes)) step
+wires_view : (held : Held) (pick : Pick) (name : List ℕ) (step : Steps SdfRows) → WiresGives (sole_corner pick) (Some held) name step → Then (ReadsSpef (Some held) name) (λ bytes. WithoutFile (TextGives (sole_corner pick) bytes)) step
 wires_view held pick name _ (at_reading why r) = stops why r refl
 wires_view held pick name _ (at_spef bytes refusal r n) = goes bytes r (unread refusal n)
 wires_view held pick name _ (at_nets bytes design refusal r n rows) = goes bytes r (of_design design (Err refusal) n rows)
 wires_view held pick name _ (with_rows bytes design rows r n are) = goes bytes r (of_design design (Ok rows) n are)
 
 pub one_wires : (held : Held) (pick : Pick) (name : List ℕ) → HasOneAnswer (WiresGives (sole_corner pick) (Some held) name)
-one_wires held pick name = one_by (WiresGives (sole_corner pick) (Some held) name) (Then (ReadsSpef (Some held) name) (λ bytes. Plain (TextGives (sole_corner pick) bytes))) (wires_view held pick name)
-    (one_then (ReadsSpef (Some held) name) (λ bytes. Plain (TextGives (sole_corner pick) bytes)) (one_file held Spef name) (λ bytes reads. one_plain (TextGives (sole_corner pick) bytes) (one_text_answer pick bytes)))
+one_wires held pick name = one_by (WiresGives (sole_corner pick) (Some held) name) (Then (ReadsSpef (Some held) name) (λ bytes. WithoutFile (TextGives (sole_corner pick) bytes))) (wires_view held pick name)
+    (one_then (ReadsSpef (Some held) name) (λ bytes. WithoutFile (TextGives (sole_corner pick) bytes)) (one_file held Spef name) (λ bytes reads. one_plain (TextGives (sole_corner pick) bytes) (one_text_answer pick bytes)))

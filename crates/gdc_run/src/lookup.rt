@@ -3,8 +3,9 @@ ghost use Rattle.std.specs.Prelude.{◌≡◌, ◌^◌, ◌<◌, ◌⊎◌, IsTr
 ghost use Rattle.edge_io.specs.Counts.{Rose, RoseBy};
 ghost use Rattle.edge_io.specs.Holding.{TellsMissing};
 ghost use Rattle.verdict_phases.specs.Phases.{Follows, FollowsNoFile};
-ghost use Rattle.delay_core.specs.Refused.{AtReadFault, OnRefusal};
+ghost use Rattle.delay_core.specs.Refused.{AtReadFault, OnRefusal, WithoutFile};
 ghost use Rattle.delay_core.specs.declared.refusal.FileKey.TheVariants.{Lib};
+ghost use Rattle.delay_core.specs.LibraryReading.{ReadsLibraryFile};
 ghost use Rattle.gdc_run.specs.Verdict.{ReadsArcs, LookupGives};
 ghost use Rattle.delay_core.specs.SpefWork.{IsWithin, OnEarly, is_early};
 ghost use Rattle.gdc_run.specs.Work.{CellWork, LookupWork};
@@ -38,8 +39,40 @@ fn arc_rows_of_library<L: Ledger>(
     arc_rows(alloc, cell, &model, SOLE_CORNER, at, steps)
 }
 
+// The text of the one library of that name.
+fn read_library_text<H: Shelf>(
+    alloc: Global,
+    shelf: &mut H,
+    library: &Text,
+) -> Result<Text, PhaseEnd<Refusal, FileKey>>
+    ensures follows { Follows (ReadsLibraryFile (H.held shelf.old) Lib library.now) result }
+    ensures fault { AtReadFault result (λ key. (key ≡ Lib)
+        × (Rose (H.faults shelf.old) (H.faults shelf.new) ⊎ TellsMissing (H.held shelf.old) library.now)) }
+    ensures opens { RoseBy 1 (H.opens shelf.old) (H.opens shelf.new) }
+{
+    let too_long = Refusal::Limit(LimitKind::File(FileKey::Lib));
+    read_phase(alloc, shelf, library, FILE_LIMIT, FileKey::Lib, too_long)
+}
+
+// The rows of the cell of that name in a library's text, at a point. No file is read here, so no end is a read fault.
+fn arc_rows_of_text<L: Ledger>(
+    alloc: Global,
+    text: Text,
+    cell: &Text,
+    at: Point,
+    steps: &mut Steps<L>,
+) -> Result<ArcRows, PhaseEnd<Refusal, FileKey>>
+    requires { length text < 2 ^ 32 }
+    ensures follows { Follows (WithoutFile (ReadsArcs 0 cell.now (unsigned_abs at.slew.0) at.load.0 at.beyond text)) result }
+    ensures steps { IsWithin (CellWork 0 cell.now text) steps.old steps.new }
+    ensures no_steps { OnEarly result (steps.new ≡ steps.old) }
+{
+    let rows = arc_rows_of_library(alloc, text, cell, at, steps)?;
+    Ok(rows)
+}
+
 /// The rows of the cell of that name in the library of that file, at a point.
-#[tactic(auto, using(crate::proofs::LookupTexts::library_halts, crate::proofs::LookupTexts::arcs_refused, crate::proofs::LookupTexts::arcs_given, crate::proofs::Work::no_lookup_work, crate::proofs::Work::lookup_work))]
+#[tactic(auto, using(crate::proofs::LookupTexts::library_halts, crate::proofs::LookupTexts::arcs_follow, crate::proofs::WithoutFile::unfaulted, crate::proofs::Work::no_lookup_work, crate::proofs::Work::lookup_work))]
 pub fn lookup<H: Shelf, L: Ledger>(
     alloc: Global,
     shelf: &mut H,
@@ -56,8 +89,6 @@ pub fn lookup<H: Shelf, L: Ledger>(
     ensures steps { IsWithin (LookupWork 1 0 (H.held shelf.old) library.now cell.now) steps.old steps.new }
     ensures no_steps { OnEarly result (steps.new ≡ steps.old) }
 {
-    let too_long = Refusal::Limit(LimitKind::File(FileKey::Lib));
-    let text = read_phase(alloc, shelf, library, FILE_LIMIT, FileKey::Lib, too_long)?;
-    let rows = arc_rows_of_library(alloc, text, cell, at, steps)?;
-    Ok(rows)
+    let text = read_library_text(alloc, shelf, library)?;
+    arc_rows_of_text(alloc, text, cell, at, steps)
 }

@@ -1,13 +1,14 @@
 //! The command `wires`: the delays of the wires of a SPEF file.
-ghost use Rattle.std.specs.Prelude.{◌≡◌, ◌⊎◌};
+ghost use Rattle.std.specs.Prelude.{◌≡◌, ◌^◌, ◌<◌, ◌⊎◌, length};
 ghost use Rattle.edge_io.specs.Counts.{Rose, RoseBy};
 ghost use Rattle.edge_io.specs.Holding.{TellsMissing};
 ghost use Rattle.verdict_phases.specs.Phases.{Follows};
-ghost use Rattle.delay_core.specs.Refused.{AtReadFault};
+ghost use Rattle.delay_core.specs.Refused.{AtReadFault, WithoutFile};
 ghost use Rattle.delay_core.specs.declared.refusal.FileKey.TheVariants.{Spef};
-ghost use Rattle.gdc_run.specs.Verdict.{WiresGives};
+ghost use Rattle.gdc_run.specs.Verdict.{ReadsSpef, WiresGives};
 ghost use Rattle.delay_core.specs.SpefPhases.{sole_corner};
-ghost use Rattle.delay_core.specs.SpefWork.{IsWithin, OnEarly};
+ghost use Rattle.delay_core.specs.SpefWork.{TextWork, IsWithin, OnEarly};
+ghost use Rattle.delay_core.specs.WireRows.{TextGives};
 ghost use Rattle.gdc_run.specs.Work.{WiresWork};
 
 use corner_set::{Pick, Single};
@@ -18,8 +19,39 @@ use std::alloc::Global;
 use std::sync::ledger::Ledger;
 use verdict_phases::{PhaseEnd, read_phase};
 
+// The text of the SPEF file of that name.
+fn read_spef<H: Shelf>(
+    alloc: Global,
+    shelf: &mut H,
+    name: &Text,
+) -> Result<Text, PhaseEnd<Refusal, FileKey>>
+    ensures follows { Follows (ReadsSpef (H.held shelf.old) name.now) result }
+    ensures fault { AtReadFault result (λ key. (key ≡ Spef)
+        × (Rose (H.faults shelf.old) (H.faults shelf.new) ⊎ TellsMissing (H.held shelf.old) name.now)) }
+    ensures opens { RoseBy 1 (H.opens shelf.old) (H.opens shelf.new) }
+{
+    let too_long = Refusal::Limit(LimitKind::File(FileKey::Spef));
+    read_phase(alloc, shelf, name, FILE_LIMIT, FileKey::Spef, too_long)
+}
+
+// The rows of the wires of a SPEF file's text, where this member of each triple counts. No file is read here, so no end is a read fault.
+fn wires_of_text<L: Ledger>(
+    alloc: Global,
+    text: Text,
+    pick: Pick,
+    steps: &mut Steps<L>,
+) -> Result<Rows<Single>, PhaseEnd<Refusal, FileKey>>
+    requires { length text < 2 ^ 30 }
+    ensures follows { Follows (WithoutFile (TextGives (sole_corner pick) text)) result }
+    ensures steps { IsWithin (TextWork (sole_corner pick) text) steps.old steps.new }
+    ensures no_steps { OnEarly result (steps.new ≡ steps.old) }
+{
+    let rows = wire_rows_of_file(alloc, text, pick, steps)?;
+    Ok(rows)
+}
+
 /// The rows of the wires of the SPEF file of that name, where this member of each triple counts.
-#[tactic(auto, using(crate::specs::Verdict::at_reading, crate::proofs::WireTexts::text_refused, crate::proofs::WireTexts::text_rows, crate::proofs::Work::no_file_work, crate::proofs::Work::file_work))]
+#[tactic(auto, using(crate::specs::Verdict::at_reading, crate::proofs::WireTexts::text_follows, crate::proofs::WithoutFile::unfaulted, crate::proofs::Work::no_file_work, crate::proofs::Work::file_work))]
 pub fn wires<H: Shelf, L: Ledger>(
     alloc: Global,
     shelf: &mut H,
@@ -34,8 +66,6 @@ pub fn wires<H: Shelf, L: Ledger>(
     ensures steps { IsWithin (WiresWork (sole_corner pick) (H.held shelf.old) name.now) steps.old steps.new }
     ensures no_steps { OnEarly result (steps.new ≡ steps.old) }
 {
-    let too_long = Refusal::Limit(LimitKind::File(FileKey::Spef));
-    let text = read_phase(alloc, shelf, name, FILE_LIMIT, FileKey::Spef, too_long)?;
-    let rows = wire_rows_of_file(alloc, text, pick, steps)?;
-    Ok(rows)
+    let text = read_spef(alloc, shelf, name)?;
+    wires_of_text(alloc, text, pick, steps)
 }
