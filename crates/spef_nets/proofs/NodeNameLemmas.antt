@@ -8,7 +8,7 @@ use Rattle.spef_text.specs.SpefFiles.{SpefText}
 use Rattle.spef_text.specs.Heads.{HeadText, text_of}
 use Rattle.spef_text.specs.References.{IsNodeOf}
 use Rattle.spef_nets.specs.Nodes.{node_at, nodes_at}
-use Rattle.spef_nets.specs.NodeNames.{SpelledNodes, NamesOne, NameNodes, AreSpelled}
+use Rattle.spef_nets.specs.NodeNames.{NamesOne, NameNodes, AreSpelled}
 use Rattle.spef_nets.proofs.Lists.{map_at}
 use Rattle.spef_nets.proofs.Naming.{resolved_node}
 
@@ -63,13 +63,6 @@ pub token_named : (file : SpefText) (tokens : List ℕ) (i token : ℕ) (node : 
 token_named file tokens i token node named at =
     let is : Some (node_at file token) ≡ Some (Some node) = sym (map_at (node_at file) tokens i token at) ∙ named in
     cc
-
--- nodes that the tokens name, by an equal record
-pub same_tokens : (file : SpefText) (nodes : List NodeName) (spelled : SpelledNodes) (tokens : List ℕ) → spelled ≡ record { file = file; nodes = nodes } → NameNodes spelled.file tokens → NameNodes file tokens
-same_tokens file nodes spelled tokens is named = subst (λ (s : SpelledNodes). NameNodes s.file tokens) is named
-
-pub same_nodes : (file : SpefText) (nodes : List NodeName) (spelled : SpelledNodes) (tokens : List ℕ) → spelled ≡ record { file = file; nodes = nodes } → nodes_at spelled.file tokens ≡ spelled.nodes → nodes_at file tokens ≡ nodes
-same_nodes file nodes spelled tokens is are = subst (λ (s : SpelledNodes). nodes_at s.file tokens ≡ s.nodes) is are
 
 -- a number of a node is below the count of the tokens
 pub token_within : (file : SpefText) (tokens : List ℕ) (node : ℕ) → NameNodes file tokens → node < length (nodes_at file tokens) → node < length tokens

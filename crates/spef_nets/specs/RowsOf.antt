@@ -1,7 +1,7 @@
 -- What the fields of `Elements` and of `ElementParts` are.
 use Rattle.spef_nets.specs.Rows.{Rows}
 use Rattle.spef_nets.specs.declared.elements.Elements.{Elements}
-use Rattle.spef_nets.specs.declared.tables.ElementParts.{ElementParts}
+use Rattle.spef_nets.specs.declared.elements.ElementParts.{ElementParts}
 
 abbrev pub rows_of : Elements → Rows
 rows_of elements = record {

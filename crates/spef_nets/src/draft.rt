@@ -1,31 +1,30 @@
 //! The elements of a section that have been read.
-ghost use Rattle.std.specs.Prelude.{◌≡◌, ◌<◌, [], length, IfOk, OnOk};
+ghost use Rattle.std.specs.Prelude.{◌≡◌, ◌<◌, length, OnOk};
 ghost use Rattle.spef_text.specs.Heads.{IsHeadOf};
 ghost use Rattle.spef_nets.specs.Refs.{ArePlaced, IsNamed};
 ghost use Rattle.spef_nets.specs.RefsOf.{refs_of};
 ghost use Rattle.spef_nets.specs.Drafts.{Drafted, corners_of, AddsRow, no_draft, written_net, FaradsOf, OhmsOf, PutsConn, PutsCap, PutsRes};
 ghost use Rattle.spef_nets.specs.DraftOf.{drafted};
+ghost use Rattle.spef_nets.specs.Rows.{rows_in};
+ghost use Rattle.spef_nets.specs.RowsOf.{rows_at};
 ghost use Rattle.spef_nets.specs.TablesOf.{AddsNet};
 
 use crate::amounts::Grains;
-use crate::elements::Elements;
+use crate::elements::ElementParts;
 use crate::parts::{Ends, Listed};
-use crate::referred::{RefLists, Referred};
-use crate::section_lists::SectionLists;
-use crate::source::Source;
+use crate::referred::Referred;
 use crate::tables::Tables;
 use corner_set::{CornerSet, Pick};
 use delay_units::{Farads, Ohms};
 use edge_io::lists::{empty, push};
 use edge_io::{OutOfMemory, Text};
-use spef_text::Conn;
+use spef_text::{Conn, Head, SpefFile};
 use std::alloc::Global;
-use std::mem;
 
 /// With fewer capacitances a net is small.
 const FEW_CAPS: usize = 32;
 
-/// The elements that have been read of the section of a net.
+/// The elements that have been read of the section of a net. Its lists serve one section after another.
 #[derive(Drop)]
 pub struct Draft<'r, 'f> {
     pub net: Text,
@@ -83,50 +82,37 @@ fn room_for(caps: usize, ress: usize) -> usize {
 }
 
 impl<'r, 'f> Draft<'r, 'f> {
-    /// No element, with room for so many connections, capacitances and resistors. The lists are taken, until the section is made.
-    pub fn with_room<C: CornerSet>(
-        source: &Source<'r, 'f>,
-        lists: &mut SectionLists<'r>,
+    /// No element, of a section of the file whose head this is. It takes no memory.
+    pub fn new(alloc: Global, file: &'r SpefFile<'f>, head: &'r Head) -> Draft<'r, 'f>
+        requires { IsHeadOf file.now head.now }
+        ensures { (drafted result).refs.file ≡ file.now }
+    {
+        Draft {
+            net: Text::new(alloc),
+            refs: Referred::new(alloc, file, head),
+            conns: Vec::new(alloc),
+            loads: Vec::new(alloc),
+            caps: Vec::new(alloc),
+            farads: Vec::new(alloc),
+            joints: Vec::new(alloc),
+            ohms: Vec::new(alloc),
+        }
+    }
+
+    /// Begins with the section of a net, with room for so many connections, capacitances and resistors. Nothing stays of the section
+    /// before but the memory of the lists.
+    pub fn begin<C: CornerSet>(
+        &mut self,
+        alloc: Global,
         net: Text,
         conn_count: usize,
         cap_count: usize,
         res_count: usize,
-    ) -> Result<Draft<'r, 'f>, OutOfMemory>
-        requires { IsHeadOf source.now.file.now source.now.head.now }
-        ensures { IfOk result (λ draft. drafted draft ≡ no_draft source.now.file.now net) }
+    ) -> Result<(), OutOfMemory>
+        ensures { OnOk result (drafted self.new ≡ no_draft (drafted self.old).refs.file net) }
     {
-        let mut draft = Draft::over(source, lists, net);
-        draft.empty::<C>(source.alloc, conn_count, cap_count, res_count)?;
-        Ok(draft)
-    }
-
-    // The net's draft, over the lists, which are taken. What they hold does not count yet.
-    fn over(source: &Source<'r, 'f>, lists: &mut SectionLists<'r>, net: Text) -> Draft<'r, 'f>
-        requires { IsHeadOf source.now.file.now source.now.head.now }
-        ensures net { (drafted result).net.net ≡ net }
-        ensures file { (drafted result).refs.file ≡ source.now.file.now }
-    {
-        let alloc = source.alloc;
-        let refs = mem::replace(&mut lists.refs, RefLists::new(alloc));
-        let numbered = mem::replace(&mut lists.nodes, Vec::new(alloc));
-        let Elements {
-            conns,
-            loads,
-            caps,
-            farads,
-            joints,
-            ohms,
-        } = mem::replace(&mut lists.elements, Elements::new(alloc));
-        Draft {
-            net,
-            refs: Referred::over(refs, numbered, source.file, source.head),
-            conns,
-            loads,
-            caps,
-            farads,
-            joints,
-            ohms,
-        }
+        self.net = net;
+        self.empty::<C>(alloc, conn_count, cap_count, res_count)
     }
 
     // Lets go of all elements, and makes room for so many.
@@ -216,38 +202,34 @@ impl<'r, 'f> Draft<'r, 'f> {
         Ok(())
     }
 
-    /// Moves the net's rows behind those of the nets in the tables. Of its capacitances so many are written. The lists are handed back.
-    pub fn move_into(
-        self,
+    /// Puts the net's rows behind those of the nets in the tables. Of its capacitances so many are written. Lists that have grown large
+    /// are let go of before, so that their memory does not stand beside that of the rows.
+    pub fn put_into(
+        &mut self,
+        alloc: Global,
         written: usize,
         tables: &mut Tables,
-        lists: &mut SectionLists<'r>,
     ) -> Result<(), OutOfMemory>
-        ensures { OnOk result
-            (AddsNet (drafted self.entry).refs.file tables.old tables.new (written_net (drafted self.entry).net written)) }
+        ensures adds { OnOk result
+            (AddsNet (drafted self.old).refs.file tables.old tables.new (written_net (drafted self.old).net written)) }
+        ensures file { OnOk result ((drafted self.new).refs.file ≡ (drafted self.old).refs.file) }
     {
-        let Draft {
-            net: _,
-            refs,
-            conns,
-            loads,
-            caps,
-            farads,
-            joints,
-            ohms,
-        } = self;
-        let mut nodes = refs.into_nodes(&mut lists.refs).into_tokens();
-        let mut elements = Elements {
-            conns,
-            loads,
-            caps,
-            farads,
-            joints,
-            ohms,
-        };
-        tables.append(&mut nodes, &mut elements, written)?;
-        lists.nodes = nodes;
-        lists.elements = elements;
+        self.refs.leave_nodes(alloc)?;
+        tables.append(self.refs.nodes(), &self.elements(), written)?;
         Ok(())
+    }
+
+    // The elements.
+    fn elements(&self) -> ElementParts<'_>
+        ensures { rows_at result ≡ rows_in (drafted self.now).net }
+    {
+        ElementParts {
+            conns: self.conns.as_slice(),
+            loads: self.loads.as_slice(),
+            caps: self.caps.as_slice(),
+            farads: self.farads.as_slice(),
+            joints: self.joints.as_slice(),
+            ohms: self.ohms.as_slice(),
+        }
     }
 }

@@ -1,7 +1,7 @@
 //! The elements of nets, by the numbers of their nodes.
 ghost use Rattle.std.specs.Prelude.{◌≡◌, ◌++◌, IfOk, OnOk};
 ghost use Rattle.spef_nets.specs.Rows.{no_rows, with_rows};
-ghost use Rattle.spef_nets.specs.RowsOf.{rows_of};
+ghost use Rattle.spef_nets.specs.RowsOf.{rows_of, rows_at};
 
 use crate::parts::{Ends, Listed};
 use corner_set::CornerSet;
@@ -54,24 +54,35 @@ impl Elements {
         })
     }
 
-    /// Moves other elements behind these.
-    pub fn append(&mut self, more: &mut Elements) -> Result<(), OutOfMemory>
-        ensures { OnOk result (rows_of self.new ≡ with_rows (rows_of self.old) (rows_of more.old)) }
+    /// Puts other elements behind these.
+    pub fn append(&mut self, more: &ElementParts<'_>) -> Result<(), OutOfMemory>
+        ensures { OnOk result (rows_of self.new ≡ with_rows (rows_of self.old) (rows_at more.now)) }
     {
-        move_all(&mut self.conns, &mut more.conns)?;
-        move_all(&mut self.loads, &mut more.loads)?;
-        move_all(&mut self.caps, &mut more.caps)?;
-        move_all(&mut self.farads, &mut more.farads)?;
-        move_all(&mut self.joints, &mut more.joints)?;
-        move_all(&mut self.ohms, &mut more.ohms)?;
+        put_all(&mut self.conns, more.conns)?;
+        put_all(&mut self.loads, more.loads)?;
+        put_all(&mut self.caps, more.caps)?;
+        put_all(&mut self.farads, more.farads)?;
+        put_all(&mut self.joints, more.joints)?;
+        put_all(&mut self.ohms, more.ohms)?;
         Ok(())
     }
 }
 
-/// Moves items behind others.
-pub fn move_all<T>(items: &mut Vec<T>, more: &mut Vec<T>) -> Result<(), OutOfMemory>
-    ensures { OnOk result (items.new.items ≡ items.old.items ++ more.old.items) }
+/// The elements of one net, as parts of lists.
+#[derive(Clone, Copy)]
+pub struct ElementParts<'s> {
+    pub conns: &'s [Listed],
+    pub loads: &'s [Farads],
+    pub caps: &'s [u32],
+    pub farads: &'s [Farads],
+    pub joints: &'s [Ends],
+    pub ohms: &'s [Ohms],
+}
+
+/// Puts items behind others.
+pub fn put_all<T: Copy>(items: &mut Vec<T>, more: &[T]) -> Result<(), OutOfMemory>
+    ensures { OnOk result (items.new.items ≡ items.old.items ++ more.now) }
 {
-    items.append(more)?;
+    items.extend_from_slice(more)?;
     Ok(())
 }

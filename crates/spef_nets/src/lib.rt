@@ -16,7 +16,6 @@ mod node_tokens;
 mod parts;
 mod reading;
 mod referred;
-mod section_lists;
 mod section_reading;
 mod sections;
 mod source;

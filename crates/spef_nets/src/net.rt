@@ -6,10 +6,10 @@ ghost use Rattle.spef_nets.specs.NetElements.{NetElements};
 ghost use Rattle.spef_nets.specs.Nodes.{AreDistinctNodes};
 ghost use Rattle.spef_nets.specs.NodeNames.{IsSdfAt};
 
+use crate::elements::ElementParts;
 use crate::net_keys::NetKeys;
 use crate::node_names::NodeNames;
 use crate::parts::{Ends, Listed, Resistor};
-use crate::tables::ElementParts;
 use corner_set::CornerSet;
 use delay_units::{Farads, Ohms};
 use edge_io::{OutOfMemory, Steps, Text};

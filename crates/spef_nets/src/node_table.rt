@@ -127,7 +127,10 @@ fn empty_table<T: Eq + Hash + Drop>(
 ) -> Result<(), OutOfMemory>
     ensures { OnOk result (table.new.keys ≡ []) }
 {
-    if many > 0 || !table.is_empty() {
+    if !table.is_empty() {
+        *table = IndexSet::with_hasher(alloc, NameHash::default());
+    }
+    if many > 0 {
         *table = IndexSet::with_capacity_and_hasher(alloc, many, NameHash::default())?;
     }
     Ok(())

@@ -31,20 +31,18 @@ impl<'r, 'f> Model for NodeTokens<'r, 'f> {
 }
 
 impl<'r, 'f> NodeTokens<'r, 'f> {
-    /// No node. The list is emptied, and keeps its memory.
-    pub fn new(tokens: Vec<u32>, file: &'r SpefFile<'f>, head: &'r Head) -> NodeTokens<'r, 'f>
+    /// No node. It takes no memory.
+    pub fn new(alloc: Global, file: &'r SpefFile<'f>, head: &'r Head) -> NodeTokens<'r, 'f>
         requires { IsHeadOf file.now head.now }
         ensures { result ≡ record { file = file.now; nodes = [] } }
     {
-        let mut tokens = tokens;
-        tokens.clear();
         NodeTokens {
             names: WrittenNames::new(file, head),
-            tokens,
+            tokens: Vec::new(alloc),
         }
     }
 
-    /// Lets go of all nodes, and makes room for so many.
+    /// Lets go of all nodes, and makes room for so many. The list keeps its memory.
     pub fn empty(&mut self, many: usize) -> Result<(), OutOfMemory>
         ensures { OnOk result (self.new ≡ record { file = self.old.file; nodes = [] }) }
     {
@@ -85,12 +83,11 @@ impl<'r, 'f> NodeTokens<'r, 'f> {
     }
 
     /// The tokens, in the order of the nodes.
-    pub fn into_tokens(self) -> Vec<u32>
-        ensures nodes { nodes_at self.entry.file result.items ≡ self.entry.nodes }
-        ensures each { NameNodes self.entry.file result.items }
+    pub fn tokens(&self) -> &[u32]
+        ensures nodes { nodes_at self.now.file result.now ≡ self.now.nodes }
+        ensures each { NameNodes self.now.file result.now }
     {
-        let NodeTokens { names: _, tokens } = self;
-        tokens
+        self.tokens.as_slice()
     }
 }
 

@@ -14,7 +14,7 @@ ghost use Rattle.spef_nets.specs.TablesOf.{HoldNets, nets_in};
 
 use crate::draft::Draft;
 use crate::ends::SectionEnd;
-use crate::section_lists::SectionLists;
+use crate::parts::Joined;
 use crate::sections::Sections;
 use crate::source::Source;
 use crate::tables::Tables;
@@ -41,22 +41,24 @@ fn put_net(nets: &mut Names, net: Text, token: u64) -> Result<Text, SectionEnd>
     Ok(net)
 }
 
-// Reads the section behind those of these nets, and puts the name of its net behind theirs.
+// Reads the section behind those of these nets into the draft, and puts the name of its net behind theirs.
 fn read_behind<'r, 'f, C: CornerSet>(
     source: &Source<'r, 'f>,
     nets: &mut Names,
-    lists: &mut SectionLists<'r>,
-) -> Result<Draft<'r, 'f>, SectionEnd>
+    draft: &mut Draft<'r, 'f>,
+    joints: &mut Vec<Joined>,
+) -> Result<(), SectionEnd>
     requires reading { IsReading source.now.file.now source.now.head.now nets.old }
     requires left { length nets.old < length source.now.file.now.reading.sections }
     requires few { length source.now.file.now.reading.sections < 2 ^ 30 }
-    ensures ok { IfOk result (λ draft. IsNet (corners_of C.COUNT C.number_of C.member_of source.now.pick) source.now.file.now
+    requires file { (drafted draft.old).refs.file ≡ source.now.file.now }
+    ensures ok { OnOk result (IsNet (corners_of C.COUNT C.number_of C.member_of source.now.pick) source.now.file.now
         source.now.head.now (section_at source.now.file.now.reading.sections (length nets.old))
-        (written_net (drafted draft).net (length (section_at source.now.file.now.reading.sections (length nets.old)).caps))) }
-    ensures whole { IfOk result (λ draft. AreWhole C.COUNT
-        (written_net (drafted draft).net (length (section_at source.now.file.now.reading.sections (length nets.old)).caps))) }
-    ensures file { IfOk result (λ draft. (drafted draft).refs.file ≡ source.now.file.now) }
-    ensures put { IfOk result (λ draft. nets.new ≡ nets.old ++ (drafted draft).net.net ∷ []) }
+        (written_net (drafted draft.new).net (length (section_at source.now.file.now.reading.sections (length nets.old)).caps))) }
+    ensures whole { OnOk result (AreWhole C.COUNT
+        (written_net (drafted draft.new).net (length (section_at source.now.file.now.reading.sections (length nets.old)).caps))) }
+    ensures file { OnOk result ((drafted draft.new).refs.file ≡ source.now.file.now) }
+    ensures put { OnOk result (nets.new ≡ nets.old ++ (drafted draft.new).net.net ∷ []) }
     ensures reading { OnOk result (IsReading source.now.file.now source.now.head.now nets.new) }
     ensures refused { IfErr result (IsSectionEnd source.now.file.now source.now.head.now) }
 {
@@ -64,8 +66,8 @@ fn read_behind<'r, 'f, C: CornerSet>(
     let token = source.file.net_token(place);
     let name = source.net_of(token)?;
     let net = put_net(nets, name, token)?;
-    let draft = source.read_section::<C>(place, net, lists)?;
-    Ok(draft)
+    source.read_section::<C>(place, net, draft, joints)?;
+    Ok(())
 }
 
 // Reads the next section, and puts its net behind those before it.
@@ -73,23 +75,26 @@ fn push_next<'r, 'f, C: CornerSet>(
     source: &Source<'r, 'f>,
     nets: &mut Names,
     tables: &mut Tables,
-    lists: &mut SectionLists<'r>,
+    draft: &mut Draft<'r, 'f>,
+    joints: &mut Vec<Joined>,
 ) -> Result<(), SectionEnd>
     requires reading { IsReading source.now.file.now source.now.head.now nets.old }
     requires left { length nets.old < length source.now.file.now.reading.sections }
     requires few { length source.now.file.now.reading.sections < 2 ^ 30 }
     requires held { HoldNets source.now.file.now source.now.head.now C.COUNT nets.old tables.old }
+    requires file { (drafted draft.old).refs.file ≡ source.now.file.now }
     ensures next { OnOk result ((net : NetElements)
         × IsNet (corners_of C.COUNT C.number_of C.member_of source.now.pick) source.now.file.now source.now.head.now
         (section_at source.now.file.now.reading.sections (length nets.old)) net
         × (nets_in source.now.file.now C.COUNT nets.new tables.new ≡ nets_in source.now.file.now C.COUNT nets.old tables.old ++ net ∷ [])) }
     ensures held { OnOk result (HoldNets source.now.file.now source.now.head.now C.COUNT nets.new tables.new) }
     ensures reading { OnOk result (IsReading source.now.file.now source.now.head.now nets.new) }
+    ensures file { OnOk result ((drafted draft.new).refs.file ≡ source.now.file.now) }
     ensures refused { IfErr result (IsSectionEnd source.now.file.now source.now.head.now) }
 {
     let written = source.file.cap_count(nets.len());
-    let draft = read_behind::<C>(source, nets, lists)?;
-    draft.move_into(written, tables, lists)?;
+    read_behind::<C>(source, nets, draft, joints)?;
+    draft.put_into(source.alloc, written, tables)?;
     Ok(())
 }
 
@@ -98,7 +103,6 @@ fn push_all<'r, 'f, C: CornerSet>(
     source: &Source<'r, 'f>,
     nets: &mut Names,
     tables: &mut Tables,
-    lists: &mut SectionLists<'r>,
 ) -> Result<(), SectionEnd>
     requires head { IsHeadOf source.now.file.now source.now.head.now }
     requires few { length source.now.file.now.reading.sections < 2 ^ 30 }
@@ -113,8 +117,10 @@ fn push_all<'r, 'f, C: CornerSet>(
     ensures refused { IfErr result (IsSectionEnd source.now.file.now source.now.head.now) }
     ensures faultless { OnOk result (AreFaultless source.now.file.now source.now.head.now) }
 {
+    let mut draft = Draft::new(source.alloc, source.file, source.head);
+    let mut joints = Vec::new(source.alloc);
     for _ in 0..source.file.section_count() {
-        push_next::<C>(source, nets, tables, lists)?;
+        push_next::<C>(source, nets, tables, &mut draft, &mut joints)?;
     }
     Ok(())
 }
@@ -152,9 +158,8 @@ pub fn read_sections<'r, 'f, C: CornerSet>(
     };
     let mut nets = Names::new(alloc);
     let mut tables = Tables::with_room::<C>(alloc, file)?;
-    let mut lists = SectionLists::new(alloc);
     file.formed();
-    push_all::<C>(&source, &mut nets, &mut tables, &mut lists)?;
+    push_all::<C>(&source, &mut nets, &mut tables)?;
     Ok(Sections {
         file,
         head,

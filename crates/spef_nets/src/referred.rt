@@ -3,7 +3,8 @@ ghost use Rattle.std.specs.Prelude.{◌≡◌, ◌<◌, true, false, [], ◌∷�
 ghost use Rattle.name_table.specs.declared.spef_names.NodeName.{NodeName};
 ghost use Rattle.spef_text.specs.Heads.{IsHeadOf, text_of};
 ghost use Rattle.spef_text.specs.References.{NamesAsWritten};
-ghost use Rattle.spef_nets.specs.Nodes.{node_at};
+ghost use Rattle.spef_nets.specs.Nodes.{node_at, nodes_at};
+ghost use Rattle.spef_nets.specs.NodeNames.{NameNodes};
 ghost use Rattle.spef_nets.specs.NodeKeys.{IsKeyAt};
 ghost use Rattle.spef_nets.specs.Refs.{no_refs, ArePlaced, IsNamed, IsFound, Belongs, Joins, Lists, Numbers};
 ghost use Rattle.spef_nets.specs.RefsOf.{refs_of};
@@ -18,29 +19,6 @@ use edge_io::{OutOfMemory, Text, are_equal};
 use name_table::{NodeKey, WrittenName};
 use spef_text::{Head, SpefFile};
 use std::alloc::Global;
-
-/// The lists of the references of a section, which are used again for the next one. What they hold then does not count.
-#[derive(Drop)]
-pub struct RefLists<'r> {
-    words: Spellings,
-    places: Vec<u32>,
-    table: NodeTable<'r>,
-    marks: Vec<Mark>,
-    latest: Vec<u32>,
-}
-
-impl<'r> RefLists<'r> {
-    /// Lists that take no memory.
-    pub fn new(alloc: Global) -> RefLists<'r> {
-        RefLists {
-            words: Spellings::new(alloc),
-            places: Vec::new(alloc),
-            table: NodeTable::new(alloc),
-            marks: Vec::new(alloc),
-            latest: Vec::new(alloc),
-        }
-    }
-}
 
 /// The spellings that stand in a section, and the nodes that they name, also those that do not belong to it.
 #[derive(Drop)]
@@ -59,34 +37,22 @@ pub struct Referred<'r, 'f> {
 }
 
 impl<'r, 'f> Referred<'r, 'f> {
-    /// The references of a section, over these lists. What they hold does not count: [`Referred::empty`] comes next.
-    pub fn over(
-        lists: RefLists<'r>,
-        numbered: Vec<u32>,
-        file: &'r SpefFile<'f>,
-        head: &'r Head,
-    ) -> Referred<'r, 'f>
+    /// No reference to a node of the file whose head this is. It takes no memory.
+    pub fn new(alloc: Global, file: &'r SpefFile<'f>, head: &'r Head) -> Referred<'r, 'f>
         requires { IsHeadOf file.now head.now }
         ensures { (refs_of result).file ≡ file.now }
     {
-        let RefLists {
-            words,
-            places,
-            table,
-            marks,
-            latest,
-        } = lists;
         Referred {
-            words,
-            places,
-            table,
-            marks,
-            latest,
-            nodes: NodeTokens::new(numbered, file, head),
+            words: Spellings::new(alloc),
+            places: Vec::new(alloc),
+            table: NodeTable::new(alloc),
+            marks: Vec::new(alloc),
+            latest: Vec::new(alloc),
+            nodes: NodeTokens::new(alloc, file, head),
         }
     }
 
-    /// Lets go of all spellings, and makes room for those of so many nodes.
+    /// Lets go of all spellings, and makes room for those of so many nodes. The lists keep their memory.
     pub fn empty(&mut self, alloc: Global, nodes: usize) -> Result<(), OutOfMemory>
         ensures { OnOk result (refs_of self.new ≡ no_refs (refs_of self.old).file) }
     {
@@ -97,6 +63,21 @@ impl<'r, 'f> Referred<'r, 'f> {
         empty(&mut self.marks, nodes)?;
         empty(&mut self.latest, nodes)?;
         Ok(())
+    }
+
+    /// Lets go of all but the nodes with a number, where the lists have grown large: memory is not kept for a net as large again.
+    pub fn leave_nodes(&mut self, alloc: Global) -> Result<(), OutOfMemory>
+        ensures nodes { OnOk result ((refs_of self.new).nodes ≡ (refs_of self.old).nodes) }
+        ensures file { OnOk result ((refs_of self.new).file ≡ (refs_of self.old).file) }
+    {
+        if self.table.are_few() {
+            return Ok(());
+        }
+        self.words = Spellings::new(alloc);
+        self.places = Vec::new(alloc);
+        self.marks = Vec::new(alloc);
+        self.latest = Vec::new(alloc);
+        self.table.empty(alloc, 0)
     }
 
     /// The number of a spelling that stood before, where it is found at once.
@@ -244,29 +225,12 @@ impl<'r, 'f> Referred<'r, 'f> {
         }
     }
 
-    /// The nodes with a number, in its order. The lists are handed back, unless they have grown large: memory is not kept for a net as
-    /// large again.
-    pub fn into_nodes(self, lists: &mut RefLists<'r>) -> NodeTokens<'r, 'f>
-        ensures { result ≡ record { file = (refs_of self.entry).file; nodes = (refs_of self.entry).nodes } }
+    /// The tokens of the nodes with a number, in its order.
+    pub fn nodes(&self) -> &[u32]
+        ensures nodes { nodes_at (refs_of self.now).file result.now ≡ (refs_of self.now).nodes }
+        ensures each { NameNodes (refs_of self.now).file result.now }
     {
-        let Referred {
-            words,
-            places,
-            table,
-            marks,
-            latest,
-            nodes,
-        } = self;
-        if table.are_few() {
-            *lists = RefLists {
-                words,
-                places,
-                table,
-                marks,
-                latest,
-            };
-        }
-        nodes
+        self.nodes.tokens()
     }
 }
 

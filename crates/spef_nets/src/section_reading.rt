@@ -17,7 +17,6 @@ use crate::draft::Draft;
 use crate::ends::SectionEnd;
 use crate::parts::{Joined, spelling_of};
 use crate::referred::Referred;
-use crate::section_lists::SectionLists;
 use crate::source::Source;
 use corner_set::CornerSet;
 use edge_io::lists::push;
@@ -387,26 +386,28 @@ impl<'r, 'f> Source<'r, 'f> {
         Ok(())
     }
 
-    /// Reads the section at a place, of the net with this name. Its faults are looked for in the order of its tokens. Nothing of what
-    /// the lists hold counts.
+    /// Reads the section at a place, of the net with this name, into the draft. Its faults are looked for in the order of its tokens.
+    /// Nothing of what the draft and the list of the joints hold counts.
     pub fn read_section<C: CornerSet>(
         &self,
         s: usize,
         net: Text,
-        lists: &mut SectionLists<'r>,
-    ) -> Result<Draft<'r, 'f>, SectionEnd>
+        draft: &mut Draft<'r, 'f>,
+        joints: &mut Vec<Joined>,
+    ) -> Result<(), SectionEnd>
         requires section { s < length self.now.file.now.reading.sections }
         requires head { IsHeadOf self.now.file.now self.now.head.now }
         requires net { net_at self.now.file.now (section_at self.now.file.now.reading.sections s).net ≡ Some net }
         requires new { IsGood self.now.file.now s (section_at self.now.file.now.reading.sections s)
             (naming (section_at self.now.file.now.reading.sections s).net) }
-        ensures ok { IfOk result (λ draft. IsNet (corners_of C.COUNT C.number_of C.member_of self.now.pick) self.now.file.now
+        requires file { (drafted draft.old).refs.file ≡ self.now.file.now }
+        ensures ok { OnOk result (IsNet (corners_of C.COUNT C.number_of C.member_of self.now.pick) self.now.file.now
             self.now.head.now (section_at self.now.file.now.reading.sections s)
-            (written_net (drafted draft).net (length (section_at self.now.file.now.reading.sections s).caps))) }
-        ensures whole { IfOk result (λ draft. AreWhole C.COUNT
-            (written_net (drafted draft).net (length (section_at self.now.file.now.reading.sections s).caps))) }
-        ensures net { IfOk result (λ draft. (drafted draft).net.net ≡ net) }
-        ensures file { IfOk result (λ draft. (drafted draft).refs.file ≡ self.now.file.now) }
+            (written_net (drafted draft.new).net (length (section_at self.now.file.now.reading.sections s).caps))) }
+        ensures whole { OnOk result (AreWhole C.COUNT
+            (written_net (drafted draft.new).net (length (section_at self.now.file.now.reading.sections s).caps))) }
+        ensures net { OnOk result ((drafted draft.new).net.net ≡ net) }
+        ensures file { OnOk result ((drafted draft.new).refs.file ≡ self.now.file.now) }
         ensures faultless { OnOk result
             (IsFaultless self.now.file.now self.now.head.now s (section_at self.now.file.now.reading.sections s)) }
         ensures err { IfErr result (IsStop self.now.file.now self.now.head.now s) }
@@ -414,8 +415,8 @@ impl<'r, 'f> Source<'r, 'f> {
         let conns = self.file.conn_count(s);
         let caps = self.file.cap_count(s);
         let ress = self.file.res_count(s);
-        let mut draft = Draft::with_room::<C>(self, lists, net, conns, caps, ress)?;
-        self.fill::<C>(s, &mut draft, &mut lists.joints)?;
-        Ok(draft)
+        draft.begin::<C>(self.alloc, net, conns, caps, ress)?;
+        self.fill::<C>(s, draft, joints)?;
+        Ok(())
     }
 }

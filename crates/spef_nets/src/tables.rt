@@ -5,10 +5,8 @@ ghost use Rattle.spef_nets.specs.Rows.{no_rows, with_rows};
 ghost use Rattle.spef_nets.specs.RowsOf.{rows_of, rows_at};
 ghost use Rattle.spef_nets.specs.Tables.{start, end_of, rows_between, AreFilled, IsBehind, IsWithin};
 
-use crate::elements::{Elements, move_all};
-use crate::parts::{Ends, Listed};
+use crate::elements::{ElementParts, Elements, put_all};
 use corner_set::CornerSet;
-use delay_units::{Farads, Ohms};
 use edge_io::OutOfMemory;
 use edge_io::lists::{push, to_u32};
 use spef_text::SpefFile;
@@ -41,17 +39,6 @@ pub struct Tables {
     pub ends: Vec<NetEnd>,
 }
 
-/// The elements of one net, as parts of the lists of all nets.
-#[derive(Clone, Copy)]
-pub struct ElementParts<'s> {
-    pub conns: &'s [Listed],
-    pub loads: &'s [Farads],
-    pub caps: &'s [u32],
-    pub farads: &'s [Farads],
-    pub joints: &'s [Ends],
-    pub ohms: &'s [Ohms],
-}
-
 impl Tables {
     /// No net, with room for those of a file. A net that is a tree has one node more than resistors. A coupling that counts at both its
     /// places takes more than there is room for at first.
@@ -76,19 +63,19 @@ impl Tables {
         })
     }
 
-    /// Moves the rows of one more net, whose section has so many capacitances as it is written, behind those of the others.
+    /// Puts the rows of one more net, whose section has so many capacitances as it is written, behind those of the others.
     pub fn append(
         &mut self,
-        nodes: &mut Vec<u32>,
-        elements: &mut Elements,
+        nodes: &[u32],
+        elements: &ElementParts<'_>,
         written: usize,
     ) -> Result<(), OutOfMemory>
-        ensures nodes { OnOk result (self.new.nodes.items ≡ self.old.nodes.items ++ nodes.old.items) }
-        ensures rows { OnOk result (rows_of self.new.elements ≡ with_rows (rows_of self.old.elements) (rows_of elements.old)) }
+        ensures nodes { OnOk result (self.new.nodes.items ≡ self.old.nodes.items ++ nodes.now) }
+        ensures rows { OnOk result (rows_of self.new.elements ≡ with_rows (rows_of self.old.elements) (rows_at elements.now)) }
         ensures ends { OnOk result (self.new.ends.items
             ≡ self.old.ends.items ++ end_of self.new.nodes.items (rows_of self.new.elements) written ∷ []) }
     {
-        move_all(&mut self.nodes, nodes)?;
+        put_all(&mut self.nodes, nodes)?;
         self.elements.append(elements)?;
         let end = self.end(written)?;
         push(&mut self.ends, end)?;

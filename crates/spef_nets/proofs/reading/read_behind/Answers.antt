@@ -33,15 +33,15 @@ read_section-requires-clause-new g c =
     new_net (corners_of g.C.CornerSet.COUNT g.C.CornerSet.number_of g.C.CornerSet.member_of c.args.source.now.pick) c.args.source.now.file.now c.args.source.now.head.now c.args.nets.now c.requires.reading c.len-place.result c.len-place.ensures.len c.requires.left
     c.in_ok-name.name (ap (net_at c.args.source.now.file.now) (sym c.net_token-token.ensures) ∙ c.in_ok-name.ensures.ok) c.in_ok-net.ensures.new
 
-pub returns-in_err-draft-clause-refused : goal.returns-in_err-draft-clause-refused
-returns-in_err-draft-clause-refused g c =
-    handed_on c.from_residual-in_err-draft.result c.in_err-draft.field-0.0 (IsSectionEnd c.args.source.now.file.now c.args.source.now.head.now) c.from_residual-in_err-draft.ensures.1
-    (section_end (corners_of g.C.CornerSet.COUNT g.C.CornerSet.number_of g.C.CornerSet.member_of c.args.source.now.pick) c.args.source.now.file.now c.args.source.now.head.now c.args.nets.now c.requires.reading c.len-place.result c.len-place.ensures.len c.requires.left c.in_err-draft.field-0.0 c.in_err-draft.ensures.err)
+pub returns-in_err-read_section-clause-refused : goal.returns-in_err-read_section-clause-refused
+returns-in_err-read_section-clause-refused g c =
+    handed_on c.from_residual-in_err-read_section.result c.in_err-read_section.field-0.0 (IsSectionEnd c.args.source.now.file.now c.args.source.now.head.now) c.from_residual-in_err-read_section.ensures.1
+    (section_end (corners_of g.C.CornerSet.COUNT g.C.CornerSet.number_of g.C.CornerSet.member_of c.args.source.now.pick) c.args.source.now.file.now c.args.source.now.head.now c.args.nets.now c.requires.reading c.len-place.result c.len-place.ensures.len c.requires.left c.in_err-read_section.field-0.0 c.in_err-read_section.ensures.err)
 
 pub returns-clause-reading : goal.returns-clause-reading
 returns-clause-reading g c =
     read_more (corners_of g.C.CornerSet.COUNT g.C.CornerSet.number_of g.C.CornerSet.member_of c.args.source.now.pick) c.args.source.now.file.now c.args.source.now.head.now c.args.nets.now c.requires.reading c.len-place.result c.len-place.ensures.len c.requires.left
-    c.in_ok-name.name (ap (net_at c.args.source.now.file.now) (sym c.net_token-token.ensures) ∙ c.in_ok-name.ensures.ok) c.put_net.new.nets c.in_ok-draft.ensures.faultless c.in_ok-net.ensures.put
+    c.in_ok-name.name (ap (net_at c.args.source.now.file.now) (sym c.net_token-token.ensures) ∙ c.in_ok-name.ensures.ok) c.put_net.new.nets c.in_ok-read_section.ensures.faultless c.in_ok-net.ensures.put
 
 pub returns-clause-put : goal.returns-clause-put
-returns-clause-put g c = c.in_ok-net.ensures.put ∙ ap (λ (n : List ℕ). c.args.nets.now ++ n ∷ []) (sym (c.in_ok-draft.ensures.net ∙ c.in_ok-net.ensures.same))
+returns-clause-put g c = c.in_ok-net.ensures.put ∙ ap (λ (n : List ℕ). c.args.nets.now ++ n ∷ []) (sym (c.in_ok-read_section.ensures.net ∙ c.in_ok-net.ensures.same))

@@ -1,4 +1,4 @@
-use Rattle.std.proofs.Common.{◌≡◌, true, subst, ◌∙◌}
+use Rattle.std.proofs.Common.{true, subst, ◌∙◌}
 use Rattle.spef_text.specs.SpefFiles.{SpefText}
 use Rattle.spef_text.specs.Heads.{text_of}
 use Rattle.spef_text.specs.References.{NamesAsWritten}

@@ -1,4 +1,4 @@
-use Rattle.std.proofs.Common.{◌≡◌, false, Some, sym, ap, subst, ◌∙◌}
+use Rattle.std.proofs.Common.{false, Some, sym, ap, subst, ◌∙◌}
 use Rattle.spef_text.specs.Heads.{HeadedFile, text_of}
 use Rattle.spef_text.specs.References.{NamesAsWritten}
 use Rattle.spef_nets.proofs.Naming.{resolved_net}
