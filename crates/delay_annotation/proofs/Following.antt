@@ -24,7 +24,7 @@ use Rattle.delay_annotation.specs.AnnotatedDesigns.{AnnotatedDesign, DesignDelay
 use Rattle.delay_annotation.specs.Annotation.{ReadsSpefFile, TimesFromText, at_reading, of_sections, AnnotatesFrom, at_link, at_spef, at_timing, with_delays, Annotates, at_netlist, at_inputs, at_design, is_annotated}
 use Rattle.delay_annotation.specs.DelayPhase.{FindsDelays}
 use Rattle.delay_annotation.specs.DesignTiming.{net_inputs, TimesDesign, at_delays, at_slews, with_rows}
-use Rattle.delay_annotation.specs.TimingHalves.{FindsNets, by_sections, ReadsNetTimes, at_file, at_nets, are_read, TimesNets, stops_at_slews, gets_rows, AnnotatesDesign}
+use Rattle.delay_annotation.specs.TimingHalves.{FindsNets, by_sections, FindsFileNets, ReadsNetTimes, at_file, at_nets, are_read, TimesNets, stops_at_slews, gets_rows, AnnotatesDesign}
 use Rattle.delay_annotation.specs.TimingHalves.{at_sections as found_at_sections}
 use Rattle.delay_annotation.specs.declared.settings.Files.{Files}
 use Rattle.delay_annotation.specs.declared.settings.Settings.{Settings}
@@ -70,14 +70,27 @@ lifted_late A B (Err other) (no_file.Refused refusal) P fact is holds late = sub
 lifted_late A B (Err other) no_file.OutOfMemory P fact is holds late = subst (λ (e : PhaseEnd Refusal FileKey). OnEarly {A = B} (Err e) fact) (sym is) tt
 
 -- the loads and the Elmore sums come behind the sections of the text
-pub text_refused : {I : Type 0} (corners : Corners I) (design : LinkedDesign) (bytes : List ℕ) (settings : Settings) (file : SpefText) (head : HeadText) (refusal : Refusal) → ParsesSpef bytes (Ok file) → HeadsSpef file (Ok head)
-    → NetsSpef corners file head (Err refusal) → FindsNets corners design bytes settings (Err refusal)
-text_refused corners design bytes settings file head refusal parses heads says = found_at_sections refusal (at_sections file head refusal parses heads says)
+pub sections_refused : {I : Type 0} (corners : Corners I) (design : LinkedDesign) (settings : Settings) (file : SpefText) (head : HeadText) (refusal : Refusal) → NetsSpef corners file head (Err refusal)
+    → FindsFileNets corners design file head settings (Err refusal)
+sections_refused corners design settings file head refusal says = λ bytes parses heads. found_at_sections refusal (at_sections file head refusal parses heads says)
 
-pub text_found : {I : Type 0} (corners : Corners I) (design : LinkedDesign) (bytes : List ℕ) (settings : Settings) (file : SpefText) (head : HeadText) (nets : List NetElements) (answer : Result NetTimes Refusal) → ParsesSpef bytes (Ok file)
-    → HeadsSpef file (Ok head) → NetsSpef corners file head (Ok nets) → FindsDelays (net_inputs corners.count design nets settings) settings.missing answer → FindsNets corners design bytes settings answer
-text_found corners design bytes settings file head nets answer parses heads says finds =
-    by_sections (record { design = head.design; nets = nets }) answer (through file head nets parses heads says) finds
+sections_found : {I : Type 0} (corners : Corners I) (design : LinkedDesign) (settings : Settings) (file : SpefText) (head : HeadText) (nets : List NetElements) (answer : Result NetTimes Refusal) → NetsSpef corners file head (Ok nets)
+    → FindsDelays (net_inputs corners.count design nets settings) settings.missing answer → FindsFileNets corners design file head settings answer
+sections_found corners design settings file head nets answer says finds =
+    λ bytes parses heads. by_sections (record { design = head.design; nets = nets }) answer (through file head nets parses heads says) finds
+
+pub sections_follow : {I : Type 0} (corners : Corners I) (design : LinkedDesign) (settings : Settings) (file : SpefText) (head : HeadText) (nets : List NetElements) (result : Result NetTimes (NoFileEnd Refusal)) → NetsSpef corners file head (Ok nets)
+    → FollowsNoFile (FindsDelays (net_inputs corners.count design nets settings) settings.missing) result → FollowsNoFile (FindsFileNets corners design file head settings) result
+sections_follow corners design settings file head nets (Ok times) says finds = sections_found corners design settings file head nets (Ok times) says finds
+sections_follow corners design settings file head nets (Err (no_file.Refused refusal)) says finds = sections_found corners design settings file head nets (Err refusal) says finds
+sections_follow corners design settings file head nets (Err no_file.OutOfMemory) says finds = tt
+
+-- and those of the file are those of its bytes
+pub text_follows : {I : Type 0} (corners : Corners I) (design : LinkedDesign) (bytes : List ℕ) (settings : Settings) (file : SpefText) (head : HeadText) (result : Result NetTimes (NoFileEnd Refusal)) → ParsesSpef bytes (Ok file)
+    → HeadsSpef file (Ok head) → FollowsNoFile (FindsFileNets corners design file head settings) result → FollowsNoFile (FindsNets corners design bytes settings) result
+text_follows corners design bytes settings file head (Ok times) parses heads finds = finds bytes parses heads
+text_follows corners design bytes settings file head (Err (no_file.Refused refusal)) parses heads finds = finds bytes parses heads
+text_follows corners design bytes settings file head (Err no_file.OutOfMemory) parses heads finds = tt
 
 module _ {I : Type 0} (held : Option Held) (corners : Corners I) (design : LinkedDesign) (spef : List ℕ) (settings : Settings) where
   -- the bytes of the SPEF file, as they are lent

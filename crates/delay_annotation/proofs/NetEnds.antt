@@ -1,5 +1,5 @@
 -- What the end of the nets names is there, and its refusal comes behind the first tree.
-use Rattle.std.proofs.Common.{◌≡◌, ℕ, ◌<◌, List, length, true≢false}
+use Rattle.std.proofs.Common.{ℕ, ◌<◌, List, length}
 use Rattle.std.specs.Prelude.{IsTrue}
 use Rattle.rc_tree.specs.declared.ends.TreeEnd.{TreeEnd}
 use Rattle.net_parasitics.specs.Inputs.{Inputs}

@@ -1,5 +1,5 @@
 -- The work of the delays of a design.
-use Rattle.std.proofs.Common.{◌≡◌, ℕ, ◌+◌, ◌≤◌, List, length, Option, Ok, subst, arith}
+use Rattle.std.proofs.Common.{◌≡◌, ℕ, ◌+◌, ◌≤◌, List, length, Option, Result, Ok, Err, OnOk, subst, arith}
 use Rattle.edge_io.specs.Holding.{Held}
 use Rattle.spef_nets.specs.NetElements.{NetElements}
 use Rattle.spef_nets.specs.Sections.{Corners}
@@ -7,26 +7,29 @@ use Rattle.spef_text.specs.Heads.{HeadText}
 use Rattle.spef_text.specs.SpefFiles.{SpefText}
 use Rattle.net_parasitics.specs.WorkCounts.{IsWithin as NetsWithin}
 use Rattle.verdict_phases.specs.Phases.{Go}
+use Rattle.verdict_phases.specs.declared.ends.NoFileEnd.{NoFileEnd}
+use Rattle.slew_order.specs.NetTimes.{NetTimes}
 use Rattle.delay_core.specs.DesignReading.{ReadInputs, LinkedDesign, LinksInputs, ReadsDesign, with_design}
 use Rattle.delay_core.specs.SpefPhases.{ParsesSpef, HeadsSpef, NetsSpef, through}
 use Rattle.delay_core.specs.SpefWork.{IsWithin}
+use Rattle.delay_core.specs.declared.refusal.Refusal.{Refusal}
 use Rattle.delay_annotation.specs.Annotation.{ReadsSpefFile}
 use Rattle.delay_annotation.specs.AnnotationWork.{of_nets, BytesWork, no_sections, of_sections, InputsWork, no_design, of_design, FilesWork, no_inputs, of_inputs}
 use Rattle.delay_annotation.specs.DesignTiming.{net_inputs}
-use Rattle.delay_annotation.specs.TimingHalves.{slews_work, DesignWork}
+use Rattle.delay_annotation.specs.TimingHalves.{slews_work, FileWork, DesignWork}
 use Rattle.delay_annotation.specs.declared.settings.Files.{Files}
 use Rattle.delay_annotation.specs.declared.settings.Settings.{Settings}
 
-pub no_bytes_work : {I : Type 0} (corners : Corners I) (design : LinkedDesign) (bytes : List ℕ) (settings : Settings) (steps : ℕ) → IsWithin (BytesWork corners design bytes settings) steps steps
-no_bytes_work corners design bytes settings steps = record { work = 0; given = no_sections; bound = omega arith }
+-- no section of a file is read yet
+pub no_sections_work : {I : Type 0} (corners : Corners I) (design : LinkedDesign) (file : SpefText) (head : HeadText) (settings : Settings) (steps : ℕ) → IsWithin (FileWork corners design file head settings) steps steps
+no_sections_work corners design file head settings steps = record { work = 0; given = λ bytes parses heads. no_sections; bound = omega arith }
 
--- that of the trees of the sections of the bytes, before so many steps that are left to the slews and the rows
-pub bytes_ahead : {I : Type 0} (corners : Corners I) (design : LinkedDesign) (bytes : List ℕ) (settings : Settings) (file : SpefText) (head : HeadText) (nets : List NetElements) (before after : ℕ) → ParsesSpef bytes (Ok file) → HeadsSpef file (Ok head)
-    → NetsSpef corners file head (Ok nets) → NetsWithin (net_inputs corners.count design nets settings) (length design.netlist.nets) before after
-    → IsWithin (λ work. BytesWork corners design bytes settings (work + slews_work corners.count design)) before after
-bytes_ahead corners design bytes settings file head nets before after parses heads says trees = record {
+-- the work of the trees of its sections, before so many steps that are left to the slews and the rows
+pub sections_ahead : {I : Type 0} (corners : Corners I) (design : LinkedDesign) (file : SpefText) (head : HeadText) (settings : Settings) (nets : List NetElements) (before after : ℕ) → NetsSpef corners file head (Ok nets)
+    → NetsWithin (net_inputs corners.count design nets settings) (length design.netlist.nets) before after → IsWithin (λ work. FileWork corners design file head settings (work + slews_work corners.count design)) before after
+sections_ahead corners design file head settings nets before after says trees = record {
   work = trees.work;
-  given = of_sections (record { design = head.design; nets = nets }) (through file head nets parses heads says) (of_nets trees.given);
+  given = λ bytes parses heads. of_sections (record { design = head.design; nets = nets }) (through file head nets parses heads says) (of_nets trees.given);
   bound = trees.bound;
 }
 
@@ -34,11 +37,32 @@ bytes_ahead corners design bytes settings file head nets before after parses hea
 pub with_rest : (Work : ℕ → Type 0) (rest before mid after : ℕ) → IsWithin (λ work. Work (work + rest)) before mid → after ≤ mid + rest → IsWithin Work before after
 with_rest Work rest before mid after within more = record { work = within.work + rest; given = within.given; bound = let bound = within.bound in omega (arith, bound, more) }
 
-pub bytes_work : {I : Type 0} (corners : Corners I) (design : LinkedDesign) (bytes : List ℕ) (settings : Settings) (file : SpefText) (head : HeadText) (nets : List NetElements) (before after : ℕ) → ParsesSpef bytes (Ok file) → HeadsSpef file (Ok head)
-    → NetsSpef corners file head (Ok nets) → NetsWithin (net_inputs corners.count design nets settings) (length design.netlist.nets) before after → IsWithin (BytesWork corners design bytes settings) before after
-bytes_work corners design bytes settings file head nets before after parses heads says trees =
-    with_rest (BytesWork corners design bytes settings) (slews_work corners.count design) before after after
-    (bytes_ahead corners design bytes settings file head nets before after parses heads says trees) (omega arith)
+pub sections_work : {I : Type 0} (corners : Corners I) (design : LinkedDesign) (file : SpefText) (head : HeadText) (settings : Settings) (nets : List NetElements) (before after : ℕ) → NetsSpef corners file head (Ok nets)
+    → NetsWithin (net_inputs corners.count design nets settings) (length design.netlist.nets) before after → IsWithin (FileWork corners design file head settings) before after
+sections_work corners design file head settings nets before after says trees =
+    with_rest (FileWork corners design file head settings) (slews_work corners.count design) before after after
+    (sections_ahead corners design file head settings nets before after says trees) (omega arith)
+
+-- the same of the answer, whatever it is
+pub sections_leave : {I : Type 0} (corners : Corners I) (design : LinkedDesign) (file : SpefText) (head : HeadText) (settings : Settings) (nets : List NetElements) (before after : ℕ) (result : Result NetTimes (NoFileEnd Refusal)) → NetsSpef corners file head (Ok nets)
+    → NetsWithin (net_inputs corners.count design nets settings) (length design.netlist.nets) before after
+    → OnOk result (IsWithin (λ work. FileWork corners design file head settings (work + slews_work corners.count design)) before after)
+sections_leave corners design file head settings nets before after (Ok times) says trees = sections_ahead corners design file head settings nets before after says trees
+sections_leave corners design file head settings nets before after (Err end) says trees = tt
+
+-- the work of the file is that of its bytes
+pub no_bytes_work : {I : Type 0} (corners : Corners I) (design : LinkedDesign) (bytes : List ℕ) (settings : Settings) (steps : ℕ) → IsWithin (BytesWork corners design bytes settings) steps steps
+no_bytes_work corners design bytes settings steps = record { work = 0; given = no_sections; bound = omega arith }
+
+pub bytes_work : {I : Type 0} (corners : Corners I) (design : LinkedDesign) (bytes : List ℕ) (settings : Settings) (file : SpefText) (head : HeadText) (before after : ℕ) → ParsesSpef bytes (Ok file) → HeadsSpef file (Ok head)
+    → IsWithin (FileWork corners design file head settings) before after → IsWithin (BytesWork corners design bytes settings) before after
+bytes_work corners design bytes settings file head before after parses heads within = record { work = within.work; given = within.given bytes parses heads; bound = within.bound }
+
+pub bytes_leave : {I : Type 0} (corners : Corners I) (design : LinkedDesign) (bytes : List ℕ) (settings : Settings) (file : SpefText) (head : HeadText) (rest before after : ℕ) (result : Result NetTimes (NoFileEnd Refusal)) → ParsesSpef bytes (Ok file)
+    → HeadsSpef file (Ok head) → OnOk result (IsWithin (λ work. FileWork corners design file head settings (work + rest)) before after)
+    → OnOk result (IsWithin (λ work. BytesWork corners design bytes settings (work + rest)) before after)
+bytes_leave corners design bytes settings file head rest before after (Ok times) parses heads within = record { work = within.work; given = within.given bytes parses heads; bound = within.bound }
+bytes_leave corners design bytes settings file head rest before after (Err end) parses heads within = tt
 
 module _ {I : Type 0} (held : Option Held) (corners : Corners I) (design : LinkedDesign) (spef : List ℕ) (settings : Settings) where
   pub no_design_work : (steps : ℕ) → IsWithin (DesignWork held corners design spef settings) steps steps

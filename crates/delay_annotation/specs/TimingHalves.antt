@@ -3,16 +3,18 @@
 use Rattle.std.specs.Prelude.{ℕ, ◌*◌, List, Option, Result, Ok, Err}
 use Rattle.edge_io.specs.Holding.{Held}
 use Rattle.spef_nets.specs.Sections.{Corners}
+use Rattle.spef_text.specs.Heads.{HeadText}
+use Rattle.spef_text.specs.SpefFiles.{SpefText}
 use Rattle.slew_order.specs.NetTimes.{NetTimes}
 use Rattle.slew_order.specs.Slews.{SlewTables}
 use Rattle.verdict_phases.specs.Phases.{Stop, RefusedBy, Step, Go, Halt}
 use Rattle.delay_core.specs.DesignReading.{ReadInputs, LinkedDesign, LinksInputs}
-use Rattle.delay_core.specs.SpefPhases.{DesignNets, ReadsNets}
+use Rattle.delay_core.specs.SpefPhases.{DesignNets, ParsesSpef, HeadsSpef, ReadsNets}
 use Rattle.delay_core.specs.declared.refusal.FileKey.{FileKey}
 use Rattle.delay_core.specs.declared.refusal.Refusal.{Refusal}
 use Rattle.delay_annotation.specs.AnnotatedDesigns.{AnnotatedDesign, DesignDelays}
 use Rattle.delay_annotation.specs.Annotation.{ReadsSpefFile, AnnotatesFrom}
-use Rattle.delay_annotation.specs.AnnotationWork.{edges_of, InputsWork}
+use Rattle.delay_annotation.specs.AnnotationWork.{edges_of, BytesWork, InputsWork}
 use Rattle.delay_annotation.specs.DelayPhase.{FindsDelays}
 use Rattle.delay_annotation.specs.DesignTiming.{net_inputs, slew_source, delays_by}
 use Rattle.delay_annotation.specs.SlewPhase.{FindsSlews}
@@ -25,6 +27,11 @@ pub data FindsNets {I : Type 0} (corners : Corners I) (design : LinkedDesign) (b
   by_sections : (nets : DesignNets) (answer : Result NetTimes Refusal) → ReadsNets corners bytes (Ok nets)
       → FindsDelays (net_inputs corners.count design nets.nets settings) settings.missing answer
       → FindsNets corners design bytes settings answer
+
+-- the same of a file whose grammar and head are read, from whichever bytes
+abbrev pub FindsFileNets : {I : Type 0} → Corners I → LinkedDesign → SpefText → HeadText → Settings → Result NetTimes Refusal → Type 0
+FindsFileNets corners design file head settings answer =
+    (bytes : List ℕ) → ParsesSpef bytes (Ok file) → HeadsSpef file (Ok head) → FindsNets corners design bytes settings answer
 
 -- the SPEF file of that name is read, and the nets get their loads and Elmore sums from it
 pub data ReadsNetTimes {I : Type 0} (held : Option Held) (corners : Corners I) (design : LinkedDesign) (spef : List ℕ) (settings : Settings)
@@ -47,6 +54,11 @@ abbrev pub AnnotatesDesign : {I : Type 0} → Option Held → Corners I → Link
     → Step Refusal FileKey AnnotatedDesign → Type 0
 AnnotatesDesign held corners design spef settings step =
     (inputs : ReadInputs) → LinksInputs inputs settings.top (Ok design) → AnnotatesFrom held corners inputs spef settings step
+
+-- the work of a file whose grammar and head are read
+abbrev pub FileWork : {I : Type 0} → Corners I → LinkedDesign → SpefText → HeadText → Settings → ℕ → Type 0
+FileWork corners design file head settings work =
+    (bytes : List ℕ) → ParsesSpef bytes (Ok file) → HeadsSpef file (Ok head) → BytesWork corners design bytes settings work
 
 -- the work of these phases
 abbrev pub DesignWork : {I : Type 0} → Option Held → Corners I → LinkedDesign → List ℕ → Settings → ℕ → Type 0

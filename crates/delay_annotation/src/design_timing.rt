@@ -13,7 +13,7 @@ ghost use Rattle.delay_annotation.specs.AnnotatedDesigns.{AreSound};
 ghost use Rattle.delay_annotation.specs.AnnotationWork.{BytesWork};
 ghost use Rattle.delay_annotation.specs.DelayPhase.{FindsDelays};
 ghost use Rattle.delay_annotation.specs.DesignTiming.{net_inputs, AreInRange};
-ghost use Rattle.delay_annotation.specs.TimingHalves.{slews_work, FindsNets, TimesNets};
+ghost use Rattle.delay_annotation.specs.TimingHalves.{slews_work, FindsNets, FindsFileNets, FileWork, TimesNets};
 
 use crate::delay_phase::find_delays;
 use crate::settings::Settings;
@@ -27,6 +27,7 @@ use netlist_link::Netlist;
 use sdf_writer::Rows;
 use slew_order::{NetDelays, Slews};
 use spef_nets::Sections;
+use spef_text::{Head, SpefFile};
 use std::alloc::Global;
 use std::marker::Model;
 use std::sync::ledger::Ledger;
@@ -74,9 +75,36 @@ fn find_design_delays<C: CornerSet, L: Ledger>(
     )
 }
 
+// The loads and the Elmore sums of a design's nets, from a SPEF file whose grammar and head are read: all its sections are read, and then
+// the nets get theirs.
+#[tactic(auto, using(crate::proofs::Work::no_sections_work))]
+fn nets_from_sections<C: CornerSet, L: Ledger>(
+    alloc: Global,
+    design: &Design<C>,
+    file: &SpefFile,
+    head: &Head,
+    settings: &Settings,
+    steps: &mut Steps<L>,
+) -> Result<NetDelays<C>, NoFileEnd<Refusal>>
+    requires head { IsHeadOf file.now head.now }
+    requires apart { AreNamedApart design.now.netlist }
+    requires small_pins { HaveSmallPins design.now.cells }
+    requires settings { AreInRange settings.now }
+    ensures follows { FollowsNoFile (FindsFileNets (corners_of C.COUNT C.number_of C.member_of settings.now.pick) design.now file.now
+        head.now settings.now) result }
+    ensures steps { IsWithin (FileWork (corners_of C.COUNT C.number_of C.member_of settings.now.pick) design.now file.now head.now
+        settings.now) steps.old steps.new }
+    ensures ahead { OnOk result (IsWithin (λ work. FileWork (corners_of C.COUNT C.number_of C.member_of settings.now.pick) design.now
+        file.now head.now settings.now (work + slews_work C.COUNT design.now)) steps.old steps.new) }
+    ensures no_steps { OnRefusal result (λ refusal. IsTrue (is_early refusal) → steps.new ≡ steps.old) }
+{
+    let sections = nets_of::<C>(alloc, file, head, settings.pick)?;
+    find_design_delays(alloc, design, &sections, settings, steps)
+}
+
 /// The loads and the Elmore sums of a design's nets, from the bytes of a SPEF file: its grammar and its head are read, then all its
 /// sections, and then the nets get theirs. Nothing of the file is kept. Its work leaves the slews and the rows their steps (`ahead`).
-#[tactic(auto, using(delay_core::specs::SpefPhases::at_grammar, delay_core::specs::SpefPhases::at_head, crate::specs::TimingHalves::at_sections, crate::proofs::Following::text_refused, crate::proofs::Following::text_found, crate::proofs::Work::no_bytes_work, crate::proofs::Work::bytes_work))]
+#[tactic(auto, using(crate::proofs::Work::no_bytes_work))]
 pub fn nets_from_text<C: CornerSet, L: Ledger>(
     alloc: Global,
     design: &Design<C>,
@@ -98,9 +126,7 @@ pub fn nets_from_text<C: CornerSet, L: Ledger>(
 {
     let file = parse_spef(alloc, bytes)?;
     let head = head_of(alloc, &file)?;
-    let sections = nets_of::<C>(alloc, &file, &head, settings.pick)?;
-    let nets = find_design_delays(alloc, design, &sections, settings, steps)?;
-    Ok(nets)
+    nets_from_sections(alloc, design, &file, &head, settings, steps)
 }
 
 // The delays of a netlist that is linked with its cells, from the loads and the Elmore sums of its nets: the slews are found, and then the
