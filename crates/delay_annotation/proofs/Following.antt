@@ -16,12 +16,12 @@ use Rattle.slew_order.specs.NetTimes.{NetTimes, Fits}
 use Rattle.delay_core.specs.DesignReading.{LinkedDesign, ReadsDesign, with_design}
 use Rattle.delay_core.specs.DesignReading.{at_netlist as design_at_netlist, at_inputs as design_at_inputs, at_design as design_at_design}
 use Rattle.delay_core.specs.Refused.{OnRefusal, AtReadFault}
-use Rattle.delay_core.specs.SpefPhases.{ParsesSpef, HeadsSpef, NetsSpef, at_sections, through}
+use Rattle.delay_core.specs.SpefPhases.{ParsesSpef, HeadsSpef, NetsSpef, at_sections, through, ReadsSpefFile}
 use Rattle.delay_core.specs.SpefWork.{is_early, OnEarly}
 use Rattle.delay_core.specs.declared.refusal.FileKey.{FileKey}
 use Rattle.delay_core.specs.declared.refusal.Refusal.{Refusal}
 use Rattle.delay_annotation.specs.AnnotatedDesigns.{AnnotatedDesign, DesignDelays, with_delays_of}
-use Rattle.delay_annotation.specs.Annotation.{ReadsSpefFile, TimesFromText, at_reading, of_sections, AnnotatesFrom, at_link, at_spef, at_timing, with_delays, Annotates, at_netlist, at_inputs, at_design, is_annotated}
+use Rattle.delay_annotation.specs.Annotation.{TimesFromText, at_reading, of_sections, AnnotatesFrom, at_link, at_spef, at_timing, with_delays, Annotates, at_netlist, at_inputs, at_design, is_annotated}
 use Rattle.delay_annotation.specs.DelayPhase.{FindsDelays}
 use Rattle.delay_annotation.specs.DesignTiming.{net_inputs, TimesDesign, at_delays, at_slews, with_rows}
 use Rattle.delay_annotation.specs.TimingHalves.{FindsNets, by_sections, FindsFileNets, ReadsNetTimes, at_file, at_nets, are_read, TimesNets, stops_at_slews, gets_rows, AnnotatesDesign}

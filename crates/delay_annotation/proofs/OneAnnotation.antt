@@ -10,7 +10,7 @@ use Rattle.verdict_phases.specs.Phases.{RefusedBy, Go}
 use Rattle.delay_core.specs.DesignReading.{ReadsNetlistFile, ReadInputs, LinkedDesign, ReadsInputs, LinksInputs}
 use Rattle.delay_core.specs.OneAnswer.{SameAnswer}
 use Rattle.delay_core.specs.OneStep.{HasOneAnswer}
-use Rattle.delay_core.specs.SpefPhases.{DesignNets}
+use Rattle.delay_core.specs.SpefPhases.{DesignNets, ReadsSpefFile}
 use Rattle.delay_core.specs.declared.refusal.FileKey.TheVariants.{Netlist, Spef}
 use Rattle.delay_core.specs.declared.refusal.Refusal.{Refusal}
 use Rattle.delay_core.proofs.NetsApart.{apart_nets}
@@ -21,7 +21,7 @@ use Rattle.delay_core.proofs.OneNet.{AreNumbered}
 use Rattle.delay_core.proofs.OneSpefFile.{one_file_refusal, no_design_beside, one_design}
 use Rattle.delay_core.proofs.OneText.{one_file}
 use Rattle.delay_annotation.specs.AnnotatedDesigns.{AnnotatedDesign, DesignDelays, with_delays_of}
-use Rattle.delay_annotation.specs.Annotation.{ReadsSpefFile, TimesFromText, at_reading, of_sections, AnnotatesFrom, at_link, at_spef, at_timing, with_delays, Annotates, at_netlist, at_inputs, at_design, is_annotated}
+use Rattle.delay_annotation.specs.Annotation.{TimesFromText, at_reading, of_sections, AnnotatesFrom, at_link, at_spef, at_timing, with_delays, Annotates, at_netlist, at_inputs, at_design, is_annotated}
 use Rattle.delay_annotation.specs.DelayPhase.{FindsDelays}
 use Rattle.delay_annotation.specs.DesignTiming.{net_inputs, slew_source, delays_by, TimesDesign, at_delays, at_slews, with_rows}
 use Rattle.delay_annotation.specs.OneAnnotation.{OneAnnotation}

@@ -10,10 +10,9 @@ use Rattle.verdict_phases.specs.Phases.{Go}
 use Rattle.verdict_phases.specs.declared.ends.NoFileEnd.{NoFileEnd}
 use Rattle.slew_order.specs.NetTimes.{NetTimes}
 use Rattle.delay_core.specs.DesignReading.{ReadInputs, LinkedDesign, LinksInputs, ReadsDesign, with_design}
-use Rattle.delay_core.specs.SpefPhases.{ParsesSpef, HeadsSpef, NetsSpef, through}
+use Rattle.delay_core.specs.SpefPhases.{ParsesSpef, HeadsSpef, NetsSpef, through, ReadsSpefFile}
 use Rattle.delay_core.specs.SpefWork.{IsWithin}
 use Rattle.delay_core.specs.declared.refusal.Refusal.{Refusal}
-use Rattle.delay_annotation.specs.Annotation.{ReadsSpefFile}
 use Rattle.delay_annotation.specs.AnnotationWork.{of_nets, BytesWork, no_sections, of_sections, InputsWork, no_design, of_design, FilesWork, no_inputs, of_inputs}
 use Rattle.delay_annotation.specs.DesignTiming.{net_inputs}
 use Rattle.delay_annotation.specs.TimingHalves.{slews_work, FileWork, DesignWork}

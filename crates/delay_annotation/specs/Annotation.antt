@@ -3,24 +3,16 @@ use Rattle.std.specs.Prelude.{◌≡◌, ℕ, ◌+◌, ◌==◌, ◌⊎◌, if�
 use Rattle.edge_io.specs.Counts.{Rose, RoseBy}
 use Rattle.edge_io.specs.Holding.{Held, TellsMissing}
 use Rattle.spef_nets.specs.Sections.{Corners}
-use Rattle.verdict_phases.specs.FileReading.{ReadsFile}
 use Rattle.verdict_phases.specs.Phases.{Stop, RefusedBy, Step, Go, Halt}
 use Rattle.delay_core.specs.DesignReading.{ReadsNetlistFile, ReadInputs, LinkedDesign, ReadsInputs, LinksInputs, input_key}
-use Rattle.delay_core.specs.InputFiles.{file_limit}
-use Rattle.delay_core.specs.SpefPhases.{DesignNets, ReadsNets}
+use Rattle.delay_core.specs.SpefPhases.{DesignNets, ReadsNets, ReadsSpefFile}
 use Rattle.delay_core.specs.declared.refusal.FileKey.{FileKey}
 use Rattle.delay_core.specs.declared.refusal.FileKey.TheVariants.{Spef}
-use Rattle.delay_core.specs.declared.refusal.LimitKind.TheVariants.{File}
 use Rattle.delay_core.specs.declared.refusal.Refusal.{Refusal}
-use Rattle.delay_core.specs.declared.refusal.Refusal.TheVariants.{Limit}
 use Rattle.delay_annotation.specs.AnnotatedDesigns.{AnnotatedDesign, DesignDelays, with_delays_of}
 use Rattle.delay_annotation.specs.DesignTiming.{TimesDesign}
 use Rattle.delay_annotation.specs.declared.settings.Files.{Files}
 use Rattle.delay_annotation.specs.declared.settings.Settings.{Settings}
-
--- the SPEF file is read
-abbrev pub ReadsSpefFile : Option Held → List ℕ → Step Refusal FileKey (List ℕ) → Type 0
-ReadsSpefFile held name step = ReadsFile file_limit held Spef (Limit (File Spef)) name step
 
 -- the sections of a SPEF file's bytes are read at these corners, and the design gets its delays from them
 pub data TimesFromText {I : Type 0} (corners : Corners I) (design : LinkedDesign) (bytes : List ℕ) (settings : Settings)

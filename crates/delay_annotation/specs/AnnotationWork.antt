@@ -8,8 +8,7 @@ use Rattle.slew_order.specs.FlatArcs.{flat_arcs}
 use Rattle.net_parasitics.specs.WorkCounts.{NetsWork}
 use Rattle.verdict_phases.specs.Phases.{Go}
 use Rattle.delay_core.specs.DesignReading.{ReadsNetlistFile, ReadInputs, LinkedDesign, ReadsInputs, LinksInputs}
-use Rattle.delay_core.specs.SpefPhases.{DesignNets, ReadsNets}
-use Rattle.delay_annotation.specs.Annotation.{ReadsSpefFile}
+use Rattle.delay_core.specs.SpefPhases.{DesignNets, ReadsNets, ReadsSpefFile}
 use Rattle.delay_annotation.specs.DesignTiming.{net_inputs}
 use Rattle.delay_annotation.specs.declared.settings.Files.{Files}
 use Rattle.delay_annotation.specs.declared.settings.Settings.{Settings}

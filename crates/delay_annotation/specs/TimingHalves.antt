@@ -9,11 +9,11 @@ use Rattle.slew_order.specs.NetTimes.{NetTimes}
 use Rattle.slew_order.specs.Slews.{SlewTables}
 use Rattle.verdict_phases.specs.Phases.{Stop, RefusedBy, Step, Go, Halt}
 use Rattle.delay_core.specs.DesignReading.{ReadInputs, LinkedDesign, LinksInputs}
-use Rattle.delay_core.specs.SpefPhases.{DesignNets, ParsesSpef, HeadsSpef, ReadsNets}
+use Rattle.delay_core.specs.SpefPhases.{DesignNets, ParsesSpef, HeadsSpef, ReadsNets, ReadsSpefFile}
 use Rattle.delay_core.specs.declared.refusal.FileKey.{FileKey}
 use Rattle.delay_core.specs.declared.refusal.Refusal.{Refusal}
 use Rattle.delay_annotation.specs.AnnotatedDesigns.{AnnotatedDesign, DesignDelays}
-use Rattle.delay_annotation.specs.Annotation.{ReadsSpefFile, AnnotatesFrom}
+use Rattle.delay_annotation.specs.Annotation.{AnnotatesFrom}
 use Rattle.delay_annotation.specs.AnnotationWork.{edges_of, BytesWork, InputsWork}
 use Rattle.delay_annotation.specs.DelayPhase.{FindsDelays}
 use Rattle.delay_annotation.specs.DesignTiming.{net_inputs, slew_source, delays_by}

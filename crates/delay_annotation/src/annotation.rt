@@ -18,14 +18,12 @@ use crate::annotated::Annotated;
 use crate::design_timing::{Delays, nets_from_text, time_design};
 use crate::settings::{Files, Settings};
 use corner_set::CornerSet;
-use delay_core::{
-    Design, FILE_LIMIT, FileKey, Inputs, LimitKind, Refusal, link_inputs, read_design,
-};
+use delay_core::{Design, FileKey, Inputs, Refusal, link_inputs, read_design, read_input};
 use edge_io::{Shelf, Steps, Text};
 use slew_order::NetDelays;
 use std::alloc::Global;
 use std::sync::ledger::Ledger;
-use verdict_phases::{PhaseEnd, read_phase};
+use verdict_phases::PhaseEnd;
 
 // A design with delays of it.
 fn annotated_of<C: CornerSet>(design: Design<C>, delays: Delays<C>) -> Annotated<C>
@@ -70,8 +68,7 @@ fn read_nets<C: CornerSet, H: Shelf, L: Ledger>(
         settings.now.pick) design.now spef.now settings.now (work + slews_work C.COUNT design.now)) steps.old steps.new) }
     ensures no_steps { OnEarly result (steps.new ≡ steps.old) }
 {
-    let too_long = Refusal::Limit(LimitKind::File(FileKey::Spef));
-    let text = read_phase(alloc, shelf, spef, FILE_LIMIT, FileKey::Spef, too_long)?;
+    let text = read_input(alloc, shelf, spef, FileKey::Spef)?;
     let nets = nets_from_text(alloc, design, text.bytes(), settings, steps)?;
     Ok(nets)
 }

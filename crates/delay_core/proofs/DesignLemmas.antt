@@ -1,9 +1,9 @@
 -- The files of a design are read one after another, and a fault at one of them has its cause.
-use Rattle.std.proofs.Common.{◌≡◌, ℕ, zero, suc, ◌+◌, ◌<◌, ◌≤◌, ◌⊎◌, inl, inr, List, [], ◌∷◌, length, Option, Some, Ok, Err, refl, sym, subst, arith}
+use Rattle.std.proofs.Common.{◌≡◌, ℕ, suc, ◌≤◌, ◌⊎◌, inl, inr, List, ◌∷◌, Option, Some, Err, refl, subst, arith}
 use Rattle.std.specs.Prelude.{slice_get}
 use Rattle.edge_io.specs.Counts.{Rose, RoseBy}
 use Rattle.edge_io.specs.Holding.{Held, TellsMissing}
-use Rattle.verdict_phases.specs.Phases.{Stop, RefusedBy, Unread, Reads, Go, Halt}
+use Rattle.verdict_phases.specs.Phases.{RefusedBy, Unread, Reads, Go, Halt}
 use Rattle.delay_core.specs.DesignReading.{ReadsNetlistFile, ReadInputs, ReadsInputs, at_libraries, LinksInputs, ReadsDesign, at_netlist, at_inputs, at_design, input_key, IsInputFault}
 use Rattle.delay_core.specs.LibraryReading.{library_key, ReadsLibrary, at_file, ReadsLibraries, stops_at, IsLibraryFault}
 use Rattle.delay_core.specs.declared.refusal.FileKey.{FileKey}

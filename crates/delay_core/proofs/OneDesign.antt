@@ -12,7 +12,7 @@ use Rattle.verilog_netlist.specs.NetModules.{NetModule}
 use Rattle.delay_core.specs.CellPhase.{ModelsCells}
 use Rattle.delay_core.specs.DesignReading.{ReadsNetlistFile, ReadInputs, LinkedDesign, ReadsInputs, at_grammar, at_uses, at_libraries, with_inputs, LinksInputs, at_models, at_link, with_netlist, ReadsDesign, at_netlist, at_inputs, at_design, with_design}
 use Rattle.delay_core.specs.LibraryPhases.{ParsesLibrary}
-use Rattle.delay_core.specs.LibraryReading.{library_key, ReadsLibraryFile, ReadsLibrary, at_file, at_tree, with_tree, AreFirst, ReadsLibraries, all_read, stops_at}
+use Rattle.delay_core.specs.LibraryReading.{library_key, ReadsLibrary, at_file, at_tree, with_tree, AreFirst, ReadsLibraries, all_read, stops_at}
 use Rattle.delay_core.specs.LinkPhase.{LinksDesign}
 use Rattle.delay_core.specs.NetlistPhase.{ParsesNetlist, is_netlist}
 use Rattle.delay_core.specs.UsePhase.{UsesCells}
@@ -31,6 +31,7 @@ use Rattle.delay_core.specs.OneStep.{IsFinal, IsDecided, HasOneAnswer}
 use Rattle.delay_core.specs.Refused.{WithoutFile}
 use Rattle.delay_core.proofs.OneChain.{Steps, Then, stops, goes, one_plain, same_answers, one_then, one_made, one_by}
 use Rattle.delay_core.proofs.OneText.{one_file, same_stop, stops_equal, reads_or_stops, reads_alike}
+use Rattle.delay_core.specs.InputFiles.{ReadsInput}
 
 -- ---- the libraries
 
@@ -49,7 +50,7 @@ module _ (held : Held) (corners corner : ℕ) (name : List ℕ) where
   abbrev ReadsIt : Steps Group → Type 0
   ReadsIt step = ReadsLibrary (Some held) corners corner name step
 
-  same_parse : (x y : List ℕ) (one other : Result Group Refusal) → ReadsLibraryFile (Some held) (library_key corners corner) name (Go x) → ReadsLibraryFile (Some held) (library_key corners corner) name (Go y)
+  same_parse : (x y : List ℕ) (one other : Result Group Refusal) → ReadsInput (Some held) (library_key corners corner) name (Go x) → ReadsInput (Some held) (library_key corners corner) name (Go y)
       → ParsesLibrary corner x one → ParsesLibrary corner y other → one ≡ other
   same_parse x y one other r s p q =
       one_library_lem corner x one other p (subst (λ (b : List ℕ). ParsesLibrary corner b other) (reads_alike held (library_key corners corner) name y x s r) q)

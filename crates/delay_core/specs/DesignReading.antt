@@ -7,10 +7,9 @@ use Rattle.liberty_groups.specs.Groups.{Group}
 use Rattle.liberty_groups.specs.Tables.{tree_of}
 use Rattle.netlist_link.specs.FlatNetlist.{FlatNetlist}
 use Rattle.verilog_netlist.specs.NetModules.{NetModule}
-use Rattle.verdict_phases.specs.FileReading.{ReadsFile}
 use Rattle.verdict_phases.specs.Phases.{Stop, RefusedBy, Step, Go, Halt}
 use Rattle.delay_core.specs.CellPhase.{ModelsCells}
-use Rattle.delay_core.specs.InputFiles.{file_limit}
+use Rattle.delay_core.specs.InputFiles.{ReadsInput}
 use Rattle.delay_core.specs.LibraryReading.{library_key, ReadsLibraries}
 use Rattle.delay_core.specs.LinkPhase.{LinksDesign}
 use Rattle.delay_core.specs.NetlistPhase.{ParsesNetlist}
@@ -18,13 +17,11 @@ use Rattle.delay_core.specs.UsePhase.{UsesCells}
 use Rattle.delay_core.specs.declared.design_reading.Inputs.{Inputs}
 use Rattle.delay_core.specs.declared.refusal.FileKey.{FileKey}
 use Rattle.delay_core.specs.declared.refusal.FileKey.TheVariants.{Netlist}
-use Rattle.delay_core.specs.declared.refusal.LimitKind.TheVariants.{File}
 use Rattle.delay_core.specs.declared.refusal.Refusal.{Refusal}
-use Rattle.delay_core.specs.declared.refusal.Refusal.TheVariants.{Limit}
 
 -- the file of the netlist is read
 abbrev pub ReadsNetlistFile : Option Held → List ℕ → Step Refusal FileKey (List ℕ) → Type 0
-ReadsNetlistFile held name step = ReadsFile file_limit held Netlist (Limit (File Netlist)) name step
+ReadsNetlistFile held name step = ReadsInput held Netlist name step
 
 -- what is read: the modules of a netlist, the names of the cells that its top uses, and a library for each corner
 pub record ReadInputs : Type 0 where

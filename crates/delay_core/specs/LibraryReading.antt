@@ -3,32 +3,25 @@ use Rattle.std.specs.Prelude.{◌≡◌, ℕ, ◌+◌, ◌<◌, ◌⊎◌, ◌==
 use Rattle.edge_io.specs.Counts.{Rose, RoseBy}
 use Rattle.edge_io.specs.Holding.{Held, TellsMissing}
 use Rattle.liberty_groups.specs.Groups.{Group}
-use Rattle.verdict_phases.specs.FileReading.{ReadsFile}
 use Rattle.verdict_phases.specs.Phases.{Stop, RefusedBy, Step, Go, Halt}
-use Rattle.delay_core.specs.InputFiles.{file_limit}
+use Rattle.delay_core.specs.InputFiles.{ReadsInput}
 use Rattle.delay_core.specs.LibraryPhases.{ParsesLibrary}
 use Rattle.delay_core.specs.declared.refusal.FileKey.{FileKey}
 use Rattle.delay_core.specs.declared.refusal.FileKey.TheVariants.{Lib, LibMin, LibTyp, LibMax}
-use Rattle.delay_core.specs.declared.refusal.LimitKind.TheVariants.{File}
 use Rattle.delay_core.specs.declared.refusal.Refusal.{Refusal}
-use Rattle.delay_core.specs.declared.refusal.Refusal.TheVariants.{Limit}
 
 -- the key of the library of a corner, in a run with so many corners
 abbrev pub library_key : ℕ → ℕ → FileKey
 library_key corners corner =
     if corners == 1 then Lib else if corner == 0 then LibMin else if corner == 1 then LibTyp else LibMax
 
--- the file of a library is read
-abbrev pub ReadsLibraryFile : Option Held → FileKey → List ℕ → Step Refusal FileKey (List ℕ) → Type 0
-ReadsLibraryFile held key name step = ReadsFile file_limit held key (Limit (File key)) name step
-
 -- the library of a corner is read: its file, and then its grammar
 pub data ReadsLibrary (held : Option Held) (corners corner : ℕ) (name : List ℕ) : Step Refusal FileKey Group → Type 0 where
-  at_file : (why : Stop Refusal FileKey) → ReadsLibraryFile held (library_key corners corner) name (Halt why)
+  at_file : (why : Stop Refusal FileKey) → ReadsInput held (library_key corners corner) name (Halt why)
       → ReadsLibrary held corners corner name (Halt why)
-  at_tree : (bytes : List ℕ) (refusal : Refusal) → ReadsLibraryFile held (library_key corners corner) name (Go bytes)
+  at_tree : (bytes : List ℕ) (refusal : Refusal) → ReadsInput held (library_key corners corner) name (Go bytes)
       → ParsesLibrary corner bytes (Err refusal) → ReadsLibrary held corners corner name (Halt (RefusedBy refusal))
-  with_tree : (bytes : List ℕ) (library : Group) → ReadsLibraryFile held (library_key corners corner) name (Go bytes)
+  with_tree : (bytes : List ℕ) (library : Group) → ReadsInput held (library_key corners corner) name (Go bytes)
       → ParsesLibrary corner bytes (Ok library) → ReadsLibrary held corners corner name (Go library)
 
 -- the library of a corner is the one of its file, by the names of the files in the order of the corners

@@ -1,20 +1,17 @@
 -- That the inputs of a design have one answer, and so has the design that is linked of them.
 use Rattle.std.specs.Prelude.{◌≡◌, ℕ, List, Option, Some, Result}
 use Rattle.edge_io.specs.Holding.{Held}
-use Rattle.verdict_phases.specs.FileReading.{ReadsFile}
 use Rattle.verdict_phases.specs.Phases.{Go}
 use Rattle.delay_core.specs.DesignReading.{ReadInputs, LinkedDesign, ReadsInputs, LinksInputs, ReadsDesign}
-use Rattle.delay_core.specs.InputFiles.{file_limit}
+use Rattle.delay_core.specs.InputFiles.{ReadsInput}
 use Rattle.delay_core.specs.OneStep.{HasOneAnswer}
 use Rattle.delay_core.specs.declared.refusal.FileKey.{FileKey}
-use Rattle.delay_core.specs.declared.refusal.LimitKind.TheVariants.{File}
 use Rattle.delay_core.specs.declared.refusal.Refusal.{Refusal}
-use Rattle.delay_core.specs.declared.refusal.Refusal.TheVariants.{Limit}
 
 -- the file of a key has one text, or one reason why it is not read
 abbrev pub OneFile : Type 0
 OneFile = (held : Held) (key : FileKey) (name : List ℕ)
-    → HasOneAnswer (λ step. ReadsFile file_limit (Some held) key (Limit (File key)) name step)
+    → HasOneAnswer (λ step. ReadsInput (Some held) key name step)
 
 -- the inputs of a netlist's bytes have one answer
 abbrev pub OneInputs : Type 0

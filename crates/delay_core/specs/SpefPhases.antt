@@ -1,5 +1,6 @@
--- The phases that read a SPEF file (IEEE 1481): its grammar, its head, and what its sections say of their nets.
-use Rattle.std.specs.Prelude.{ℕ, List, All, Result, Ok, Err}
+-- The phases that read a SPEF file (IEEE 1481): its bytes, its grammar, its head, and what its sections say of their nets.
+use Rattle.std.specs.Prelude.{ℕ, List, All, Option, Result, Ok, Err}
+use Rattle.edge_io.specs.Holding.{Held}
 use Rattle.corner_set.specs.declared.pick.Pick.{Pick}
 use Rattle.spef_text.specs.SpefFiles.{SpefText, Reads, LeavesSpef, HasForm}
 use Rattle.spef_text.specs.Heads.{HeadText, IsHeadOf, IsHeadEnd}
@@ -9,10 +10,18 @@ use Rattle.spef_nets.specs.NetElements.{NetElements, AreWhole}
 use Rattle.spef_nets.specs.Sections.{Corners, AreNets}
 use Rattle.spef_nets.specs.Faults.{AreFaultless, IsSectionEnd}
 use Rattle.spef_nets.specs.declared.ends.SectionEnd.TheVariants as section
+use Rattle.verdict_phases.specs.Phases.{Step}
+use Rattle.delay_core.specs.InputFiles.{ReadsInput}
+use Rattle.delay_core.specs.declared.refusal.FileKey.{FileKey}
+use Rattle.delay_core.specs.declared.refusal.FileKey.TheVariants.{Spef}
 use Rattle.delay_core.specs.declared.refusal.NumberKind.TheVariants.{BadUnit, BadNumber, ValueTooLarge}
 use Rattle.delay_core.specs.declared.refusal.IndexKind.TheVariants.{Unknown, Repeated}
 use Rattle.delay_core.specs.declared.refusal.Refusal.{Refusal}
 use Rattle.delay_core.specs.declared.refusal.Refusal.TheVariants.{SpefSyntax, SpefForm, SpefNumber, NameIndex, RepeatedNet, ForeignCoupling}
+
+-- the SPEF file is read
+abbrev pub ReadsSpefFile : Option Held → List ℕ → Step Refusal FileKey (List ℕ) → Type 0
+ReadsSpefFile held name step = ReadsInput held Spef name step
 
 -- the bytes are a SPEF file, or the token with which they leave its grammar, which may be a word for a form that is not read
 pub data ParsesSpef (bytes : List ℕ) : Result SpefText Refusal → Type 0 where

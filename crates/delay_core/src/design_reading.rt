@@ -9,11 +9,11 @@ ghost use Rattle.delay_core.specs.Refused.{AtReadFault, OnStop};
 ghost use Rattle.delay_core.specs.UsePhase.{UsesCells};
 
 use crate::cell_phase::model_cells;
-use crate::input_files::FILE_LIMIT;
+use crate::input_files::read_input;
 use crate::library_reading::{Libraries, read_libraries};
 use crate::link_phase::link_design;
 use crate::netlist_phase::parse_netlist;
-use crate::refusal::{FileKey, LimitKind, Refusal};
+use crate::refusal::{FileKey, Refusal};
 use crate::use_phase::use_cells;
 use cell_models::CellSets;
 use corner_set::CornerSet;
@@ -21,7 +21,7 @@ use edge_io::{Shelf, Text, TextList};
 use netlist_link::Netlist;
 use std::alloc::Global;
 use std::marker::Model;
-use verdict_phases::{NoFileEnd, PhaseEnd, read_phase};
+use verdict_phases::{NoFileEnd, PhaseEnd};
 use verilog_netlist::Modules;
 
 /// What is read of a design: the modules of its netlist, the names of the cells that its top uses, and a library for each corner.
@@ -142,15 +142,7 @@ pub fn read_design<C: CornerSet, H: Shelf>(
     ensures opens { OnOk result (RoseBy (C.COUNT + 1) (H.opens shelf.old) (H.opens shelf.new)) }
     ensures held { H.held shelf.new ≡ H.held shelf.old }
 {
-    let too_long = Refusal::Limit(LimitKind::File(FileKey::Netlist));
-    let text = read_phase(
-        alloc,
-        shelf,
-        netlist,
-        FILE_LIMIT,
-        FileKey::Netlist,
-        too_long,
-    )?;
+    let text = read_input(alloc, shelf, netlist, FileKey::Netlist)?;
     let inputs = read_inputs::<C, H>(alloc, shelf, text.bytes(), top, libraries)?;
     let design = link_inputs::<C>(alloc, &inputs, top)?;
     Ok(design)

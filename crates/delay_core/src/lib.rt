@@ -22,7 +22,7 @@ mod words;
 
 pub use cell_phase::model_cells;
 pub use design_reading::{Design, Inputs, link_inputs, read_design, read_inputs};
-pub use input_files::FILE_LIMIT;
+pub use input_files::read_input;
 pub use kinds::edge_word;
 pub use laws::{
     one_cell, one_design, one_file, one_inputs, one_library, one_link, one_linking, one_models,

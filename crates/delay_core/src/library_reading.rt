@@ -7,15 +7,15 @@ ghost use Rattle.verdict_phases.specs.Phases.{Go, Halt};
 ghost use Rattle.delay_core.specs.LibraryReading.{library_key, ReadsLibrary, ReadsLibraries, IsLibraryFault};
 ghost use Rattle.delay_core.specs.Refused.{AtReadFault, OnStop};
 
-use crate::input_files::FILE_LIMIT;
+use crate::input_files::read_input;
 use crate::library_phases::parse_library;
-use crate::refusal::{FileKey, LimitKind, Refusal};
+use crate::refusal::{FileKey, Refusal};
 use corner_set::CornerSet;
 use edge_io::{OutOfMemory, Shelf, Text, TextList};
 use liberty_groups::GroupTree;
 use std::alloc::Global;
 use std::marker::Model;
-use verdict_phases::{PhaseEnd, read_phase};
+use verdict_phases::PhaseEnd;
 
 /// Libraries, one for each of the first corners. Contracts see the tables of each.
 #[derive(Drop)]
@@ -94,8 +94,7 @@ pub fn read_library<H: Shelf>(
     ensures held { H.held shelf.new ≡ H.held shelf.old }
 {
     let key = library_key(corners, corner);
-    let too_long = Refusal::Limit(LimitKind::File(key));
-    let text = read_phase(alloc, shelf, name, FILE_LIMIT, key, too_long)?;
+    let text = read_input(alloc, shelf, name, key)?;
     let tree = parse_library(alloc, corner, text.bytes())?;
     Ok(tree)
 }

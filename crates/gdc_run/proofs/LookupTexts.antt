@@ -5,7 +5,7 @@ use Rattle.nldm_lookup.specs.declared.beyond.Beyond.{Beyond}
 use Rattle.verdict_phases.specs.Phases.{Stop, RefusedBy, Step, Go, Halt, Follows}
 use Rattle.verdict_phases.specs.declared.ends.PhaseEnd.{PhaseEnd}
 use Rattle.verdict_phases.specs.declared.ends.PhaseEnd.TheVariants as phase
-use Rattle.delay_core.specs.LibraryReading.{ReadsLibraryFile}
+use Rattle.delay_core.specs.InputFiles.{ReadsInput}
 use Rattle.delay_core.specs.declared.refusal.FileKey.{FileKey}
 use Rattle.delay_core.specs.declared.refusal.FileKey.TheVariants.{Lib}
 use Rattle.delay_core.specs.declared.refusal.Refusal.{Refusal}
@@ -15,7 +15,7 @@ use Rattle.gdc_run.specs.Verdict.{ReadsArcs, LookupGives, at_library_reading, at
 
 -- the library of the one corner is read
 abbrev pub ReadsSoleLibrary : Option Held → List ℕ → Step Refusal FileKey (List ℕ) → Type 0
-ReadsSoleLibrary held file step = ReadsLibraryFile held Lib file step
+ReadsSoleLibrary held file step = ReadsInput held Lib file step
 
 pub library_halts : {held : Option Held} {file name : List ℕ} {slew load : ℕ} {beyond : Beyond} (why : Stop Refusal FileKey) → ReadsSoleLibrary held file (Halt why) → LookupGives 1 0 held file name slew load beyond (Halt why)
 library_halts why reads = at_library_reading why reads

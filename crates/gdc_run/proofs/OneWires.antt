@@ -10,10 +10,10 @@ use Rattle.spef_nets.specs.NetElements.{NetElements, AreWhole}
 use Rattle.delay_core.specs.declared.refusal.FileKey.TheVariants.{Spef}
 use Rattle.delay_core.specs.declared.refusal.Refusal.{Refusal}
 use Rattle.delay_core.specs.OneAnswer.{SameAnswer}
-use Rattle.delay_core.specs.SpefPhases.{sole_corner, DesignNets, NetsSpef, are_nets, ReadsNets, through}
+use Rattle.delay_core.specs.SpefPhases.{sole_corner, DesignNets, NetsSpef, are_nets, ReadsNets, through, ReadsSpefFile}
 use Rattle.delay_core.specs.WireNets.{RowsOf}
 use Rattle.delay_core.specs.WireRows.{TextGives, unread, of_design}
-use Rattle.gdc_run.specs.Verdict.{ReadsSpef, WiresGives, at_reading, at_spef, at_nets, with_rows}
+use Rattle.gdc_run.specs.Verdict.{WiresGives, at_reading, at_spef, at_nets, with_rows}
 use Rattle.delay_core.specs.OneStep.{HasOneAnswer}
 use Rattle.delay_core.proofs.OneSpefFile.{one_file_refusal, no_design_beside, one_design}
 use Rattle.delay_core.proofs.OneNet.{sole_numbered}
@@ -37,12 +37,12 @@ one_text_answer pick bytes one other (of_design design answer r rows) (of_design
     one_rows design (whole_design pick bytes design r) answer its rows (subst (λ (d : DesignNets). RowsOf 1 d its) (one_design (sole_corner pick) (sole_numbered pick) bytes more design s r) others)
 
 -- the file is read, and then its text has an answer
-wires_view : (held : Held) (pick : Pick) (name : List ℕ) (step : Steps SdfRows) → WiresGives (sole_corner pick) (Some held) name step → Then (ReadsSpef (Some held) name) (λ bytes. WithoutFile (TextGives (sole_corner pick) bytes)) step
+wires_view : (held : Held) (pick : Pick) (name : List ℕ) (step : Steps SdfRows) → WiresGives (sole_corner pick) (Some held) name step → Then (ReadsSpefFile (Some held) name) (λ bytes. WithoutFile (TextGives (sole_corner pick) bytes)) step
 wires_view held pick name _ (at_reading why r) = stops why r refl
 wires_view held pick name _ (at_spef bytes refusal r n) = goes bytes r (unread refusal n)
 wires_view held pick name _ (at_nets bytes design refusal r n rows) = goes bytes r (of_design design (Err refusal) n rows)
 wires_view held pick name _ (with_rows bytes design rows r n are) = goes bytes r (of_design design (Ok rows) n are)
 
 pub one_wires : (held : Held) (pick : Pick) (name : List ℕ) → HasOneAnswer (WiresGives (sole_corner pick) (Some held) name)
-one_wires held pick name = one_by (WiresGives (sole_corner pick) (Some held) name) (Then (ReadsSpef (Some held) name) (λ bytes. WithoutFile (TextGives (sole_corner pick) bytes))) (wires_view held pick name)
-    (one_then (ReadsSpef (Some held) name) (λ bytes. WithoutFile (TextGives (sole_corner pick) bytes)) (one_file held Spef name) (λ bytes reads. one_plain (TextGives (sole_corner pick) bytes) (one_text_answer pick bytes)))
+one_wires held pick name = one_by (WiresGives (sole_corner pick) (Some held) name) (Then (ReadsSpefFile (Some held) name) (λ bytes. WithoutFile (TextGives (sole_corner pick) bytes))) (wires_view held pick name)
+    (one_then (ReadsSpefFile (Some held) name) (λ bytes. WithoutFile (TextGives (sole_corner pick) bytes)) (one_file held Spef name) (λ bytes reads. one_plain (TextGives (sole_corner pick) bytes) (one_text_answer pick bytes)))

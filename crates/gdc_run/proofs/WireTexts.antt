@@ -10,16 +10,17 @@ use Rattle.delay_core.specs.declared.refusal.FileKey.{FileKey}
 use Rattle.delay_core.specs.declared.refusal.Refusal.{Refusal}
 use Rattle.delay_core.specs.WireRows.{TextGives, unread, of_design}
 use Rattle.delay_core.specs.Refused.{WithoutFile}
-use Rattle.gdc_run.specs.Verdict.{ReadsSpef, WiresGives, at_spef, at_nets, with_rows}
+use Rattle.gdc_run.specs.Verdict.{WiresGives, at_spef, at_nets, with_rows}
+use Rattle.delay_core.specs.SpefPhases.{ReadsSpefFile}
 
-text_refused : {I : Type 0} (corners : Corners I) (held : Option Held) (name bytes : List ℕ) (refusal : Refusal) → ReadsSpef held name (Go bytes) → TextGives corners bytes (Err refusal) → WiresGives corners held name (Halt (RefusedBy refusal))
+text_refused : {I : Type 0} (corners : Corners I) (held : Option Held) (name bytes : List ℕ) (refusal : Refusal) → ReadsSpefFile held name (Go bytes) → TextGives corners bytes (Err refusal) → WiresGives corners held name (Halt (RefusedBy refusal))
 text_refused corners held name bytes refusal reads (unread its faulty) = at_spef bytes refusal reads faulty
 text_refused corners held name bytes refusal reads (of_design design answer parsed rows) = at_nets bytes design refusal reads parsed rows
 
-text_rows : {I : Type 0} (corners : Corners I) (held : Option Held) (name bytes : List ℕ) (rows : SdfRows) → ReadsSpef held name (Go bytes) → TextGives corners bytes (Ok rows) → WiresGives corners held name (Go rows)
+text_rows : {I : Type 0} (corners : Corners I) (held : Option Held) (name bytes : List ℕ) (rows : SdfRows) → ReadsSpefFile held name (Go bytes) → TextGives corners bytes (Ok rows) → WiresGives corners held name (Go rows)
 text_rows corners held name bytes rows reads (of_design design answer parsed gives) = with_rows bytes design rows reads parsed gives
 
-pub text_follows : {I : Type 0} (corners : Corners I) (held : Option Held) (name bytes : List ℕ) (result : Result SdfRows (PhaseEnd Refusal FileKey)) → ReadsSpef held name (Go bytes) → Follows (WithoutFile (TextGives corners bytes)) result → Follows (WiresGives corners held name) result
+pub text_follows : {I : Type 0} (corners : Corners I) (held : Option Held) (name bytes : List ℕ) (result : Result SdfRows (PhaseEnd Refusal FileKey)) → ReadsSpefFile held name (Go bytes) → Follows (WithoutFile (TextGives corners bytes)) result → Follows (WiresGives corners held name) result
 text_follows corners held name bytes (Ok rows) reads gives = text_rows corners held name bytes rows reads gives
 text_follows corners held name bytes (Err (phase.Refused refusal)) reads gives = text_refused corners held name bytes refusal reads gives
 text_follows corners held name bytes (Err (phase.ReadFault key)) reads gives = absurd gives

@@ -18,15 +18,15 @@ use Rattle.gdc_run.specs.ArcRows.{arc_edges}
 use Rattle.spef_nets.specs.Sections.{Corners}
 use Rattle.delay_core.specs.LibraryPhases.{ParsesLibrary, ModelsCell}
 use Rattle.gdc_run.specs.Trial.{TrialWork}
-use Rattle.gdc_run.specs.Verdict.{ReadsSpef}
 use Rattle.delay_core.specs.SpefWork.{TextWork, IsWithin}
 use Rattle.gdc_run.proofs.LookupTexts.{ReadsSoleLibrary}
 use Rattle.gdc_run.specs.Work.{WiresWork, no_file, of_file, CellWork, no_model_yet, of_model, LookupWork, no_library, of_library, OutputWork, not_made, of_made, CommandWork, WordsWork, no_words, of_words}
+use Rattle.delay_core.specs.SpefPhases.{ReadsSpefFile}
 
 pub no_file_work : {I : Type 0} (corners : Corners I) (held : Option Held) (name : List ℕ) (steps : ℕ) → IsWithin (WiresWork corners held name) steps steps
 no_file_work corners held name steps = record { work = 0; given = no_file; bound = omega arith }
 
-pub file_work : {I : Type 0} (corners : Corners I) (held : Option Held) (name bytes : List ℕ) (before after : ℕ) → ReadsSpef held name (Go bytes) → IsWithin (TextWork corners bytes) before after → IsWithin (WiresWork corners held name) before after
+pub file_work : {I : Type 0} (corners : Corners I) (held : Option Held) (name bytes : List ℕ) (before after : ℕ) → ReadsSpefFile held name (Go bytes) → IsWithin (TextWork corners bytes) before after → IsWithin (WiresWork corners held name) before after
 file_work corners held name bytes before after reads within = record { work = within.work; given = of_file bytes reads within.given; bound = within.bound }
 
 pub no_cell_work : (corner : ℕ) (name bytes : List ℕ) (steps : ℕ) → IsWithin (CellWork corner name bytes) steps steps

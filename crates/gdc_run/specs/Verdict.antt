@@ -9,7 +9,6 @@ use Rattle.sdf_reader.specs.Causes.{IsFault}
 use Rattle.sdf_reader.specs.declared.ends.SdfCause.{SdfCause}
 use Rattle.sdf_reader.specs.declared.rows.SdfRow.{SdfRow}
 use Rattle.verdict_phases.specs.Phases.{Stop, RefusedBy, Step, Go, Halt}
-use Rattle.verdict_phases.specs.FileReading.{ReadsFile}
 use Rattle.gdc_words.specs.declared.commands.Command.{Command}
 use Rattle.gdc_words.specs.declared.commands.Command.TheVariants.{Wires, Calc, Show, Lookup, Flat, Trial, Help, Version}
 use Rattle.gdc_words.specs.declared.commands.Key.TheVariants as key
@@ -18,13 +17,12 @@ use Rattle.gdc_words.specs.declared.commands.Libraries.TheVariants.{One, EachCor
 use Rattle.gdc_words.specs.declared.faults.UsageFault.{UsageFault}
 use Rattle.delay_core.specs.declared.refusal.FileKey.{FileKey}
 use Rattle.delay_core.specs.declared.refusal.FileKey.TheVariants.{Spef, Sdf}
-use Rattle.delay_core.specs.declared.refusal.LimitKind.TheVariants.{File}
 use Rattle.delay_core.specs.declared.refusal.Refusal.{Refusal}
-use Rattle.delay_core.specs.declared.refusal.Refusal.TheVariants.{Limit, SdfSyntax}
+use Rattle.delay_core.specs.declared.refusal.Refusal.TheVariants.{SdfSyntax}
 use Rattle.gdc_words.specs.CommandLine.{Request, Asks, libraries_of, value_of, pick_from, beyond_from}
 use Rattle.delay_core.specs.DesignReading.{LinkedDesign, ReadsDesign}
-use Rattle.delay_core.specs.InputFiles.{file_limit}
-use Rattle.delay_core.specs.SpefPhases.{sole_corner, DesignNets, ReadsNets}
+use Rattle.delay_core.specs.InputFiles.{ReadsInput}
+use Rattle.delay_core.specs.SpefPhases.{sole_corner, DesignNets, ReadsNets, ReadsSpefFile}
 use Rattle.gdc_words.specs.Decimals.{IsGrains}
 use Rattle.liberty_groups.specs.Groups.{Group}
 use Rattle.nldm_lookup.specs.declared.beyond.Beyond.{Beyond}
@@ -35,29 +33,25 @@ use Rattle.gdc_run.specs.Calculation.{each_corner, files_with, CalcGives}
 use Rattle.gdc_run.specs.Putting.{As}
 use Rattle.gdc_run.specs.Trial.{TrialGives, ReadsTrial}
 use Rattle.delay_core.specs.LibraryPhases.{ParsesLibrary, ModelsCell}
-use Rattle.delay_core.specs.LibraryReading.{library_key, ReadsLibraryFile}
+use Rattle.delay_core.specs.LibraryReading.{library_key}
 use Rattle.gdc_run.specs.declared.arc_rows.ArcRow.{ArcRow}
 use Rattle.delay_core.specs.WireNets.{RowsOf}
 use Rattle.gdc_run.specs.declared.output.Output.{Output}
 use Rattle.gdc_run.specs.declared.output.Output.TheVariants as output
 
--- the phase that reads the SPEF file
-abbrev pub ReadsSpef : Option Held → List ℕ → Step Refusal FileKey (List ℕ) → Type 0
-ReadsSpef held name step = ReadsFile file_limit held Spef (Limit (File Spef)) name step
-
 -- the phase that reads the SDF file
 abbrev pub ReadsSdf : Option Held → List ℕ → Step Refusal FileKey (List ℕ) → Type 0
-ReadsSdf held name step = ReadsFile file_limit held Sdf (Limit (File Sdf)) name step
+ReadsSdf held name step = ReadsInput held Sdf name step
 
 -- `wires`: the SPEF file is read, then its nets at these corners, in its order, and each gives its rows
 pub data WiresGives {I : Type 0} (corners : Corners I) (held : Option Held) (name : List ℕ) : Step Refusal FileKey SdfRows → Type 0 where
-  at_reading : (why : Stop Refusal FileKey) → ReadsSpef held name (Halt why) → WiresGives corners held name (Halt why)
-  at_spef : (bytes : List ℕ) (refusal : Refusal) → ReadsSpef held name (Go bytes) → ReadsNets corners bytes (Err refusal)
+  at_reading : (why : Stop Refusal FileKey) → ReadsSpefFile held name (Halt why) → WiresGives corners held name (Halt why)
+  at_spef : (bytes : List ℕ) (refusal : Refusal) → ReadsSpefFile held name (Go bytes) → ReadsNets corners bytes (Err refusal)
       → WiresGives corners held name (Halt (RefusedBy refusal))
-  at_nets : (bytes : List ℕ) (design : DesignNets) (refusal : Refusal) → ReadsSpef held name (Go bytes)
+  at_nets : (bytes : List ℕ) (design : DesignNets) (refusal : Refusal) → ReadsSpefFile held name (Go bytes)
       → ReadsNets corners bytes (Ok design) → RowsOf corners.count design (Err refusal)
       → WiresGives corners held name (Halt (RefusedBy refusal))
-  with_rows : (bytes : List ℕ) (design : DesignNets) (rows : SdfRows) → ReadsSpef held name (Go bytes)
+  with_rows : (bytes : List ℕ) (design : DesignNets) (rows : SdfRows) → ReadsSpefFile held name (Go bytes)
       → ReadsNets corners bytes (Ok design) → RowsOf corners.count design (Ok rows) → WiresGives corners held name (Go rows)
 
 -- the bytes are an SDF file (IEEE 1497), which says these rows, or its dead token is this one
@@ -75,7 +69,7 @@ pub data ShowGives (held : Option Held) (name : List ℕ) : Step Refusal FileKey
 
 -- the phase that reads the library of a corner, in a run with so many corners
 abbrev pub ReadsLib : ℕ → ℕ → Option Held → List ℕ → Step Refusal FileKey (List ℕ) → Type 0
-ReadsLib corners corner held name step = ReadsLibraryFile held (library_key corners corner) name step
+ReadsLib corners corner held name step = ReadsInput held (library_key corners corner) name step
 
 -- what the bytes of the library of a corner say of the cell of a name at a slew and a load: its grammar is read, then the model of the
 -- cell, and then each of its tables is looked up

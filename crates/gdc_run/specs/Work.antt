@@ -9,7 +9,7 @@ use Rattle.gdc_words.specs.declared.commands.Key.TheVariants as key
 use Rattle.gdc_words.specs.declared.commands.Libraries.{Libraries}
 use Rattle.gdc_words.specs.declared.commands.Libraries.TheVariants.{One, EachCorner}
 use Rattle.gdc_words.specs.CommandLine.{Request, Asks, libraries_of, value_of, pick_from}
-use Rattle.delay_core.specs.SpefPhases.{sole_corner}
+use Rattle.delay_core.specs.SpefPhases.{sole_corner, ReadsSpefFile}
 use Rattle.gdc_run.specs.declared.outcome.Outcome.{Outcome}
 use Rattle.gdc_run.specs.declared.outcome.Outcome.TheVariants as outcome
 use Rattle.gdc_run.specs.declared.top.End.{End}
@@ -17,7 +17,7 @@ use Rattle.gdc_run.specs.declared.top.End.TheVariants as end
 use Rattle.delay_core.specs.SpefWork.{TextWork, is_early}
 use Rattle.gdc_run.specs.Calculation.{each_corner, files_with, CalcWork}
 use Rattle.gdc_run.specs.Trial.{TrialWork, ReadsTrial}
-use Rattle.gdc_run.specs.Verdict.{ReadsSpef, ReadsLib}
+use Rattle.gdc_run.specs.Verdict.{ReadsLib}
 use Rattle.liberty_groups.specs.Groups.{Group}
 use Rattle.cell_models.specs.Cells.{TimedCell}
 use Rattle.spef_nets.specs.Sections.{Corners}
@@ -27,7 +27,7 @@ use Rattle.delay_core.specs.LibraryPhases.{ParsesLibrary, ModelsCell}
 -- the work of `wires` at these corners: none before the SPEF file is read, and then that of its bytes
 pub data WiresWork {I : Type 0} (corners : Corners I) (held : Option Held) (name : List ℕ) : ℕ → Type 0 where
   no_file : WiresWork corners held name 0
-  of_file : {work : ℕ} (bytes : List ℕ) → ReadsSpef held name (Go bytes) → TextWork corners bytes work → WiresWork corners held name work
+  of_file : {work : ℕ} (bytes : List ℕ) → ReadsSpefFile held name (Go bytes) → TextWork corners bytes work → WiresWork corners held name work
 
 -- the work of the bytes of the library of a corner: none before the model of the cell is made, and then 64 steps at the most for each
 -- edge of its arcs

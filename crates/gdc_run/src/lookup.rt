@@ -5,17 +5,16 @@ ghost use Rattle.edge_io.specs.Holding.{TellsMissing};
 ghost use Rattle.verdict_phases.specs.Phases.{Follows, FollowsNoFile};
 ghost use Rattle.delay_core.specs.Refused.{AtReadFault, OnRefusal, WithoutFile};
 ghost use Rattle.delay_core.specs.declared.refusal.FileKey.TheVariants.{Lib};
-ghost use Rattle.delay_core.specs.LibraryReading.{ReadsLibraryFile};
 ghost use Rattle.gdc_run.specs.Verdict.{ReadsArcs, LookupGives};
 ghost use Rattle.delay_core.specs.SpefWork.{IsWithin, OnEarly, is_early};
 ghost use Rattle.gdc_run.specs.Work.{CellWork, LookupWork};
 
 use crate::arc_rows::{ArcRows, Point, arc_rows};
-use delay_core::{FILE_LIMIT, FileKey, LimitKind, Refusal, model_cell, parse_library};
+use delay_core::{FileKey, Refusal, model_cell, parse_library, read_input};
 use edge_io::{Shelf, Steps, Text};
 use std::alloc::Global;
 use std::sync::ledger::Ledger;
-use verdict_phases::{NoFileEnd, PhaseEnd, read_phase};
+use verdict_phases::{NoFileEnd, PhaseEnd};
 
 // The number of the corner of a run with one library.
 const SOLE_CORNER: usize = 0;
@@ -37,21 +36,6 @@ fn arc_rows_of_library<L: Ledger>(
     let tree = parse_library(alloc, SOLE_CORNER, text.bytes())?;
     let model = model_cell(alloc, SOLE_CORNER, &tree, cell)?;
     arc_rows(alloc, cell, &model, SOLE_CORNER, at, steps)
-}
-
-// The text of the one library of that name.
-fn read_library_text<H: Shelf>(
-    alloc: Global,
-    shelf: &mut H,
-    library: &Text,
-) -> Result<Text, PhaseEnd<Refusal, FileKey>>
-    ensures follows { Follows (ReadsLibraryFile (H.held shelf.old) Lib library.now) result }
-    ensures fault { AtReadFault result (λ key. (key ≡ Lib)
-        × (Rose (H.faults shelf.old) (H.faults shelf.new) ⊎ TellsMissing (H.held shelf.old) library.now)) }
-    ensures opens { RoseBy 1 (H.opens shelf.old) (H.opens shelf.new) }
-{
-    let too_long = Refusal::Limit(LimitKind::File(FileKey::Lib));
-    read_phase(alloc, shelf, library, FILE_LIMIT, FileKey::Lib, too_long)
 }
 
 // The rows of the cell of that name in a library's text, at a point. No file is read here, so no end is a read fault.
@@ -89,6 +73,6 @@ pub fn lookup<H: Shelf, L: Ledger>(
     ensures steps { IsWithin (LookupWork 1 0 (H.held shelf.old) library.now cell.now) steps.old steps.new }
     ensures no_steps { OnEarly result (steps.new ≡ steps.old) }
 {
-    let text = read_library_text(alloc, shelf, library)?;
+    let text = read_input(alloc, shelf, library, FileKey::Lib)?;
     arc_rows_of_text(alloc, text, cell, at, steps)
 }

@@ -7,11 +7,11 @@ ghost use Rattle.delay_core.specs.Refused.{AtReadFault};
 ghost use Rattle.gdc_run.specs.Verdict.{ParsesSdf, ShowGives};
 ghost use Rattle.delay_core.specs.declared.refusal.FileKey.TheVariants.{Sdf};
 
-use delay_core::{FILE_LIMIT, FileKey, LimitKind, Refusal};
+use delay_core::{FileKey, Refusal, read_input};
 use edge_io::{Shelf, Text};
 use sdf_reader::{SdfEnd, SdfRows, read};
 use std::alloc::Global;
-use verdict_phases::{NoFileEnd, PhaseEnd, read_phase};
+use verdict_phases::{NoFileEnd, PhaseEnd};
 
 /// Reads the grammar of an SDF file.
 #[tactic(auto, using(crate::specs::Verdict::is_sdf_file, crate::specs::Verdict::is_no_sdf_file))]
@@ -40,8 +40,7 @@ pub fn show<H: Shelf>(
         × (Rose (H.faults shelf.old) (H.faults shelf.new) ⊎ TellsMissing (H.held shelf.old) name.now)) }
     ensures opens { RoseBy 1 (H.opens shelf.old) (H.opens shelf.new) }
 {
-    let too_long = Refusal::Limit(LimitKind::File(FileKey::Sdf));
-    let text = read_phase(alloc, shelf, name, FILE_LIMIT, FileKey::Sdf, too_long)?;
+    let text = read_input(alloc, shelf, name, FileKey::Sdf)?;
     let rows = parse_sdf(alloc, text.bytes())?;
     Ok(rows)
 }

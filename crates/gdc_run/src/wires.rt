@@ -5,34 +5,19 @@ ghost use Rattle.edge_io.specs.Holding.{TellsMissing};
 ghost use Rattle.verdict_phases.specs.Phases.{Follows};
 ghost use Rattle.delay_core.specs.Refused.{AtReadFault, WithoutFile};
 ghost use Rattle.delay_core.specs.declared.refusal.FileKey.TheVariants.{Spef};
-ghost use Rattle.gdc_run.specs.Verdict.{ReadsSpef, WiresGives};
+ghost use Rattle.gdc_run.specs.Verdict.{WiresGives};
 ghost use Rattle.delay_core.specs.SpefPhases.{sole_corner};
 ghost use Rattle.delay_core.specs.SpefWork.{TextWork, IsWithin, OnEarly};
 ghost use Rattle.delay_core.specs.WireRows.{TextGives};
 ghost use Rattle.gdc_run.specs.Work.{WiresWork};
 
 use corner_set::{Pick, Single};
-use delay_core::{FILE_LIMIT, FileKey, LimitKind, Refusal, wire_rows_of_file};
+use delay_core::{FileKey, Refusal, read_input, wire_rows_of_file};
 use edge_io::{Shelf, Steps, Text};
 use sdf_writer::Rows;
 use std::alloc::Global;
 use std::sync::ledger::Ledger;
-use verdict_phases::{PhaseEnd, read_phase};
-
-// The text of the SPEF file of that name.
-fn read_spef<H: Shelf>(
-    alloc: Global,
-    shelf: &mut H,
-    name: &Text,
-) -> Result<Text, PhaseEnd<Refusal, FileKey>>
-    ensures follows { Follows (ReadsSpef (H.held shelf.old) name.now) result }
-    ensures fault { AtReadFault result (λ key. (key ≡ Spef)
-        × (Rose (H.faults shelf.old) (H.faults shelf.new) ⊎ TellsMissing (H.held shelf.old) name.now)) }
-    ensures opens { RoseBy 1 (H.opens shelf.old) (H.opens shelf.new) }
-{
-    let too_long = Refusal::Limit(LimitKind::File(FileKey::Spef));
-    read_phase(alloc, shelf, name, FILE_LIMIT, FileKey::Spef, too_long)
-}
+use verdict_phases::PhaseEnd;
 
 // The rows of the wires of a SPEF file's text, where this member of each triple counts. No file is read here, so no end is a read fault.
 fn wires_of_text<L: Ledger>(
@@ -66,6 +51,6 @@ pub fn wires<H: Shelf, L: Ledger>(
     ensures steps { IsWithin (WiresWork (sole_corner pick) (H.held shelf.old) name.now) steps.old steps.new }
     ensures no_steps { OnEarly result (steps.new ≡ steps.old) }
 {
-    let text = read_spef(alloc, shelf, name)?;
+    let text = read_input(alloc, shelf, name, FileKey::Spef)?;
     wires_of_text(alloc, text, pick, steps)
 }
