@@ -1,5 +1,5 @@
 //! The keywords of SPEF.
-ghost use Rattle.std.specs.Prelude.{◌≡◌, map, None, if◌then◌else◌};
+ghost use Rattle.std.specs.Prelude.{◌≡◌, map, None, if◌then◌else◌, IfSome, Some};
 ghost use Rattle.spef_text.specs.Classes.{word_of, keywords, lookup, is_top, is_tight, lone_word, sifted_word};
 
 use edge_io::are_equal;
@@ -117,14 +117,32 @@ fn lone_word(letter: u8) -> Option<Word>
     }
 }
 
+/// The keyword of more letters that stands in each net, if it is one of these.
+#[inline]
+fn net_word(text: &[u8]) -> Option<Word>
+    ensures { IfSome result (λ word. lookup keywords text.now ≡ Some word) }
+{
+    match text {
+        b"*END" => Some(Word::End),
+        b"*CAP" => Some(Word::Cap),
+        b"*RES" => Some(Word::Res),
+        b"*CONN" => Some(Word::Conn),
+        b"*D_NET" => Some(Word::Net),
+        _ => None,
+    }
+}
+
+/// What stands in the table beside a text that may be a keyword. Where it stands in each net, no entry is looked at.
 #[inline]
 fn listed_word(begins: bool, text: &[u8]) -> Option<Word>
     ensures { result ≡ (if begins then lookup keywords text.now else None) }
 {
-    if begins {
-        look_up(&KEYWORDS, text)
-    } else {
-        None
+    if !begins {
+        return None;
+    }
+    match net_word(text) {
+        Some(word) => Some(word),
+        None => look_up(&KEYWORDS, text),
     }
 }
 
