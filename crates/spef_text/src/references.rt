@@ -128,6 +128,7 @@ fn written_mapped<'w>(
 }
 
 // The name of the entry at that place, if its index has these digits.
+#[inline(always)]
 fn name_there<'f>(file: &'f SpefFile<'_>, place: usize, digits: &[u8]) -> Option<&'f [u8]>
     ensures mapped { IfSome result (λ name. IsMapped file.now digits.now name.now) }
     ensures unlike { IfNone result ((entry : MapEntry) → slice_get file.now.reading.head.map place ≡ Some entry
@@ -142,6 +143,7 @@ fn name_there<'f>(file: &'f SpefFile<'_>, place: usize, digits: &[u8]) -> Option
 }
 
 // The name of an index by its digits, if the map has it. All entries are looked through.
+#[inline(never)]
 fn name_among<'f>(file: &'f SpefFile<'_>, digits: &[u8]) -> Option<&'f [u8]>
     ensures mapped { IfSome result (λ name. IsMapped file.now digits.now name.now) }
     ensures unknown { IfNone result ((name : List ℕ) → IsMapped file.now digits.now name → ⊥) }
@@ -157,6 +159,7 @@ fn name_among<'f>(file: &'f SpefFile<'_>, digits: &[u8]) -> Option<&'f [u8]>
 impl Head {
     // The name that an index stands for, if the map has it. An index that it does not have is a refusal of the file, so all entries are
     // looked through for a refusal alone.
+    #[inline(always)]
     fn name_of<'f>(&self, file: &'f SpefFile<'_>, index: &[u8]) -> Option<&'f [u8]>
         ensures mapped { IfSome result (λ name. IsMapped file.now (index_digits index.now) name.now) }
         ensures unknown { IfNone result ((name : List ℕ) → IsMapped file.now (index_digits index.now) name → ⊥) }
