@@ -259,6 +259,7 @@ impl<'r, 'f> WrittenNames<'r, 'f> {
 
     /// The head and the tail of the node that a token names, cut as [`resolve`](Head::resolve) cuts it, where both stand in the file as
     /// they are written. It takes no memory, and at most one look-up in the map.
+    #[inline(always)]
     pub fn name(&mut self, token: u64, cut: bool) -> Option<WrittenName<'r>>
         ensures name { IfSome result (NamesAsWritten self.old.file cut (text_of self.old.file token)) }
         ensures same { self.new ≡ self.old }
