@@ -1,30 +1,46 @@
 -- The cells of paths, as the pieces that the code pushes.
-use Rattle.std.proofs.Common.{◌≡◌, Bool, true, false, if◌then◌else◌, List, ℕ, [], ◌∷◌, ◌++◌, map, flat_map, Option, codes, refl, sym, ap, ap₂, ◌∙◌}
+use Rattle.std.proofs.Common.{◌≡◌, Bool, true, false, if◌then◌else◌, List, ℕ, [], ◌∷◌, ◌++◌, map, flat_map, Option, None, Some, codes, refl, sym, ap, ap₂, ◌∙◌}
 use Rattle.std.proofs.lemmas.List.{append_assoc, append-nil}
 use Rattle.std.proofs.lemmas.List.Folds.{flat_map-map}
 use Rattle.std.proofs.lemmas.Grind.{flat_map-append}
 use Rattle.delay_units.specs.declared.Femto.{Femto}
-use Rattle.sdf_writer.specs.SdfText.{PathRow, quoted, path_line, same_cell, before_cells, cells_of, cell_opening, cell_closing, cell_lines, lines_text}
-use Rattle.sdf_writer.specs.PathRows.{Cell, cell_of, is_same, path_text, line_text, opening_text, closing_text, between_text, rest_text, cells_text}
+use Rattle.sdf_writer.specs.SdfText.{PathRow, escaped, edge_text, path_line, same_cell, before_cells, cells_of, cell_opening, cell_closing, cell_lines, lines_text}
+use Rattle.sdf_writer.specs.PathRows.{Cell, cell_of, is_same, path_text, names_text, times_text, line_text, opening_text, closing_text, between_text, rest_text, cells_text}
 
--- the line of a path is its names and its values
+-- the line of a path with these values
+abbrev names_values : List ℕ → List ℕ → List ℕ → List ℕ → List ℕ
+names_values from to rise fall =
+    (codes "(IOPATH " ++ (from ++ (codes " " ++ (to ++ (codes " " ++ (rise ++ (codes " " ++ (fall ++ codes ")")))))))) ++ 10 ∷ []
+
+-- an edge is its times in parentheses
+edge_parts : (edge : Option (List Femto)) → edge_text edge ≡ 40 ∷ (times_text edge ++ 41 ∷ [])
+edge_parts None = refl
+edge_parts (Some delay) = refl
+
+lists_of : (from to rise fall : List ℕ) → names_values from to (40 ∷ (rise ++ 41 ∷ [])) (40 ∷ (fall ++ 41 ∷ [])) ≡ names_text from to ++ (rise ++ (codes ") (" ++ (fall ++ 41 ∷ 41 ∷ 10 ∷ [])))
+lists_of from to rise fall = simp append_assoc
+
+edges_of : (from to : List ℕ) (rise fall : Option (List Femto)) → names_values from to (edge_text rise) (edge_text fall) ≡ line_text from to rise fall
+edges_of from to rise fall = ap₂ (names_values from to) (edge_parts rise) (edge_parts fall) ∙ lists_of from to (times_text rise) (times_text fall)
+
+-- the line of a path is its names and its times
 pub path_parts : (row : PathRow) → path_text row ≡ line_text row.from row.to row.rise row.fall
-path_parts row = simp append_assoc
+path_parts row = edges_of row.from row.to row.rise row.fall
 
 -- up to the type of a cell, from there up to its instance, and from there up to its paths
 abbrev pub before_kind : List ℕ
-before_kind = lines_text (codes "(CELL" ∷ []) ++ codes "(CELLTYPE "
+before_kind = lines_text (codes "(CELL" ∷ []) ++ codes "(CELLTYPE \""
 
 abbrev pub before_instance : List ℕ
-before_instance = codes ")" ++ 10 ∷ codes "(INSTANCE "
+before_instance = codes "\")" ++ 10 ∷ codes "(INSTANCE "
 
 abbrev pub before_paths : List ℕ
 before_paths = codes ")" ++ 10 ∷ lines_text (codes "(DELAY" ∷ codes "(ABSOLUTE" ∷ [])
 
-opening_of : (kind instance : List ℕ) → lines_text (cell_opening kind instance) ≡ before_kind ++ (quoted kind ++ (before_instance ++ (instance ++ before_paths)))
+opening_of : (kind instance : List ℕ) → lines_text (cell_opening kind instance) ≡ before_kind ++ (flat_map escaped kind ++ (before_instance ++ (instance ++ before_paths)))
 opening_of kind instance = simp append_assoc
 
-pub opening_parts : (cell : Cell) {kind instance : List ℕ} → kind ≡ cell.kind → instance ≡ cell.instance → opening_text cell ≡ before_kind ++ (quoted kind ++ (before_instance ++ (instance ++ before_paths)))
+pub opening_parts : (cell : Cell) {kind instance : List ℕ} → kind ≡ cell.kind → instance ≡ cell.instance → opening_text cell ≡ before_kind ++ (flat_map escaped kind ++ (before_instance ++ (instance ++ before_paths)))
 opening_parts cell e f = rw (e, f) (opening_of cell.kind cell.instance)
 
 -- ---- paths by their cells

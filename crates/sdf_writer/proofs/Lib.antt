@@ -1,5 +1,6 @@
 mod Lines
 mod CellTexts
+mod Escaping
 mod Remaining
 mod PathsLeft
 mod Within

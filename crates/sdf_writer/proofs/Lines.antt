@@ -6,7 +6,7 @@ use Rattle.std.proofs.lemmas.List.Folds.{flat_map-map}
 use Rattle.std.proofs.lemmas.Grind.{flat_map-append}
 use Rattle.delay_units.specs.declared.Femto.{Femto}
 use Rattle.delay_units.specs.Printing.{femto_text}
-use Rattle.sdf_writer.specs.SdfText.{WireRow, PathRow, SdfRows, quoted, value_text, wire_line, delay_lines, cells_of, cell_lines, opening_lines, lines_text, sdf_text}
+use Rattle.sdf_writer.specs.SdfText.{WireRow, PathRow, SdfRows, quoted, wire_line, delay_lines, cells_of, cell_lines, opening_lines, lines_text, sdf_text}
 use Rattle.sdf_writer.specs.PathRows.{cells_text}
 use Rattle.sdf_writer.specs.WireRows.{wire_rows, wire_text, wires_text}
 use Rattle.sdf_writer.specs.declared.rows.Wire.{Wire}
@@ -33,7 +33,7 @@ opening_end = codes ")" ++ 10 ∷ (codes "(INSTANCE)" ++ 10 ∷ [])
 pub opening_parts : (design : List ℕ) → lines_text (opening_lines design) ≡ head ++ (quoted design ++ (middle ++ (quoted design ++ opening_end)))
 opening_parts design = simp append_assoc
 
-pub wire_text_parts : (from to : List ℕ) (delay : List Femto) → wire_text (record { from = from; to = to; delay = delay }) ≡ codes "(INTERCONNECT " ++ (from ++ (32 ∷ [] ++ (to ++ (32 ∷ [] ++ (value_text delay ++ 41 ∷ 10 ∷ [])))))
+pub wire_text_parts : (from to : List ℕ) (delay : List Femto) → wire_text (record { from = from; to = to; delay = delay }) ≡ codes "(INTERCONNECT " ++ (from ++ (32 ∷ [] ++ (to ++ (codes " (" ++ (join_with_byte 58 (map femto_text delay) ++ 41 ∷ 41 ∷ 10 ∷ [])))))
 wire_text_parts from to delay = simp append_assoc
 
 -- the lines of wires

@@ -1,4 +1,5 @@
 pub mod SdfText
+pub mod Escapes
 pub mod Bounds
 pub mod Names
 pub mod WireRows

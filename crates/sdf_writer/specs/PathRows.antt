@@ -1,13 +1,14 @@
 -- How rows of paths are kept: each cell once for the paths of it that stand together, names by number, and all times in one list.
 use Rattle.std.specs.Prelude.{◌≡◌, ℕ, ◌+◌, ◌<◌, ◌≤◌, Bool, ◌&&◌, if◌then◌else◌, List, [], ◌∷◌, ◌++◌, map, length, get_or, take, drop, Option, Some, None, codes, ⊤}
-use Rattle.std.specs.List.{All, flat_map}
+use Rattle.std.specs.List.{All, flat_map, join_with_byte}
 use Rattle.std.specs.Str.{bytes_eq}
 use Rattle.std.proofs.Common.{Bor}
 use Rattle.corner_set.specs.Grids.{GridOf}
 use Rattle.delay_units.specs.declared.Femto.{Femto}
+use Rattle.delay_units.specs.Printing.{femto_text}
 use Rattle.sdf_writer.specs.Bounds.{AreWithin}
 use Rattle.sdf_writer.specs.Names.{name_at, KeepsName}
-use Rattle.sdf_writer.specs.SdfText.{PathRow, edge_text, path_line, cells_of, cell_opening, cell_closing, cell_lines, lines_text}
+use Rattle.sdf_writer.specs.SdfText.{PathRow, path_line, cells_of, cell_opening, cell_closing, cell_lines, lines_text}
 use Rattle.sdf_writer.specs.declared.paths.KeptCell.{KeptCell}
 use Rattle.sdf_writer.specs.declared.paths.Path.{Path}
 
@@ -121,10 +122,15 @@ path_text row = path_line row ++ 10 ∷ []
 
 -- the parts of that line
 abbrev pub names_text : List ℕ → List ℕ → List ℕ
-names_text from to = codes "(IOPATH " ++ (from ++ (32 ∷ [] ++ (to ++ 32 ∷ [])))
+names_text from to = codes "(IOPATH " ++ (from ++ (32 ∷ [] ++ (to ++ codes " (")))
+
+-- what stands between the parentheses of an edge
+abbrev pub times_text : Option (List Femto) → List ℕ
+times_text None = []
+times_text (Some delay) = join_with_byte 58 (map femto_text delay)
 
 abbrev pub line_text : List ℕ → List ℕ → Option (List Femto) → Option (List Femto) → List ℕ
-line_text from to rise fall = names_text from to ++ (edge_text rise ++ (32 ∷ [] ++ (edge_text fall ++ 41 ∷ 10 ∷ [])))
+line_text from to rise fall = names_text from to ++ (times_text rise ++ (codes ") (" ++ (times_text fall ++ 41 ∷ 41 ∷ 10 ∷ [])))
 
 abbrev pub opening_text : Cell → List ℕ
 opening_text cell = lines_text (cell_opening cell.kind cell.instance)

@@ -3,14 +3,13 @@ ghost use Rattle.std.specs.Prelude.{◌<◌, ◌++◌, length};
 ghost use Rattle.std.specs.List.{All};
 ghost use Rattle.sdf_writer.specs.Bounds.{AreWithin};
 ghost use Rattle.edge_io.specs.Gathering.{Pushes};
-ghost use Rattle.sdf_writer.specs.SdfText.{edge_text};
 ghost use Rattle.sdf_writer.specs.Names.{name_at};
-ghost use Rattle.sdf_writer.specs.PathRows.{cell_of_names, cell_at, edge_at, path_row, path_rows, IsCellKept, IsEdgeKept, IsKept, names_text, line_text, opening_text, between_text, next_text, rest_text, cells_text};
+ghost use Rattle.sdf_writer.specs.PathRows.{cell_of_names, cell_at, edge_at, path_row, path_rows, IsCellKept, IsEdgeKept, IsKept, names_text, times_text, line_text, opening_text, between_text, next_text, rest_text, cells_text};
 
 use crate::names::name;
 use crate::paths::{KeptCell, Path, Paths, is_cell};
-use crate::text::write_quoted;
-use crate::values::write_value;
+use crate::text::write_escaped;
+use crate::values::write_numbers;
 use corner_set::CornerSet;
 use delay_units::Femto;
 use edge_io::{Failed, Sink, WaitingBytes};
@@ -143,9 +142,9 @@ fn write_opening<O: Sink>(
 {
     let kind = name(names, cell.kind);
     let instance = name(names, cell.instance);
-    buffer.push(sink, b"(CELL\n(CELLTYPE ")?;
-    write_quoted(buffer, sink, kind)?;
-    buffer.push(sink, b")\n(INSTANCE ")?;
+    buffer.push(sink, b"(CELL\n(CELLTYPE \"")?;
+    write_escaped(buffer, sink, kind)?;
+    buffer.push(sink, b"\")\n(INSTANCE ")?;
     buffer.push(sink, instance)?;
     buffer.push(sink, b")\n(DELAY\n(ABSOLUTE\n")?;
     Ok(())
@@ -169,14 +168,14 @@ fn write_path<C: CornerSet, O: Sink>(
         (O.written sink.old) (O.written sink.new) (O.faults sink.old) (O.faults sink.new) result }
 {
     write_names(buffer, sink, name(names, path.from), name(names, path.to))?;
-    write_edge::<C, O>(buffer, sink, times, path.rise)?;
-    buffer.push(sink, b" ")?;
-    write_edge::<C, O>(buffer, sink, times, path.fall)?;
-    buffer.push(sink, b")\n")?;
+    write_times::<C, O>(buffer, sink, times, path.rise)?;
+    buffer.push(sink, b") (")?;
+    write_times::<C, O>(buffer, sink, times, path.fall)?;
+    buffer.push(sink, b"))\n")?;
     Ok(())
 }
 
-// The names of a path's pins.
+// The names of a path's pins, up to the times of its rise.
 fn write_names<O: Sink>(
     buffer: &mut WaitingBytes,
     sink: &mut O,
@@ -190,12 +189,12 @@ fn write_names<O: Sink>(
     buffer.push(sink, from)?;
     buffer.push(sink, b" ")?;
     buffer.push(sink, to)?;
-    buffer.push(sink, b" ")?;
+    buffer.push(sink, b" (")?;
     Ok(())
 }
 
-// The value of an edge whose times begin at a place.
-fn write_edge<C: CornerSet, O: Sink>(
+// The times of an edge that begin at a place, without their parentheses.
+fn write_times<C: CornerSet, O: Sink>(
     buffer: &mut WaitingBytes,
     sink: &mut O,
     times: &[Femto],
@@ -203,11 +202,11 @@ fn write_edge<C: CornerSet, O: Sink>(
 ) -> Result<(), Failed>
     requires kept { IsEdgeKept C.COUNT (length times.now) edge }
     requires within { AreWithin times.now }
-    ensures pushes { Pushes (buffer.old ++ edge_text (edge_at C.COUNT times.now edge)) buffer.new
+    ensures pushes { Pushes (buffer.old ++ times_text (edge_at C.COUNT times.now edge)) buffer.new
         (O.written sink.old) (O.written sink.new) (O.faults sink.old) (O.faults sink.new) result }
 {
     match edge {
-        None => buffer.push(sink, b"()"),
-        Some(place) => write_value(buffer, sink, &times[place..place + C::COUNT]),
+        None => Ok(()),
+        Some(place) => write_numbers(buffer, sink, &times[place..place + C::COUNT]),
     }
 }

@@ -8,7 +8,7 @@ ghost use Rattle.sdf_writer.specs.WireRows.{IsWireKept, wire_rows, wire_text, wi
 
 use crate::names::name;
 use crate::rows::Wire;
-use crate::values::write_value;
+use crate::values::write_numbers;
 use corner_set::CornerSet;
 use delay_units::Femto;
 use edge_io::{Failed, Sink, WaitingBytes};
@@ -78,8 +78,8 @@ fn write_wire<O: Sink>(
     buffer.push(sink, from)?;
     buffer.push(sink, b" ")?;
     buffer.push(sink, to)?;
-    buffer.push(sink, b" ")?;
-    write_value(buffer, sink, delay)?;
-    buffer.push(sink, b")\n")?;
+    buffer.push(sink, b" (")?;
+    write_numbers(buffer, sink, delay)?;
+    buffer.push(sink, b"))\n")?;
     Ok(())
 }

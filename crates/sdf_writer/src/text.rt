@@ -2,9 +2,10 @@
 ghost use Rattle.std.specs.Prelude.{◌≡◌, ◌*◌, [], ◌∷◌, ◌++◌, length, flat_map, codes};
 ghost use Rattle.edge_io.specs.Writing.{Writes};
 ghost use Rattle.sdf_writer.specs.SdfText.{escaped, quoted, lines_text, opening_lines, sdf_text};
+ghost use Rattle.sdf_writer.specs.Escapes.{is_escaped};
 ghost use Rattle.sdf_writer.specs.Bounds.{AreWithin};
 ghost use Rattle.edge_io.specs.Gathering.{Pushes};
-ghost use Rattle.std.specs.List.{All};
+ghost use Rattle.std.specs.List.{All, list_any};
 ghost use Rattle.sdf_writer.specs.WireRows.{IsWireKept, wire_rows};
 
 use crate::cells::write_cells;
@@ -89,11 +90,7 @@ fn write_opening<O: Sink>(
 }
 
 // A text in quotation marks.
-pub(crate) fn write_quoted<O: Sink>(
-    buffer: &mut WaitingBytes,
-    sink: &mut O,
-    text: &[u8],
-) -> Result<(), Failed>
+fn write_quoted<O: Sink>(buffer: &mut WaitingBytes, sink: &mut O, text: &[u8]) -> Result<(), Failed>
     ensures pushes { Pushes (buffer.old ++ quoted text.now) buffer.new
         (O.written sink.old) (O.written sink.new) (O.faults sink.old) (O.faults sink.new) result }
 {
@@ -103,8 +100,39 @@ pub(crate) fn write_quoted<O: Sink>(
     Ok(())
 }
 
-// The bytes of a text within quotation marks.
-fn write_escaped<O: Sink>(
+// Whether a byte has a backslash before it within quotation marks.
+#[inline]
+fn is_escaped(byte: u8) -> bool
+    ensures { result ≡ is_escaped byte }
+{
+    byte == b'"' || byte == b'\\'
+}
+
+#[inline]
+fn has_escaped(text: &[u8]) -> bool
+    ensures { result ≡ list_any is_escaped text.now }
+{
+    text.iter().any(|byte| is_escaped(*byte))
+}
+
+// The bytes of a text within quotation marks. Most texts have none that is escaped, and are pushed as they are.
+pub(crate) fn write_escaped<O: Sink>(
+    buffer: &mut WaitingBytes,
+    sink: &mut O,
+    text: &[u8],
+) -> Result<(), Failed>
+    ensures pushes { Pushes (buffer.old ++ flat_map escaped text.now) buffer.new
+        (O.written sink.old) (O.written sink.new) (O.faults sink.old) (O.faults sink.new) result }
+{
+    if has_escaped(text) {
+        write_each_escaped(buffer, sink, text)
+    } else {
+        buffer.push(sink, text)
+    }
+}
+
+// The same, byte by byte.
+fn write_each_escaped<O: Sink>(
     buffer: &mut WaitingBytes,
     sink: &mut O,
     text: &[u8],
@@ -126,7 +154,7 @@ fn write_escaped_byte<O: Sink>(
     ensures pushes { Pushes (buffer.old ++ escaped byte) buffer.new
         (O.written sink.old) (O.written sink.new) (O.faults sink.old) (O.faults sink.new) result }
 {
-    if byte == b'"' || byte == b'\\' {
+    if is_escaped(byte) {
         buffer.push(sink, &[b'\\', byte])?;
     } else {
         buffer.push(sink, &[byte])?;

@@ -4,28 +4,12 @@ ghost use Rattle.std.specs.List.{join_with_byte};
 ghost use Rattle.delay_units.specs.Printing.{femto_text};
 ghost use Rattle.sdf_writer.specs.Bounds.{AreWithin};
 ghost use Rattle.edge_io.specs.Gathering.{Pushes};
-ghost use Rattle.sdf_writer.specs.SdfText.{value_text};
 
 use delay_units::{Femto, Text32, write_femto};
 use edge_io::{Failed, Sink, WaitingBytes};
 
-// The numbers in parentheses, parted by colons.
-pub(crate) fn write_value<O: Sink>(
-    buffer: &mut WaitingBytes,
-    sink: &mut O,
-    delay: &[Femto],
-) -> Result<(), Failed>
-    requires within { AreWithin delay.now }
-    ensures pushes { Pushes (buffer.old ++ value_text delay.now) buffer.new
-        (O.written sink.old) (O.written sink.new) (O.faults sink.old) (O.faults sink.new) result }
-{
-    buffer.push(sink, b"(")?;
-    write_numbers(buffer, sink, delay)?;
-    buffer.push(sink, b")")?;
-    Ok(())
-}
-
-fn write_numbers<O: Sink>(
+// The numbers, parted by colons.
+pub(crate) fn write_numbers<O: Sink>(
     buffer: &mut WaitingBytes,
     sink: &mut O,
     delay: &[Femto],

@@ -1,7 +1,7 @@
 use Rattle.std.proofs.Common.{◌++◌, flat_map, take, Ok}
 use Rattle.edge_io.specs.Gathering.{Pushes}
 use Rattle.sdf_writer.specs.SdfText.{escaped}
-use Rattle.sdf_writer.proofs.text.write_escaped.Given as goal
+use Rattle.sdf_writer.proofs.text.write_each_escaped.Given as goal
 
 -- the bytes before this one are pushed
 abbrev pub invariant-loop-byte : goal.invariant-loop-byte

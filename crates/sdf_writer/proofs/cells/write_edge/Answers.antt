@@ -1,7 +1,0 @@
--- The times of an edge are within the bound.
-use Rattle.std.proofs.Common.{drop}
-use Rattle.sdf_writer.proofs.Within.{within_take, within_drop}
-use Rattle.sdf_writer.proofs.cells.write_edge.Goals as goal
-
-pub write_value-requires : goal.write_value-requires
-write_value-requires g c = record { within = within_take _ (drop c.in-Some.place c.args.times.now) (within_drop c.in-Some.place c.args.times.now c.requires.within) }
