@@ -69,7 +69,7 @@ some_parts Atto = omega arith
 some_parts Femto = omega arith
 
 -- between the points of both axes, or at their edges, a value is no larger than those of the table
-within_time : (table : TimingTable) (grain : Grain) (on_slew on_load : Between) (rounded : ℤ) → AreWeights on_slew → AreWeights on_load → pos 1 ≤ℤ width on_slew → pos 1 ≤ℤ width on_load
+pub within_time : (table : TimingTable) (grain : Grain) (on_slew on_load : Between) (rounded : ℤ) → AreWeights on_slew → AreWeights on_load → pos 1 ≤ℤ width on_slew → pos 1 ≤ℤ width on_load
     → unsigned_abs (weighed table on_slew on_load) ≤ most * size_of on_load * size_of on_slew
     → IsRounding (weighed table on_slew on_load) ((width on_slew *ℤ width on_load) *ℤ pos (attos_in grain)) rounded → unsigned_abs rounded ≤ most_in grain
 within_time table grain on_slew on_load rounded a b some_slew some_load small rounds =

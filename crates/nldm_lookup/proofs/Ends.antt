@@ -89,6 +89,13 @@ not_extended points quantity beyond between other (inside around) = weights_betw
 not_extended points quantity beyond between other (edge {passed = end} past around) = weights_between points end between around
 not_extended points quantity beyond between other (extend past around) = absurd (other refl)
 
+-- where no end is passed neither
+pub not_passed : (points : List ℕ) (quantity : ℕ) (beyond : Beyond) (between : Between) → ¬ IsPassed points quantity → IsBetween points quantity beyond between → AreWeights between
+not_passed points quantity beyond between within (sole one) = record { low = omega (arith, ints); high = omega (arith, ints) }
+not_passed points quantity beyond between within (inside around) = weights_between points quantity between around
+not_passed points quantity beyond between within (edge {passed = end} past around) = absurd (within (record { passed = end; past = past }))
+not_passed points quantity beyond between within (extend {passed = end} past around) = absurd (within (record { passed = end; past = past }))
+
 width_between : (points : List ℕ) (near at : ℕ) (between : Between) → IsAxis points → AreNeighbours points near at between → pos 1 ≤ℤ width between
 width_between points near at between axis (neighbours place lower upper p q a b) = omega (arith, ints, rises points place lower upper axis p q)
 

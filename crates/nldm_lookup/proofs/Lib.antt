@@ -6,3 +6,5 @@ pub mod Gaps
 pub mod Answering
 pub mod Halvings
 pub mod Weighing
+pub mod Sizes
+pub mod Spanning

@@ -1,5 +1,5 @@
 //! The points of one variable of a table.
-ghost use Rattle.std.specs.Prelude.{◌≡◌, ℕ, ℤ, pos, ◌≤ℤ◌, ◌+◌, ◌-◌, ◌<◌, ◌≤◌, length, map, slice_get, slice_index, Some, All, IfOk, OnOk, IfErr, IfSome, IfNone};
+ghost use Rattle.std.specs.Prelude.{◌≡◌, ℕ, ℤ, pos, ◌≤ℤ◌, ◌+◌, ◌-◌, ◌<◌, ◌≤◌, length, map, slice_get, slice_index, Some, All, IsTrue, IfOk, OnOk, IfErr, IfSome, IfNone};
 ghost use Rattle.std.specs.Rc.{rc_slice_items};
 ghost use Rattle.nldm_lookup.specs.Axes.{IsAxis, IsAxisFault, IsFaultless, FallsAt, most, most_points};
 ghost use Rattle.nldm_lookup.specs.AxisEnds.{IsAxisEnd};
@@ -124,6 +124,15 @@ impl Axis {
     {
         steps.tick();
         self.points.as_slice()[place]
+    }
+
+    /// Whether a quantity is past neither end. It takes at most two steps.
+    pub(crate) fn spans<L: Ledger>(&self, quantity: u64, steps: &mut Steps<L>) -> bool
+        ensures within { IsTrue result → ¬ IsPassed self.now quantity }
+        ensures steps { steps.new ≤ steps.old + 2 }
+    {
+        let last = self.len() - 1;
+        last == 0 || (self.point(0, steps) <= quantity && quantity <= self.point(last, steps))
     }
 
     /// What is taken for a quantity, or why nothing is. It takes at most 12 steps.

@@ -1,7 +1,7 @@
 //! A table over the slew of an input and the load of an output.
-ghost use Rattle.std.specs.Prelude.{◌≡◌, ℤ, pos, ◌+ℤ◌, ◌*ℤ◌, ◌+◌, ◌*◌, ◌^◌, ◌<◌, ◌≤◌, ◌≤ℤ◌, length, All, unsigned_abs, Result, IfOk, OnOk, OnErr, IfErr};
+ghost use Rattle.std.specs.Prelude.{◌≡◌, ℤ, pos, ◌+ℤ◌, ◌*ℤ◌, ◌+◌, ◌*◌, ◌^◌, ◌<◌, ◌≤◌, ◌≤ℤ◌, length, All, unsigned_abs, Result, is_ok, IsTrue, IfOk, OnOk, OnErr, IfErr};
 ghost use Rattle.nldm_lookup.specs.Axes.{most};
-ghost use Rattle.nldm_lookup.specs.Betweens.{width};
+ghost use Rattle.nldm_lookup.specs.Betweens.{IsPassed, width};
 ghost use Rattle.nldm_lookup.specs.BetweenOf.{between_of};
 ghost use Rattle.nldm_lookup.specs.Tables.{IsSmall, IsTable, IsTableFault, place_in, value_at};
 ghost use Rattle.nldm_lookup.specs.Interpolant.{IsLookup, attos_in, most_in, not_below, weighed};
@@ -197,6 +197,40 @@ impl Table {
         low + by_weight(self.row(slew.place + 1, load, steps), slew.high)
     }
 
+    // Whether a slew and a load are past no end of an axis. It takes at most four steps.
+    fn spans<L: Ledger>(&self, slew: u64, load: Farads, steps: &mut Steps<L>) -> bool
+        ensures slew { IsTrue result → ¬ IsPassed self.now.slew slew }
+        ensures load { IsTrue result → ¬ IsPassed self.now.load load.0 }
+        ensures whole { IsTable self.now }
+        ensures steps { steps.new ≤ steps.old + 4 }
+    {
+        self.slew.spans(slew, steps) && self.load.spans(load.0, steps)
+    }
+
+    // What `lookup` answers. It takes at most 28 steps.
+    fn interpolate<L: Ledger>(
+        &self,
+        slew: Atto,
+        load: Farads,
+        grain: Grain,
+        beyond: Beyond,
+        steps: &mut Steps<L>,
+    ) -> Result<i64, LookupEnd>
+        requires not_negative { pos 0 ≤ℤ slew.0 }
+        requires small { slew.0 ≤ℤ pos most }
+        ensures answer { IsLookup self.now (unsigned_abs slew.0) load.0 grain beyond result }
+        ensures only { (other : Result ℤ LookupEnd) → IsLookup self.now (unsigned_abs slew.0) load.0 grain beyond other → other ≡ result }
+        ensures some_step { steps.old + 1 ≤ steps.new }
+        ensures steps { steps.new ≤ steps.old + 28 }
+    {
+        let slew = slew.0.unsigned_abs();
+        let on_slew = self.slew.between(Which::Slew, slew, beyond, steps)?;
+        let on_load = self.load.between(Which::Load, load.0, beyond, steps)?;
+        let sum = self.weighed(on_slew, on_load, steps);
+        let rounded = half_up(sum, divisor(on_slew, on_load, grain) as i128);
+        in_time(rounded, grain, beyond)
+    }
+
     /// The value at a slew and a load: bilinear between the neighbouring points of the axes, and rounded once, half up, to whole grains.
     /// An axis of one point is constant in its direction. Past the end of a longer axis `beyond` decides. The slew is from 0 to
     /// 10^12 attoseconds.
@@ -219,11 +253,29 @@ impl Table {
         ensures some_step { steps.old + 1 ≤ steps.new }
         ensures steps { steps.new ≤ steps.old + 32 }
     {
-        let slew = slew.0.unsigned_abs();
-        let on_slew = self.slew.between(Which::Slew, slew, beyond, steps)?;
-        let on_load = self.load.between(Which::Load, load.0, beyond, steps)?;
-        let sum = self.weighed(on_slew, on_load, steps);
-        let rounded = half_up(sum, divisor(on_slew, on_load, grain) as i128);
-        in_time(rounded, grain, beyond)
+        self.interpolate(slew, load, grain, beyond, steps)
+    }
+
+    /// Whether a lookup has a value. Where the slew and the load are past no end of an axis it has one, which is not worked out.
+    ///
+    /// It takes at most 32 steps, and no memory.
+    pub fn has_value<L: Ledger>(
+        &self,
+        slew: Atto,
+        load: Farads,
+        grain: Grain,
+        beyond: Beyond,
+        steps: &mut Steps<L>,
+    ) -> bool
+        requires not_negative { pos 0 ≤ℤ slew.0 }
+        requires small { slew.0 ≤ℤ pos most }
+        ensures value { (answer : Result ℤ LookupEnd) → IsLookup self.now (unsigned_abs slew.0) load.0 grain beyond answer
+            → is_ok answer ≡ result }
+        ensures steps { steps.new ≤ steps.old + 32 }
+    {
+        if self.spans(slew.0.unsigned_abs(), load, steps) {
+            return true;
+        }
+        self.interpolate(slew, load, grain, beyond, steps).is_ok()
     }
 }

@@ -14,7 +14,7 @@ use Rattle.nldm_lookup.specs.declared.beyond.Beyond.TheVariants.{Extend}
 use Rattle.nldm_lookup.specs.declared.faults.Which.TheVariants.{Slew, Load}
 use Rattle.nldm_lookup.proofs.Answering.{refused_slew, refused_load, found, past_time, answers, only_answer}
 use Rattle.nldm_lookup.proofs.Scaling.{one_weight, two_weights}
-use Rattle.nldm_lookup.proofs.table.Table.lookup.Goals as goal
+use Rattle.nldm_lookup.proofs.table.Table.interpolate.Goals as goal
 
 kept : (slew : ℤ) → pos 0 ≤ℤ slew → slew ≤ℤ pos most → FitsSigned w64 slew
 kept slew low high = fits_signed_from_abs w64 slew (omega (arith, ints, low, high))
