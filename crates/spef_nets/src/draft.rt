@@ -11,13 +11,14 @@ ghost use Rattle.spef_nets.specs.TablesOf.{AddsNet};
 
 use crate::amounts::Grains;
 use crate::elements::ElementParts;
+use crate::net_name::NetName;
 use crate::parts::{Ends, Listed};
 use crate::referred::Referred;
 use crate::tables::Tables;
 use corner_set::{CornerSet, Pick};
 use delay_units::{Farads, Ohms};
+use edge_io::OutOfMemory;
 use edge_io::lists::{empty, push};
-use edge_io::{OutOfMemory, Text};
 use spef_text::{Conn, Head, SpefFile};
 use std::alloc::Global;
 
@@ -27,7 +28,7 @@ const FEW_CAPS: usize = 32;
 /// The elements that have been read of the section of a net. Its lists serve one section after another.
 #[derive(Drop)]
 pub struct Draft<'r, 'f> {
-    pub net: Text,
+    pub net: NetName,
     pub refs: Referred<'r, 'f>,
     conns: Vec<Listed>,
     loads: Vec<Farads>,
@@ -88,7 +89,7 @@ impl<'r, 'f> Draft<'r, 'f> {
         ensures { (drafted result).refs.file ≡ file.now }
     {
         Draft {
-            net: Text::new(alloc),
+            net: NetName::new(alloc),
             refs: Referred::new(alloc, file, head),
             conns: Vec::new(alloc),
             loads: Vec::new(alloc),
@@ -99,24 +100,9 @@ impl<'r, 'f> Draft<'r, 'f> {
         }
     }
 
-    /// Begins with the section of a net, with room for so many connections, capacitances and resistors. Nothing stays of the section
-    /// before but the memory of the lists.
+    /// Begins with the section of the net whose name it has, with room for so many connections, capacitances and resistors. Nothing
+    /// else stays of the section before but the memory of the lists.
     pub fn begin<C: CornerSet>(
-        &mut self,
-        alloc: Global,
-        net: Text,
-        conn_count: usize,
-        cap_count: usize,
-        res_count: usize,
-    ) -> Result<(), OutOfMemory>
-        ensures { OnOk result (drafted self.new ≡ no_draft (drafted self.old).refs.file net) }
-    {
-        self.net = net;
-        self.empty::<C>(alloc, conn_count, cap_count, res_count)
-    }
-
-    // Lets go of all elements, and makes room for so many.
-    fn empty<C: CornerSet>(
         &mut self,
         alloc: Global,
         conn_count: usize,

@@ -10,6 +10,7 @@ mod laws;
 mod marks;
 mod net;
 mod net_keys;
+mod net_name;
 mod node_names;
 mod node_table;
 mod node_tokens;

@@ -14,6 +14,7 @@ ghost use Rattle.spef_nets.specs.TablesOf.{HoldNets, nets_in};
 
 use crate::draft::Draft;
 use crate::ends::SectionEnd;
+use crate::net_name::NetName;
 use crate::parts::Joined;
 use crate::sections::Sections;
 use crate::source::Source;
@@ -25,20 +26,28 @@ use spef_text::{Head, SpefFile};
 use std::alloc::Global;
 use std::marker::PhantomData;
 
+fn repeated(alloc: Global, net: &NetName, token: u64) -> SectionEnd
+    ensures { IsUnless (λ end. end ≡ SectionEnd.RepeatedNet net.now token) result }
+{
+    match Text::from_bytes(alloc, net.bytes()) {
+        Ok(net) => SectionEnd::RepeatedNet { net, token },
+        Err(_) => SectionEnd::OutOfMemory,
+    }
+}
+
 // Numbers a net by its section's place, or refuses it where it has a section already.
-fn put_net(nets: &mut Names, net: Text, token: u64) -> Result<Text, SectionEnd>
+fn number_net(alloc: Global, nets: &mut Names, net: &NetName, token: u64) -> Result<(), SectionEnd>
     requires room { length nets.old < 2 ^ 30 }
-    ensures new { OnOk result (¬ Contains nets.old net) }
-    ensures put { OnOk result (nets.new ≡ nets.old ++ net ∷ []) }
-    ensures same { IfOk result (λ new. new ≡ net) }
-    ensures err { IfErr result (IsUnless (λ end. Contains nets.old net × (end ≡ SectionEnd.RepeatedNet net token))) }
+    ensures new { OnOk result (¬ Contains nets.old net.now) }
+    ensures put { OnOk result (nets.new ≡ nets.old ++ net.now ∷ []) }
+    ensures err { IfErr result (IsUnless (λ end. Contains nets.old net.now × (end ≡ SectionEnd.RepeatedNet net.now token))) }
 {
     let many = nets.len();
     nets.intern(net.bytes())?;
     if nets.len() == many {
-        return Err(SectionEnd::RepeatedNet { net, token });
+        return Err(repeated(alloc, net, token));
     }
-    Ok(net)
+    Ok(())
 }
 
 // Reads the section behind those of these nets into the draft, and puts the name of its net behind theirs.
@@ -64,9 +73,9 @@ fn read_behind<'r, 'f, C: CornerSet>(
 {
     let place = nets.len();
     let token = source.file.net_token(place);
-    let name = source.net_of(token)?;
-    let net = put_net(nets, name, token)?;
-    source.read_section::<C>(place, net, draft, joints)?;
+    source.put_net(token, &mut draft.net)?;
+    number_net(source.alloc, nets, &draft.net, token)?;
+    source.read_section::<C>(place, draft, joints)?;
     Ok(())
 }
 

@@ -11,11 +11,12 @@ ghost use Rattle.spef_nets.specs.RefsOf.{refs_of};
 ghost use Rattle.spef_nets.specs.Drafts.{BelongsBy};
 
 use crate::marks::Mark;
+use crate::net_name::NetName;
 use crate::node_table::NodeTable;
 use crate::node_tokens::NodeTokens;
 use crate::spellings::Spellings;
 use edge_io::lists::{empty, push, to_u32};
-use edge_io::{OutOfMemory, Text, are_equal};
+use edge_io::{OutOfMemory, are_equal};
 use name_table::{NodeKey, WrittenName};
 use spef_text::{Head, SpefFile};
 use std::alloc::Global;
@@ -103,7 +104,7 @@ impl<'r, 'f> Referred<'r, 'f> {
         word: &[u8],
         token: u64,
         key: NodeKey<'r>,
-        net: &Text,
+        net: &NetName,
     ) -> Result<usize, OutOfMemory>
         requires marked { length (refs_of self.old).marks ≡ length (refs_of self.old).keys }
         requires word { word.now ≡ text_of (refs_of self.old).file token }

@@ -15,6 +15,7 @@ ghost use Rattle.spef_nets.specs.DraftOf.{drafted};
 use crate::amounts::Grains;
 use crate::draft::Draft;
 use crate::ends::SectionEnd;
+use crate::net_name::NetName;
 use crate::parts::{Joined, spelling_of};
 use crate::referred::Referred;
 use crate::source::Source;
@@ -46,7 +47,7 @@ impl<'r, 'f> Source<'r, 'f> {
     fn joined_at(
         &self,
         refs: &mut Referred<'r, 'f>,
-        net: &Text,
+        net: &NetName,
         token: u64,
     ) -> Result<Option<usize>, OutOfMemory>
         requires head { IsHeadOf self.now.file.now self.now.head.now }
@@ -67,7 +68,7 @@ impl<'r, 'f> Source<'r, 'f> {
         &self,
         s: usize,
         refs: &mut Referred<'r, 'f>,
-        net: &Text,
+        net: &NetName,
         joints: &mut Vec<Joined>,
     ) -> Result<(), OutOfMemory>
         requires section { s < length self.now.file.now.reading.sections }
@@ -183,7 +184,7 @@ impl<'r, 'f> Source<'r, 'f> {
         Ok(())
     }
 
-    fn foreign(&self, net: &Text, token: u64) -> SectionEnd
+    fn foreign(&self, net: &NetName, token: u64) -> SectionEnd
         ensures { IsUnless (λ end. end ≡ SectionEnd.ForeignCoupling net.now token) result }
     {
         match Text::from_bytes(self.alloc, net.bytes()) {
@@ -386,18 +387,17 @@ impl<'r, 'f> Source<'r, 'f> {
         Ok(())
     }
 
-    /// Reads the section at a place, of the net with this name, into the draft. Its faults are looked for in the order of its tokens.
-    /// Nothing of what the draft and the list of the joints hold counts.
+    /// Reads the section at a place into the draft, which has the name of its net. Its faults are looked for in the order of its
+    /// tokens. Nothing else of what the draft and the list of the joints hold counts.
     pub fn read_section<C: CornerSet>(
         &self,
         s: usize,
-        net: Text,
         draft: &mut Draft<'r, 'f>,
         joints: &mut Vec<Joined>,
     ) -> Result<(), SectionEnd>
         requires section { s < length self.now.file.now.reading.sections }
         requires head { IsHeadOf self.now.file.now self.now.head.now }
-        requires net { net_at self.now.file.now (section_at self.now.file.now.reading.sections s).net ≡ Some net }
+        requires net { net_at self.now.file.now (section_at self.now.file.now.reading.sections s).net ≡ Some (drafted draft.old).net.net }
         requires new { IsGood self.now.file.now s (section_at self.now.file.now.reading.sections s)
             (naming (section_at self.now.file.now.reading.sections s).net) }
         requires file { (drafted draft.old).refs.file ≡ self.now.file.now }
@@ -406,7 +406,7 @@ impl<'r, 'f> Source<'r, 'f> {
             (written_net (drafted draft.new).net (length (section_at self.now.file.now.reading.sections s).caps))) }
         ensures whole { OnOk result (AreWhole C.COUNT
             (written_net (drafted draft.new).net (length (section_at self.now.file.now.reading.sections s).caps))) }
-        ensures net { OnOk result ((drafted draft.new).net.net ≡ net) }
+        ensures net { OnOk result ((drafted draft.new).net.net ≡ (drafted draft.old).net.net) }
         ensures file { OnOk result ((drafted draft.new).refs.file ≡ self.now.file.now) }
         ensures faultless { OnOk result
             (IsFaultless self.now.file.now self.now.head.now s (section_at self.now.file.now.reading.sections s)) }
@@ -415,7 +415,7 @@ impl<'r, 'f> Source<'r, 'f> {
         let conns = self.file.conn_count(s);
         let caps = self.file.cap_count(s);
         let ress = self.file.res_count(s);
-        draft.begin::<C>(self.alloc, net, conns, caps, ress)?;
+        draft.begin::<C>(self.alloc, conns, caps, ress)?;
         self.fill::<C>(s, draft, joints)?;
         Ok(())
     }

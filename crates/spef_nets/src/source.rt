@@ -1,5 +1,5 @@
 //! What the references and values of a file stand for.
-ghost use Rattle.std.specs.Prelude.{◌≡◌, ◌<◌, length, Some, IfOk, IfErr};
+ghost use Rattle.std.specs.Prelude.{◌≡◌, ◌<◌, length, Some, IfOk, OnOk, IfErr};
 ghost use Rattle.spef_text.specs.Heads.{IsHeadOf, text_of};
 ghost use Rattle.spef_text.specs.Entries.{section_at};
 ghost use Rattle.spef_nets.specs.Values.{AreGrains, triple_of};
@@ -12,6 +12,7 @@ ghost use Rattle.spef_nets.specs.Drafts.{AreSomeRefs, Refers, IsUnless};
 
 use crate::amounts::{AmountFault, Grains, grains_of};
 use crate::ends::SectionEnd;
+use crate::net_name::NetName;
 use crate::referred::Referred;
 use corner_set::Pick;
 use delay_units::{Farads, Ohms, Unit};
@@ -42,16 +43,17 @@ impl<'r, 'f> Source<'r, 'f> {
         }
     }
 
-    /// The name of the net that a token names.
-    pub fn net_of(&self, token: u64) -> Result<Text, SectionEnd>
+    /// Puts the name of the net that a token names in the place of another.
+    pub fn put_net(&self, token: u64, net: &mut NetName) -> Result<(), SectionEnd>
         requires { IsHeadOf self.now.file.now self.now.head.now }
-        ensures ok { IfOk result (λ net. net_at self.now.file.now token ≡ Some net) }
+        ensures ok { OnOk result (net_at self.now.file.now token ≡ Some net.new) }
         ensures err { IfErr result (IsUnless (IsUnknownAt self.now.file.now token)) }
     {
         match WrittenNames::new(self.file, self.head).name(token, false) {
-            Some(name) => Ok(Text::from_bytes(self.alloc, name.head)?),
-            None => self.named_net(token),
+            Some(name) => net.put(name.head)?,
+            None => net.put(self.named_net(token)?.bytes())?,
         }
+        Ok(())
     }
 
     // The same by the name of its node.
@@ -99,7 +101,7 @@ impl<'r, 'f> Source<'r, 'f> {
     pub fn spelling_at(
         &self,
         refs: &mut Referred<'r, 'f>,
-        net: &Text,
+        net: &NetName,
         token: u64,
     ) -> Result<Option<usize>, OutOfMemory>
         requires head { IsHeadOf self.now.file.now self.now.head.now }
