@@ -10,7 +10,7 @@ use Rattle.std.specs.Str.{bytes_eq}
 use Rattle.indexmap.specs.IndexMap.{insert_entry}
 use Rattle.token_texts.specs.Spans.{text_at}
 use Rattle.verilog_netlist.specs.Ranges.{most_bits, and_more, bits_of, joined_width, is_bad_entry, declares, or_first, first_declared, module_at, declared_by, IsBadRange, declared_range, is_bad_declaration, is_bad_bit, is_bad_part, whole_width, is_wire, one_range, differs_from, is_past}
-use Rattle.verilog_netlist.specs.NameKeys.{Key, key_in, same_key, holds}
+use Rattle.verilog_netlist.specs.NameKeys.{Key, key_in, keys_in, same_key, holds}
 use Rattle.verilog_netlist.specs.DeclaredNames.{Rows, declared_key, row_at, found_in, kept, widened, AddsRow, AddsRanged, AddsDeclared, CoversRanged, HoldsDeclared, HoldsRanged, BoundsWidths, IsAtMost}
 use Rattle.verilog_netlist.specs.declared.declared.Declaration.{Declaration}
 use Rattle.token_texts.specs.declared.spans.Span.{Span}
@@ -179,6 +179,16 @@ declared_next bytes entries keys n old new here e in_module stands holds adds as
     ∙ ap (kept keys asked name)
     (ap₂ (λ (m : ℕ) (x : Option Entry). or_first (first_declared bytes entries asked name n) (declares bytes asked name m x)) in_module (sym stands)
     ∙ sym (first_step bytes entries asked name n))
+
+-- where no name is declared with a range none is kept
+pub nothing_ranged : (bytes : List ℕ) (entries : List Entry) (ranged : List NameKey) (rows : Rows) → length ranged ≡ 0 → rows ≡ []
+    → CoversRanged bytes entries (length entries) (keys_in ranged) → HoldsRanged bytes entries rows
+nothing_ranged bytes entries [] rows none empty covers = record {
+  keys = [];
+  covers = covers;
+  holds = subst (HoldsDeclared bytes entries [] (length entries)) (sym empty) (λ asked name. refl);
+}
+nothing_ranged bytes entries (key ∷ ranged) rows none empty covers = absurd (omega arith)
 
 -- no key at first, and a key of each name with a range
 pub covers_none : (bytes : List ℕ) (entries : List Entry) (keys : List Key) → CoversRanged bytes entries 0 keys

@@ -56,6 +56,10 @@ impl<'a> DeclaredNames<'a> {
     pub(crate) fn find(&self, scope: u32, name: &[u8]) -> Option<Declaration>
         ensures { result ≡ found_in self.now.rows.entries scope name.now }
     {
+        // No hash is taken where no name is kept, as in a netlist without a range.
+        if self.rows.is_empty() {
+            return None;
+        }
         let key = declared_key(scope, name);
         self.rows.get(&key).copied()
     }
@@ -128,6 +132,9 @@ pub(crate) fn collect_declared<'a>(
         rows: IndexMap::with_capacity_and_hasher(alloc, many, NameHash::default())?,
         widest: 1,
     };
+    if many == 0 {
+        return Ok(names);
+    }
     let mut scopes = Scopes::new();
     for (place, entry) in entries.iter().enumerate() {
         scopes = scopes.from(*entry);

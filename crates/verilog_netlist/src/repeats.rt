@@ -255,7 +255,7 @@ pub struct NameTable<'a> {
     pub ranged: IndexSet<NameKey<'a>, NameHash>,
 }
 
-//// Collects all names. It takes time in proportion to the bytes of the names.
+/// Collects all names. It takes time in proportion to the bytes of the names.
 pub(crate) fn collect_names<'a>(
     alloc: Global,
     bytes: &'a [u8],

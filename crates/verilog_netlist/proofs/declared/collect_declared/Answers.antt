@@ -1,4 +1,4 @@
--- One entry more.
+-- One entry more, and a netlist without a range.
 use Rattle.std.proofs.Common.{◌≡◌, ℕ, ◌+◌, List, get_or, length, sym, ap, ◌∙◌, subst, arith}
 use Rattle.verilog_netlist.specs.DeclaredNames.{HoldsDeclared, BoundsWidths}
 use Rattle.verilog_netlist.specs.NameKeys.{keys_in}
@@ -6,7 +6,7 @@ use Rattle.verilog_netlist.specs.declared.entries.Entry.{Entry}
 use Rattle.verilog_netlist.specs.declared.namespaces.Names.TheVariants as names
 use Rattle.verilog_netlist.specs.declared.repeats.Scopes.{Scopes}
 use Rattle.verilog_netlist.proofs.Repeating.{Counts, count_on, scope_is, no_entry, stands_at, itself_at}
-use Rattle.verilog_netlist.proofs.Ranging.{declared_next, bounds_next}
+use Rattle.verilog_netlist.proofs.Ranging.{declared_next, bounds_next, nothing_ranged}
 use Rattle.verilog_netlist.proofs.declared.collect_declared.Goals as goal
 
 pub loop-place-preserved : goal.loop-place-preserved
@@ -35,3 +35,8 @@ returns-clause-rows c =
       covers = c.requires.ranged;
       holds = subst (λ (n : ℕ). HoldsDeclared c.args.bytes.now entries keys n c.loop-place.names.rows.entries) all c.loop-place.invariant.1;
     }
+
+pub returns-then-many-eq0-clause-rows : goal.returns-then-many-eq0-clause-rows
+returns-then-many-eq0-clause-rows c =
+    let none : length c.args.ranged.now.keys ≡ 0 = let many = c.len-many.ensures.len in let zero = c.if-many-eq0.true in omega arith in
+    nothing_ranged c.args.bytes.now c.args.entries.now c.args.ranged.now.keys _ none c.in_ok-with_capacity_and_hasher.ensures.empty c.requires.ranged
