@@ -6,7 +6,7 @@ use Rattle.std.proofs.lemmas.List.Sums.{sum_by-set, count_by-le-length}
 use Rattle.std.proofs.lemmas.List.{get_or_push, get_or_past, get_or_append_left}
 use Rattle.rc_tree.specs.Joins.{Joined}
 use Rattle.rc_tree.specs.Threads.{IsLatest, IsThreaded}
-use Rattle.rc_tree.specs.Searches.{Search, Finds, IsSearch, Grown, found_more, reached}
+use Rattle.rc_tree.specs.Searches.{Search, Finds, IsSearch, IsClosed, Grown, found_more, reached}
 
 -- the functions after a node more: ord, par and via have one value more, num and link another at one place
 pub record Steps (c e v p : ℕ) (ord par via num link ord' par' via' num' link' : ℕ → ℕ) : Type 0 where
@@ -185,6 +185,35 @@ reaches n froms tos s e v p search v_below p_below joined = elim (eqb_tells (sli
 -- no more nodes are found than there are
 pub few_found : (n : ℕ) (froms tos : List ℕ) (s : Search) → IsSearch n froms tos s → length s.order ≤ n
 few_found n froms tos s search = let counted = search.counted in let most = count_by-le-length (λ number. nat_lt 0 number) s.numbers in let size = search.numbers_len in omega (arith, counted, most, size)
+
+-- where as many are found as there are, each is found
+pub all_found : (n : ℕ) (froms tos : List ℕ) (s : Search) → IsSearch n froms tos s → n ≤ length s.order → (node : ℕ) → node < n → 0 < slice_index s.numbers node
+all_found n froms tos s search many node below = elim (cases_eq (slice_index s.numbers node) 0) [
+  | inl none ↦
+      let size = search.numbers_len in
+      let counted = search.counted in
+      let more = count_more s.numbers node 1 (omega (arith, size, below)) none (omega arith) in
+      let most = count_by-le-length (λ number. nat_lt 0 number) (set s.numbers node 1) in
+      let same = length-set s.numbers node 1 in
+      absurd (omega (arith, more, most, same, size, counted, many))
+  | inr some ↦ (let ne : slice_index s.numbers node ≢ 0 = some in omega (arith, ne))
+]
+
+pub closed_whole : (n : ℕ) (froms tos : List ℕ) (s : Search) → IsSearch n froms tos s → n ≤ length s.order → length tos ≡ length froms → All (λ node. node < n) froms → All (λ node. node < n) tos → IsClosed froms tos s
+closed_whole n froms tos s search many same froms_in tos_in e below = (
+  (λ held. all_found n froms tos s search many (slice_index tos e) (tos_in e 0 (omega (arith, same, below)))),
+  (λ held. all_found n froms tos s search many (slice_index froms e) (froms_in e 0 below)),
+)
+
+-- an end of a resistor is found from the other one
+pub crossed : (n : ℕ) (froms tos : List ℕ) (s t : Search) (e v x p : ℕ) → IsSearch n froms tos s → e < length froms → v < n → 0 < slice_index s.numbers x → p ≡ slice_index s.numbers x - 1 → ((slice_index froms e ≡ x) × (slice_index tos e ≡ v)) ⊎ ((slice_index tos e ≡ x) × (slice_index froms e ≡ v))
+    → t ≡ reached s e v p → IsSearch n froms tos t
+crossed n froms tos s t e v x p search within v_below held p_is ends t_is =
+    let at = search.finds.ord_num x held in
+    let there : slice_index s.order p ≡ x = ap (slice_index s.order) p_is ∙ at.1 in
+    subst (IsSearch n froms tos) (sym t_is)
+    (reaches n froms tos s e v p search v_below (let few = at.0 in omega (arith, few, p_is, held))
+    (subst (λ y. Joined (length froms) (slice_index froms) (slice_index tos) e y v) (sym there) (within, ends))).search
 
 -- a walk along the threads of a node
 pub record Walking (n : ℕ) (near far : List ℕ) (before s : Search) (node left : ℕ) : Type 0 where

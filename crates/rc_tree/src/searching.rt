@@ -1,5 +1,5 @@
 //! The search from the driver's node.
-ghost use Rattle.std.specs.Prelude.{◌≡◌, ◌<◌, ◌≤◌, [], ◌∷◌, length, slice_index, slice_set, replicate, All, OnOk};
+ghost use Rattle.std.specs.Prelude.{◌≡◌, ◌<◌, ◌≤◌, [], ◌∷◌, length, slice_index, slice_set, replicate, true, All, IfOk, OnOk};
 ghost use Rattle.rc_tree.specs.Threads.{IsThreaded};
 ghost use Rattle.rc_tree.specs.Searches.{Search, IsSearch, IsClosed, Grown, IsVisited, reached};
 ghost use Rattle.rc_tree.specs.FoundSearch.{search_of};
@@ -26,9 +26,95 @@ pub fn search(
     ensures search { OnOk result (IsSearch nodes froms.now tos.now (search_of found.new)) }
     ensures closed { OnOk result (IsClosed froms.now tos.now (search_of found.new)) }
 {
+    start(froms.len(), nodes, found)?;
+    if sweep_all(froms, tos, nodes, found)? {
+        return Ok(());
+    }
+    spread(froms, tos, nodes, at_froms, at_tos, found)?;
+    Ok(())
+}
+
+// Goes through the resistors, where they are as many as a tree has, and tells whether all nodes are found then: so none of the resistors
+// is left over. A mesh is not swept, since it depends on the order of a search which of its resistors is told.
+fn sweep_all(
+    froms: &[u32],
+    tos: &[u32],
+    nodes: usize,
+    found: &mut Found,
+) -> Result<bool, OutOfMemory>
+    requires search { IsSearch nodes froms.now tos.now (search_of found.old) }
+    requires same { length tos.now ≡ length froms.now }
+    requires froms { All (λ node. node < nodes) froms.now }
+    requires tos { All (λ node. node < nodes) tos.now }
+    ensures search { OnOk result (IsSearch nodes froms.now tos.now (search_of found.new)) }
+    ensures closed { IfOk result (λ all. all ≡ true → IsClosed froms.now tos.now (search_of found.new)) }
+{
+    if froms.len() + 1 != nodes {
+        return Ok(false);
+    }
+    sweep(froms, tos, found)?;
+    if found.order.len() < nodes {
+        return Ok(false);
+    }
+    Ok(true)
+}
+
+// Goes through the resistors once, in order. Where each has an end that is found before it, which is the rule, that finds all nodes.
+fn sweep(froms: &[u32], tos: &[u32], found: &mut Found) -> Result<(), OutOfMemory>
+    requires search { IsSearch (length found.old.numbers.items) froms.now tos.now (search_of found.old) }
+    requires same { length tos.now ≡ length froms.now }
+    requires froms { All (λ node. node < length found.old.numbers.items) froms.now }
+    requires tos { All (λ node. node < length found.old.numbers.items) tos.now }
+    ensures { OnOk result (IsSearch (length found.old.numbers.items) froms.now tos.now (search_of found.new)) }
+{
+    for resistor in 0..froms.len() {
+        cross(froms, tos, resistor, found)?;
+    }
+    Ok(())
+}
+
+// Finds an end of a resistor from the other one, where that is found.
+fn cross(froms: &[u32], tos: &[u32], resistor: usize, found: &mut Found) -> Result<(), OutOfMemory>
+    requires search { IsSearch (length found.old.numbers.items) froms.now tos.now (search_of found.old) }
+    requires within { resistor < length froms.now }
+    requires same { length tos.now ≡ length froms.now }
+    requires froms { All (λ node. node < length found.old.numbers.items) froms.now }
+    requires tos { All (λ node. node < length found.old.numbers.items) tos.now }
+    ensures { OnOk result (IsSearch (length found.old.numbers.items) froms.now tos.now (search_of found.new)) }
+{
+    let from = froms[resistor];
+    let to = tos[resistor];
+    let number = found.numbers[from as usize];
+    if number != 0 {
+        reach(resistor, to, number as usize - 1, found)?;
+        return Ok(());
+    }
+    let number = found.numbers[to as usize];
+    if number != 0 {
+        reach(resistor, from, number as usize - 1, found)?;
+        return Ok(());
+    }
+    Ok(())
+}
+
+// Finds what walks lead to from the nodes that are found.
+fn spread(
+    froms: &[u32],
+    tos: &[u32],
+    nodes: usize,
+    at_froms: &mut Threads,
+    at_tos: &mut Threads,
+    found: &mut Found,
+) -> Result<(), OutOfMemory>
+    requires search { IsSearch nodes froms.now tos.now (search_of found.old) }
+    requires same { length tos.now ≡ length froms.now }
+    requires froms { All (λ node. node < nodes) froms.now }
+    requires tos { All (λ node. node < nodes) tos.now }
+    ensures search { OnOk result (IsSearch nodes froms.now tos.now (search_of found.new)) }
+    ensures closed { OnOk result (IsClosed froms.now tos.now (search_of found.new)) }
+{
     thread(froms, nodes, at_froms)?;
     thread(tos, nodes, at_tos)?;
-    start(froms.len(), nodes, found)?;
     for place in 0..nodes {
         visit_both(at_froms, at_tos, froms, tos, place, found)?;
     }

@@ -1,15 +1,12 @@
 use Rattle.std.proofs.Common.{arith, subst}
 use Rattle.rc_tree.specs.Searches.{IsSearch}
 use Rattle.rc_tree.specs.FoundSearch.{search_of}
-use Rattle.rc_tree.proofs.Completed.{search_start, searching_start, searching_step, searching_end}
-use Rattle.rc_tree.proofs.searching.search.Goals as goal
+use Rattle.rc_tree.proofs.Completed.{searching_start, searching_step, searching_end}
+use Rattle.rc_tree.proofs.searching.spread.Goals as goal
 
 -- src/searching.rt
 pub loop-place-init : goal.loop-place-init
-loop-place-init c =
-    let ensures = c.in_ok-start.ensures in
-    searching_start c.args.nodes c.args.froms.now c.args.tos.now (search_of c.start.new.found)
-    (search_start c.args.nodes c.args.froms.now c.args.tos.now (search_of c.start.new.found) c.requires.some ensures.order ensures.parents ensures.vias ensures.numbers ensures.links)
+loop-place-init c = searching_start c.args.nodes c.args.froms.now c.args.tos.now (search_of c.args.found.now) c.requires.search
 
 pub loop-place-preserved : goal.loop-place-preserved
 loop-place-preserved c =
