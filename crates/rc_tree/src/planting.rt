@@ -79,8 +79,8 @@ fn put_lists<C: CornerSet>(
 {
     refit(alloc, layout.parents.len(), Ohms(0), ohms)?;
     refit(alloc, layout.parents.len(), Farads(0), farads)?;
-    put_all(layout.parents, parents)?;
-    put_all(layout.sinks, sinks)?;
+    replace_items(layout.parents, parents)?;
+    replace_items(layout.sinks, sinks)?;
     Ok(())
 }
 
@@ -102,7 +102,7 @@ fn refit<C: CornerSet, T: Copy>(
 }
 
 // Makes a list these items.
-fn put_all<T: Copy>(items: &[T], list: &mut Vec<T>) -> Result<(), OutOfMemory>
+fn replace_items<T: Copy>(items: &[T], list: &mut Vec<T>) -> Result<(), OutOfMemory>
     ensures { OnOk result (list.new.items ≡ items.now) }
 {
     list.clear();
