@@ -1,14 +1,15 @@
 -- The nodes of a section get their numbers one after another, behind the pins.
-use Rattle.std.proofs.Common.{◌≡◌, ◌≢◌, ℕ, suc, ◌+◌, ◌<◌, false, List, [], ◌∷◌, ◌++◌, map, take, length, get_or, slice_get, slice_index, slice_index_or, Some, length-append, refl, sym, ◌∙◌, ap, subst, arith, inl, inr}
+use Rattle.std.proofs.Common.{◌≡◌, ◌≢◌, ℕ, zero, suc, ◌+◌, ◌<◌, ◌≤◌, false, List, [], ◌∷◌, ◌++◌, map, take, length, get_or, slice_get, slice_index, slice_index_or, Some, length-append, refl, sym, ◌∙◌, ap, subst, arith, inl, inr}
 use Rattle.std.proofs.lemmas.Bool.{cases_eq}
 use Rattle.std.proofs.lemmas.List.{get_or_push, get_or_append_left, get_or-take, get_or-map, length-map, length-take}
-use Rattle.std.proofs.lemmas.Option.{slice_get-get_or, get_or_from_slice_get, slice_get_within}
+use Rattle.std.proofs.lemmas.Option.{slice_get-get_or, get_or_from_slice_get, slice_get_within, same_Some}
 use Rattle.name_table.specs.declared.spef_names.NodeName.{NodeName}
 use Rattle.name_table.specs.NodeKeys.{among}
 use Rattle.spef_nets.specs.Nodes.{AreDistinctNodes}
 use Rattle.rc_tree.specs.Nodes.{Node, node_of, with_node, with_nodes}
 use Rattle.rc_tree.specs.Numbering.{Gets, pin, other}
-use Rattle.rc_tree.proofs.NodeLemmas.{node_held, node_last, nodes_apart}
+use Rattle.indexmap.proofs.IndexTableLemmas.Probe.{pigeonhole}
+use Rattle.rc_tree.proofs.NodeLemmas.{among_from, node_held, node_last, nodes_apart}
 use Rattle.rc_tree.proofs.Numbers.{with_held, with_new, among_cases, with_keeps, all_keep, names_more}
 use Rattle.rc_tree.proofs.Nets.{Apart}
 use Rattle.rc_tree.proofs.MarkingLemmas.{still_new}
@@ -99,3 +100,35 @@ numbering_step names pins spots spots' count count' many name distinct at (other
     let last = node_last (node_of name) (nodes_to names pins many) in
     placed names pins spots spots' count count' many count name at (ap (slice_get (with_node (nodes_to names pins many) (node_of name))) state.counted ∙ ap (λ l. slice_get l (length (nodes_to names pins many))) (sym more) ∙ last) spots_are
     (count_is ∙ ap (λ k. k + 1) state.counted ∙ sym (length-append (nodes_to names pins many) (node_of name ∷ [])) ∙ ap length more) state
+
+-- ---- the pins that are left
+
+pub name_there : (names : List NodeName) (place : ℕ) → place < length names → (name : NodeName) × (slice_get names place ≡ Some name)
+name_there [] place below = absurd (omega (arith, below))
+name_there (name ∷ names) zero below = (name, refl)
+name_there (name ∷ names) (suc place) below = name_there names place (omega (arith, below))
+
+-- two nodes of a section that have one number are at one place
+one_number : (names : List NodeName) (pins : List Node) (spots : List ℕ) (count many : ℕ) → AreDistinctNodes names → Numbering names pins spots count many → many ≤ length names → (i j : ℕ) → i < many → j < many → slice_index spots i ≡ slice_index spots j → i ≡ j
+one_number names pins spots count many distinct state within i j i_below j_below same =
+    let one = name_there names i (omega (arith, i_below, within)) in
+    let other = name_there names j (omega (arith, j_below, within)) in
+    distinct i j one.0 other.0 one.1 other.1
+    (same_Some (node_of one.0) (node_of other.0) (ap (λ x. Some (node_of x)) (sym (get_or_from_slice_get names i one.0 one.0 one.1)) ∙ sym (state.each i one.0 i_below) ∙ ap (slice_get (nodes_to names pins many)) same ∙ state.each j other.0 j_below
+    ∙ ap (λ x. Some (node_of x)) (get_or_from_slice_get names j other.0 other.0 other.1)))
+
+-- where a section has as many nodes so far as there are with the pins, each pin is among them, and the next node is none
+pub none_left : (names : List NodeName) (pins : List Node) (spots : List ℕ) (count many : ℕ) (name : NodeName) → AreDistinctNodes names → slice_get names many ≡ Some name → count ≤ many → Numbering names pins spots count many → among (node_of name) pins ≡ false
+none_left names pins spots count many name distinct at full state = elim (among_cases (node_of name) pins) [
+  | inr new ↦ new
+  | inl held ↦
+      let there = among_from (node_of name) pins held in
+      let number_is : slice_get pins there.0 ≡ Some (node_of name) = slice_get-get_or pins there.0 (node_of name) there.1 ∙ ap Some there.2 in
+      let more = numbering_step names pins spots (spots ++ there.0 ∷ []) count count many name distinct at (pin there.0 number_is refl refl) state in
+      let within = slice_get_within names many name at in
+      let size = more.counted in
+      let fits = pigeonhole (many + 1) count (slice_index (spots ++ there.0 ∷ []))
+      (λ i below. let inside = slice_get_within (nodes_to names pins (many + 1)) (slice_index (spots ++ there.0 ∷ []) i) (node_of (slice_index_or names i name)) (more.each i name below) in omega (arith, inside, size))
+      (one_number names pins (spots ++ there.0 ∷ []) count (many + 1) distinct more (omega (arith, within))) in
+      absurd (omega (arith, fits, full))
+]

@@ -11,6 +11,7 @@ pub mod TwoPasses
 pub mod Nodes
 pub mod NodesIn
 pub mod PinNames
+pub mod FewPins
 pub mod Pins
 pub mod Joins
 pub mod Threads

@@ -1,9 +1,9 @@
--- What the variants of `Nodes` hold.
+-- What the variants of `Pins` hold.
 use Rattle.std.specs.Prelude.{List}
 use Rattle.rc_tree.specs.Nodes.{Node}
-use Rattle.rc_tree.specs.declared.node_table.Nodes.{Nodes}
-use Rattle.rc_tree.specs.declared.node_table.Nodes.TheVariants.{Few, Many}
+use Rattle.rc_tree.specs.declared.pin_table.Pins.{Pins}
+use Rattle.rc_tree.specs.declared.pin_table.Pins.TheVariants.{Few, Many}
 
-abbrev pub nodes_in : Nodes → List Node
-nodes_in (Few keys) = keys.items
-nodes_in (Many keys) = keys.keys
+abbrev pub nodes_in : Pins → List Node
+nodes_in (Few pins) = pins
+nodes_in (Many table) = table

@@ -4,6 +4,7 @@
 mod branches;
 mod building;
 mod ends;
+mod few_pins;
 mod filling;
 mod found;
 mod laws;
@@ -19,6 +20,7 @@ mod numbered;
 mod numbering;
 mod pin_names;
 mod pin_source;
+mod pin_table;
 mod pins;
 mod planting;
 mod scratch;

@@ -1,5 +1,5 @@
 //! The numbers of a net's nodes: the driver's is 0, then come the sinks, then the other nodes of the section.
-ghost use Rattle.std.specs.Prelude.{◌≡◌, ◌≢◌, ◌+◌, ◌≤◌, length, map, IfOk, IfErr, OnOk, AllPairs};
+ghost use Rattle.std.specs.Prelude.{◌≡◌, ◌≢◌, ◌+◌, ◌≤◌, [], ◌∷◌, ◌++◌, length, map, IfOk, IfErr, OnOk, AllPairs};
 ghost use Rattle.rc_tree.specs.Nodes.{node_of, with_nodes};
 ghost use Rattle.rc_tree.specs.PinNames.{pin_name};
 ghost use Rattle.rc_tree.specs.Pins.{pin_nodes};
@@ -9,9 +9,11 @@ ghost use Rattle.rc_tree.specs.Builds.{IsTreeEnd};
 ghost use Rattle.rc_tree.specs.Searched.{IsNumbered};
 
 use crate::ends::TreeEnd;
+use crate::few_pins::FewPins;
 use crate::node_table::NodeTable;
 use crate::numbered::Numbered;
 use crate::pin_names::PinName;
+use crate::pin_table::{PinTable, Pins};
 use crate::pins::PinLoads;
 use corner_set::CornerSet;
 use edge_io::lists::{empty, push, to_u32};
@@ -20,6 +22,9 @@ use name_table::NodeKey;
 use spef_nets::Net;
 use std::alloc::Global;
 use std::sync::ledger::Ledger;
+
+/// Fewer sinks than these are looked through: that is quicker than to look a node up in a table.
+const FEW: usize = 16;
 
 /// The ends of a net's resistors, by the numbers of its nodes.
 #[derive(Drop)]
@@ -67,8 +72,23 @@ fn refuse_stranger<C: CornerSet>(
     Ok(())
 }
 
-// The pins, in order.
-fn number_pins<'p, C: CornerSet>(
+// The pins, in order. A few are looked through where they stand.
+fn number_pins<'p, 's, C: CornerSet>(
+    alloc: Global,
+    pins: &'s PinLoads<'p, C>,
+) -> Result<PinTable<'p, 's>, OutOfMemory>
+    ensures { IfOk result (λ table. table ≡ pin_nodes pins.now) }
+{
+    let pins = if pins.len() < FEW {
+        Pins::Few(FewPins::new(pins.driver, pins.sinks.as_slice()))
+    } else {
+        Pins::Many(pin_table(alloc, pins)?)
+    };
+    Ok(PinTable { pins })
+}
+
+// A table of the pins, in order.
+fn pin_table<'p, C: CornerSet>(
     alloc: Global,
     pins: &PinLoads<'p, C>,
 ) -> Result<NodeTable<'p>, OutOfMemory>
@@ -94,7 +114,7 @@ fn intern_all<'p>(table: &mut NodeTable<'p>, names: &[PinName<'p>]) -> Result<()
 // is a pin or a new node: the table holds the pins alone.
 fn number_section<'k, C: CornerSet>(
     alloc: Global,
-    table: &NodeTable<'k>,
+    table: &PinTable<'k, '_>,
     section: &Net<'k, '_, C>,
     spots: &mut Vec<u32>,
 ) -> Result<usize, OutOfMemory>
@@ -107,32 +127,43 @@ fn number_section<'k, C: CornerSet>(
     let mut keys = section.keys();
     let mut count = table.len();
     for node in 0..section.node_count() {
-        let key = keys.key(alloc, node)?;
-        count = number_node(table, &key, count, spots)?;
+        // all pins are found where it has as many nodes so far as there are with them: no name is read of those behind
+        if spots.len() == count {
+            count = number_new(count, spots)?;
+        } else {
+            let key = keys.key(alloc, node)?;
+            count = number_node(table, &key, count, spots)?;
+        }
     }
     Ok(count)
 }
 
 // Notes the number of a node that is not among the earlier ones of its section: a pin has its own, another gets the next. It answers how
-// many nodes there are with it.
+// many nodes there are with it. The pins come first in a section as a rule, and in the order in which they have their numbers.
 fn number_node<'k>(
-    table: &NodeTable<'k>,
+    table: &PinTable<'k, '_>,
     key: &NodeKey<'k>,
     count: usize,
     spots: &mut Vec<u32>,
 ) -> Result<usize, OutOfMemory>
     ensures { IfOk result (Gets table.now key.now count spots.old.items spots.new.items) }
 {
-    match table.find(key) {
+    match table.find(key, spots.len()) {
         Some(number) => {
             push(spots, to_u32(number)?)?;
             Ok(count)
         }
-        None => {
-            push(spots, to_u32(count)?)?;
-            Ok(count + 1)
-        }
+        None => number_new(count, spots),
     }
+}
+
+// Notes the number of a node that is no pin: the next one. It answers how many nodes there are with it.
+fn number_new(count: usize, spots: &mut Vec<u32>) -> Result<usize, OutOfMemory>
+    ensures spots { OnOk result (spots.new.items ≡ spots.old.items ++ count ∷ []) }
+    ensures count { IfOk result (λ next. next ≡ count + 1) }
+{
+    push(spots, to_u32(count)?)?;
+    Ok(count + 1)
 }
 
 /// The ends of the resistors, from the numbers of the section's nodes: one step a resistor.

@@ -3,7 +3,7 @@ use Rattle.rc_tree.specs.Nodes.{node_of, with_node}
 use Rattle.rc_tree.specs.PinNames.{pin_name}
 use Rattle.rc_tree.specs.Pins.{pin_nodes}
 use Rattle.rc_tree.proofs.Numbers.{pins_named}
-use Rattle.rc_tree.proofs.numbering.number_pins.Goals as goal
+use Rattle.rc_tree.proofs.numbering.pin_table.Goals as goal
 
 -- src/numbering.rt
 pub returns : goal.returns
