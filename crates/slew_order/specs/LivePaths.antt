@@ -1,7 +1,6 @@
 -- The delays of arcs at their worst input slews, and live paths.
 use Rattle.std.specs.Prelude.{◌≡◌, ℕ, ◌<◌, ◌==◌, ◌&&◌, Bool, true, if◌then◌else◌, ℤ, int_lt, List, [], ◌∷◌, map, Option, Some, None, IsSome, Result, Ok, Err}
 use Rattle.cell_models.specs.declared.edge.Edge.{Edge}
-use Rattle.cell_models.specs.declared.edge.Edge.TheVariants.{Rise, Fall}
 use Rattle.hierarchy.specs.Walks.{joined_from}
 use Rattle.nldm_lookup.specs.declared.faults.LookupEnd.{LookupEnd}
 use Rattle.slew_states.specs.Arcs.{has_edge}
@@ -23,11 +22,6 @@ if_value (Err end) = None
 abbrev pub delay_in : Option EdgeLookups → Option ℤ
 delay_in None = None
 delay_in (Some looked) = if_value looked.delay
-
--- what stands at an edge
-abbrev pub by_edge : PinState → PinState → Edge → PinState
-by_edge rise fall Rise = rise
-by_edge rise fall Fall = fall
 
 -- the larger of two values, of which each may be missing
 abbrev pub larger : Option ℤ → Option ℤ → Option ℤ

@@ -1,13 +1,14 @@
 //! The delays of arcs at their worst input slews.
-ghost use Rattle.std.specs.Prelude.{◌≡◌, ◌+◌, ◌<◌, ◌≤◌, length, map};
+ghost use Rattle.std.specs.Prelude.{◌≡◌, ◌+◌, ◌<◌, ◌≤◌, [], ◌∷◌, length, map, IfSome, IfNone};
 ghost use Rattle.std.specs.Option.{option_map};
+ghost use Rattle.cell_models.specs.declared.edge.Edge.TheVariants.{Rise, Fall};
 ghost use Rattle.netlist_link.specs.FlatNetlist.{instance_at};
 ghost use Rattle.netlist_link.specs.Linked.{IsLinked};
 ghost use Rattle.slew_states.specs.InputEdges.{input_edges};
 ghost use Rattle.slew_states.specs.PinState.{IsSmall, joined};
 ghost use Rattle.slew_states.specs.Settled.{states_in};
 ghost use Rattle.slew_order.specs.FlatArcs.{IsArcAt};
-ghost use Rattle.slew_order.specs.LivePaths.{by_edge, delay_at};
+ghost use Rattle.slew_order.specs.LivePaths.{delay_at};
 ghost use Rattle.slew_order.specs.NetStates.{states_at};
 ghost use Rattle.slew_order.specs.NetTimes.{Fits};
 ghost use Rattle.slew_order.specs.PinSlews.{state_of_pin};
@@ -29,6 +30,22 @@ use nldm_lookup::Grain;
 use slew_states::PinState;
 use std::sync::ledger::Ledger;
 
+// The input edge of an arc of a kind for an edge of its output, or none where both are.
+fn sole_edge(kind: ArcKind, edge: Edge) -> Option<Edge>
+    ensures sole { IfSome result (λ at. input_edges kind edge ≡ at ∷ []) }
+    ensures both { IfNone result (input_edges kind edge ≡ Rise ∷ Fall ∷ []) }
+{
+    match (kind, edge) {
+        (ArcKind::Positive, Edge::Rise)
+        | (ArcKind::Negative, Edge::Fall)
+        | (ArcKind::RisingEdge, _) => Some(Edge::Rise),
+        (ArcKind::Positive, Edge::Fall)
+        | (ArcKind::Negative, Edge::Rise)
+        | (ArcKind::FallingEdge, _) => Some(Edge::Fall),
+        (ArcKind::Both, _) => None,
+    }
+}
+
 impl<C: CornerSet> Slews<C> {
     // Known with the worst slew of a pin for an edge of the output of an arc from it.
     fn worst_slew(
@@ -49,9 +66,14 @@ impl<C: CornerSet> Slews<C> {
             (states_in (states_at self.now.corners (C.number_of corner))) instance pin) (input_edges kind edge)) }
         ensures small { IsSmall result }
     {
-        let rise = self.state(netlist, nets, instance, pin, Edge::Rise, corner);
-        let fall = self.state(netlist, nets, instance, pin, Edge::Fall, corner);
-        worst_of(kind, edge, rise, fall)
+        match sole_edge(kind, edge) {
+            Some(at) => self.state(netlist, nets, instance, pin, at, corner),
+            None => {
+                let rise = self.state(netlist, nets, instance, pin, Edge::Rise, corner);
+                let fall = self.state(netlist, nets, instance, pin, Edge::Fall, corner);
+                rise.join(fall)
+            }
+        }
     }
 
     /// The delay of an arc at an edge of its output and a corner, in femtoseconds, at the worst slew of its related pin and the load of
@@ -95,23 +117,5 @@ impl<C: CornerSet> Slews<C> {
             Ok(delay) => Some(Femto(delay as i128)),
             Err(_) => None,
         }
-    }
-}
-
-// The states at the input edges of an arc of a kind, joined.
-fn worst_of(kind: ArcKind, edge: Edge, rise: PinState, fall: PinState) -> PinState
-    requires rise { IsSmall rise }
-    requires fall { IsSmall fall }
-    ensures value { result ≡ joined (map (by_edge rise fall) (input_edges kind edge)) }
-    ensures small { IsSmall result }
-{
-    match (kind, edge) {
-        (ArcKind::Positive, Edge::Rise)
-        | (ArcKind::Negative, Edge::Fall)
-        | (ArcKind::RisingEdge, _) => rise,
-        (ArcKind::Positive, Edge::Fall)
-        | (ArcKind::Negative, Edge::Rise)
-        | (ArcKind::FallingEdge, _) => fall,
-        (ArcKind::Both, _) => rise.join(fall),
     }
 }
