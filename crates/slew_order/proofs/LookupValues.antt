@@ -1,16 +1,13 @@
 -- The function is what a lookup answers, and nothing else is.
-use Rattle.std.proofs.Common.{◌≡◌, ℕ, ◌+◌, ◌*◌, ◌≤◌, false, ◌&&◌, nat_lt, nat_le, sym, refl, subst, length, Option, None, Result, ℤ, pos, ◌+ℤ◌, ◌*ℤ◌, ◌≤ℤ◌, unsigned_abs, inl, inr, arith}
+use Rattle.std.proofs.Common.{◌≡◌, ℕ, ◌≤◌, false, ◌&&◌, nat_lt, nat_le, sym, refl, subst, Option, None, Result, ℤ, pos, ◌+ℤ◌, ◌*ℤ◌, ◌≤ℤ◌, unsigned_abs, inl, inr, arith}
 use Rattle.std.proofs.lemmas.Int.{ints}
-use Rattle.std.proofs.lemmas.Bool.{cases_lt, cond_both, and_parts, and_cases, leb-true, leb-false, ltb-true, ltb-false}
-use Rattle.std.proofs.lemmas.List.{get_or_past}
-use Rattle.std.proofs.lemmas.List.Elements.{All-get_or}
+use Rattle.std.proofs.lemmas.Bool.{cond_both, and_parts, and_cases, leb-true, leb-false, ltb-true, ltb-false}
 use Rattle.delay_units.specs.Rounding.{IsRounding}
 use Rattle.delay_units.proofs.RoundingLemmas.{division, rest_in_range, rounding_from}
 use Rattle.nldm_lookup.specs.Axes.{most}
 use Rattle.nldm_lookup.specs.Betweens.{Between, IsPassed, width}
-use Rattle.nldm_lookup.specs.Tables.{TimingTable, IsTable, IsSmall, place_in, value_at}
+use Rattle.nldm_lookup.specs.Tables.{TimingTable, IsTable}
 use Rattle.nldm_lookup.specs.Interpolant.{weighed, attos_in, most_in, far, slew_outside, load_outside, far_load, IsLookup}
-use Rattle.nldm_lookup.specs.Rows.{row_at, size_of}
 use Rattle.nldm_lookup.specs.declared.beyond.Beyond.{Beyond}
 use Rattle.nldm_lookup.specs.declared.beyond.Beyond.TheVariants.{Refuse, Edge, Extend}
 use Rattle.nldm_lookup.specs.declared.faults.LookupEnd.{LookupEnd}
@@ -18,8 +15,8 @@ use Rattle.nldm_lookup.specs.declared.grain.Grain.{Grain}
 use Rattle.nldm_lookup.proofs.Answering.{found, past_time, only_answer}
 use Rattle.nldm_lookup.proofs.Ends.{some_width}
 use Rattle.nldm_lookup.proofs.OneValue.{some_attos}
-use Rattle.nldm_lookup.proofs.Scaling.{scale_sum, product_some, row_small}
-use Rattle.nldm_lookup.proofs.Weighing.{by_rows}
+use Rattle.nldm_lookup.proofs.Scaling.{scale_sum, product_some}
+use Rattle.nldm_lookup.proofs.Sizes.{weighed_small}
 use Rattle.slew_order.specs.Lookups.{half_up, is_passed, between_on, quotient_of, value_of, axis_end, answer_of, lookup_of, LookupFunction}
 use Rattle.slew_order.proofs.BetweenPoints.{passed_where_true, within_where_false, between_is}
 
@@ -31,24 +28,6 @@ half_up_rounds n d some =
     let rest = rest_in_range ((n +ℤ n) +ℤ d) (d +ℤ d) both in
     let twice = scale_sum (half_up n d) d d in
     rounding_from n d (half_up n d) (half_up n d *ℤ d) refl (omega (arith, ints, whole, rest.0, rest.1, twice)) (omega (arith, ints, whole, rest.0, rest.1, twice))
-
--- what stands at two points is small, and so are all four by their weights
-value_small : (table : TimingTable) (slew load : ℕ) → IsTable table → unsigned_abs (value_at table slew load) ≤ most
-value_small table slew load whole = elim (cases_lt (place_in table.order table slew load) (length table.values)) [
-  | inl within ↦ All-get_or IsSmall table.values (place_in table.order table slew load) (pos 0) within whole.small
-  | inr past ↦ subst (λ value. unsigned_abs value ≤ most) (sym (get_or_past table.values (place_in table.order table slew load) (pos 0) past)) (omega arith)
-]
-
-row_is_small : (table : TimingTable) (slew : ℕ) (load : Between) → IsTable table → unsigned_abs (row_at table slew load) ≤ most * size_of load
-row_is_small table slew load whole =
-    row_small _ _ (value_at table slew load.place) (value_at table slew (load.place + 1)) load.low load.high most refl refl
-    (value_small table slew load.place whole) (value_small table slew (load.place + 1) whole)
-
-weighed_small : (table : TimingTable) (slew load : Between) → IsTable table → unsigned_abs (weighed table slew load) ≤ most * size_of load * size_of slew
-weighed_small table slew load whole =
-    subst (λ sum. unsigned_abs sum ≤ most * size_of load * size_of slew) (by_rows table slew load)
-    (row_small _ _ (row_at table slew.place load) (row_at table (slew.place + 1) load) slew.low slew.high (most * size_of load) refl refl
-    (row_is_small table slew.place load whole) (row_is_small table (slew.place + 1) load whole))
 
 module _ (table : TimingTable) (slew load : ℕ) (grain : Grain) where
   quotient_rounds : (on_slew on_load : Between) → pos 1 ≤ℤ width on_slew → pos 1 ≤ℤ width on_load

@@ -25,7 +25,6 @@ impl<'d, 'a, C: CornerSet> Timing for AtCorner<'d, 'a, C> {
 
     ghost can_wire = { λ timing arc. arc < length (arcs_in timing.design.now) };
 
-    #[tactic(auto, using(crate::proofs::Looking::made_small))]
     fn look<L: Ledger>(
         &self,
         arc: usize,
@@ -33,8 +32,7 @@ impl<'d, 'a, C: CornerSet> Timing for AtCorner<'d, 'a, C> {
         slew: u64,
         steps: &mut Steps<L>,
     ) -> Option<u64> {
-        let looked = self.design.lookups(arc, edge, slew, self.corner, steps)?;
-        looked.made()
+        self.design.transition(arc, edge, slew, self.corner, steps)
     }
 
     fn wire(&self, arc: usize, slew: u64) -> Option<u64> {

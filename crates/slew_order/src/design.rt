@@ -9,11 +9,11 @@ ghost use Rattle.slew_order.specs.FlatArcs.{IsArcAt, flat_at};
 ghost use Rattle.slew_order.specs.NetTimes.{Fits, elmore_at, elmore_limit};
 ghost use Rattle.slew_order.specs.Sinks.{ArePinStarts, IsSunk, related_sink};
 ghost use Rattle.slew_order.specs.SinkPlaces.{ArePlaces};
-ghost use Rattle.slew_order.specs.Timings.{source_of, arcs_in, flat_in, arc_number, behind_wire, lookups_at, tables_of, wire_at};
+ghost use Rattle.slew_order.specs.Timings.{source_of, arcs_in, flat_in, arc_number, behind_wire, look_at, lookups_at, tables_of, wire_at};
 
 use crate::arcs::ArcAt;
 use crate::flattening::{all_arcs, cell_arc, flat_arcs};
-use crate::lookups::{EdgeLookups, look_up_both};
+use crate::lookups::{EdgeLookups, look_up_both, transition_of};
 use crate::net_delays::NetDelays;
 use crate::sinks::{PinSinks, related_sinks};
 use crate::wires::slew_behind;
@@ -211,6 +211,29 @@ impl<'a, C: CornerSet> Design<'a, C> {
         let tables = tables_of(arc, edge)?;
         let load = self.nets.load(net, corner);
         Some(look_up_both(tables, slew, load, self.beyond, steps))
+    }
+
+    /// The transition at an edge of an arc's output at a corner, for a slew of its related pin, both in attoseconds. None where a look-up of
+    /// the edge is refused. It is at most 64 steps.
+    pub(crate) fn transition<L: Ledger>(
+        &self,
+        arc: usize,
+        edge: Edge,
+        slew: u64,
+        corner: C::Index,
+        steps: &mut Steps<L>,
+    ) -> Option<u64>
+        requires arc { arc < length (arcs_in self.now) }
+        requires slew { slew ≤ most }
+        ensures value { result ≡ look_at self.now (C.number_of corner) arc edge slew }
+        ensures small { IfSome result (λ made. made ≤ most) }
+        ensures steps { steps.new ≤ steps.old + 64 }
+    {
+        let net = self.flat[arc].target?;
+        let arc = cell_arc(self.netlist, self.cells, self.arcs[arc], corner);
+        let tables = tables_of(arc, edge)?;
+        let load = self.nets.load(net, corner);
+        transition_of(tables, slew, load, self.beyond, steps)
     }
 
     /// The Elmore sum of a sink of a net at a corner, in 10^-27 s.

@@ -1,5 +1,5 @@
 //! The look-ups of an edge of an arc.
-ghost use Rattle.std.specs.Prelude.{◌≡◌, ◌+◌, ◌≤◌, IfOk, IfSome, Some, unsigned_abs};
+ghost use Rattle.std.specs.Prelude.{◌≡◌, ◌+◌, ◌≤◌, is_ok, IfOk, IfSome, Some, unsigned_abs};
 ghost use Rattle.nldm_lookup.specs.Interpolant.{most_in};
 ghost use Rattle.slew_states.specs.PinState.{most};
 ghost use Rattle.slew_order.specs.Lookups.{lookup_of};
@@ -62,17 +62,46 @@ pub(crate) fn look_up_both<L: Ledger>(
     EdgeLookups { delay, transition }
 }
 
-impl EdgeLookups {
-    /// The transition in attoseconds, where neither look-up is refused.
-    pub(crate) fn made(self) -> Option<u64>
-        ensures { result ≡ made_of (Some self) }
-    {
-        match (self.delay, self.transition) {
-            (Ok(_), Ok(transition)) => Some(transition.unsigned_abs()),
-            _ => None,
-        }
-    }
+// Whether a look-up has a value, at a slew in attoseconds. It is at most 32 steps.
+fn has_value<L: Ledger>(
+    table: &Table,
+    slew: u64,
+    load: Farads,
+    grain: Grain,
+    beyond: Beyond,
+    steps: &mut Steps<L>,
+) -> bool
+    requires slew { slew ≤ most }
+    ensures value { is_ok (lookup_of table.now slew load.0 grain beyond) ≡ result }
+    ensures steps { steps.new ≤ steps.old + 32 }
+{
+    table.whole();
+    table.has_value(Atto(slew as i64), load, grain, beyond, steps)
+}
 
+/// The transition of an edge in attoseconds, at a slew in attoseconds, where neither look-up is refused. They are at most 64 steps.
+pub(crate) fn transition_of<L: Ledger>(
+    tables: &EdgeTables,
+    slew: u64,
+    load: Farads,
+    beyond: Beyond,
+    steps: &mut Steps<L>,
+) -> Option<u64>
+    requires slew { slew ≤ most }
+    ensures value { result ≡ made_of (Some (lookups_of beyond tables.now slew load.0)) }
+    ensures small { IfSome result (λ made. made ≤ most) }
+    ensures steps { steps.new ≤ steps.old + 64 }
+{
+    if !has_value(&tables.delay, slew, load, Grain::Femto, beyond, steps) {
+        return None;
+    }
+    match look_up(&tables.slew, slew, load, Grain::Atto, beyond, steps) {
+        Ok(transition) => Some(transition.unsigned_abs()),
+        Err(_) => None,
+    }
+}
+
+impl EdgeLookups {
     /// The first look-up that is refused, the delay first.
     pub(crate) fn refused(self) -> Option<PartEnd>
         ensures { result ≡ refused_of (Some self) }
