@@ -30,17 +30,6 @@ use Rattle.delay_annotation.specs.declared.settings.Files.{Files}
 use Rattle.delay_annotation.specs.declared.settings.Settings.{Settings}
 use Rattle.delay_annotation.proofs.Agreeing.{delays_fit}
 
--- the end of phases, handed on
-on_halt : (A B : Type 0) (end : PhaseEnd Refusal FileKey) (P : Step Refusal FileKey A → Type 0) (Q : Step Refusal FileKey B → Type 0) → Follows P (Err end) → ((why : Stop Refusal FileKey) → P (Halt why) → Q (Halt why)) → Follows Q (Err end)
-on_halt A B (phase.Refused refusal) P Q holds more = more (RefusedBy refusal) holds
-on_halt A B (phase.ReadFault key) P Q holds more = more (Reads key) holds
-on_halt A B phase.OutOfMemory P Q holds more = tt
-
-pub halted : (A B : Type 0) (result : Result B (PhaseEnd Refusal FileKey)) (end : PhaseEnd Refusal FileKey) (P : Step Refusal FileKey A → Type 0) (Q : Step Refusal FileKey B → Type 0) → IsErrAnd result (λ other. other ≡ end)
-    → Follows P (Err end) → ((why : Stop Refusal FileKey) → P (Halt why) → Q (Halt why)) → Follows Q result
-halted A B (Ok value) end P Q is holds more = absurd is
-halted A B (Err other) end P Q is holds more = on_halt A B other P Q (subst (λ (e : PhaseEnd Refusal FileKey). Follows P (Err e)) (sym is) holds) more
-
 -- a fact of the refusal of a phase that reads no file, handed on
 on_refusal : (A B : Type 0) (end : NoFileEnd Refusal) (P : Refusal → Type 0) → OnRefusal {A = A} (Err end) P → OnRefusal {A = B} (Err end) P
 on_refusal A B (no_file.Refused refusal) P holds = holds

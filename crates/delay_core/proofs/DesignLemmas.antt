@@ -1,10 +1,10 @@
 -- The files of a design are read one after another, and a fault at one of them has its cause.
-use Rattle.std.proofs.Common.{◌≡◌, ℕ, suc, ◌≤◌, ◌⊎◌, inl, inr, List, ◌∷◌, Option, Some, Err, refl, subst, arith}
+use Rattle.std.proofs.Common.{◌≡◌, ℕ, suc, ◌≤◌, ◌⊎◌, inl, inr, List, ◌∷◌, Option, Some, refl, sym, subst, arith}
 use Rattle.std.specs.Prelude.{slice_get}
 use Rattle.edge_io.specs.Counts.{Rose, RoseBy}
 use Rattle.edge_io.specs.Holding.{Held, TellsMissing}
-use Rattle.verdict_phases.specs.Phases.{RefusedBy, Unread, Reads, Go, Halt}
-use Rattle.delay_core.specs.DesignReading.{ReadsNetlistFile, ReadInputs, ReadsInputs, at_libraries, LinksInputs, ReadsDesign, at_netlist, at_inputs, at_design, input_key, IsInputFault}
+use Rattle.verdict_phases.specs.Phases.{Unread, Reads, Step, Go, Halt}
+use Rattle.delay_core.specs.DesignReading.{ReadsNetlistFile, LinkedDesign, ReadsInputs, at_libraries, ReadsDesign, at_netlist, at_inputs, ReadsDesignOf, input_key, IsInputFault}
 use Rattle.delay_core.specs.LibraryReading.{library_key, ReadsLibrary, at_file, ReadsLibraries, stops_at, IsLibraryFault}
 use Rattle.delay_core.specs.declared.refusal.FileKey.{FileKey}
 use Rattle.delay_core.specs.declared.refusal.FileKey.TheVariants.{Netlist}
@@ -37,11 +37,12 @@ library_fault held held' corners file libraries faults faults' faults₂ opens o
   opened = let more = fault.opened in omega (arith, opened, more);
 }
 
--- the design is refused behind its inputs
-pub design_refused : (held held' : Option Held) (corners : ℕ) (file top : List ℕ) (libraries : List (List ℕ)) (text bytes : List ℕ) (inputs : ReadInputs) (refusal : Refusal) → held' ≡ held → bytes ≡ text
-    → ReadsNetlistFile held file (Go text) → ReadsInputs held' corners bytes top libraries (Go inputs) → LinksInputs inputs top (Err refusal) → ReadsDesign held corners file top libraries (Halt (RefusedBy refusal))
-design_refused held held' corners file top libraries text bytes inputs refusal same is reads are links =
-    at_design text inputs refusal reads (subst (λ (b : List ℕ). ReadsInputs held corners b top libraries (Go inputs)) is (subst (λ (h : Option Held). ReadsInputs h corners bytes top libraries (Go inputs)) same are)) links
+-- the design comes of the bytes of the netlist's file, as they are lent
+pub of_bytes : (held held' : Option Held) (corners : ℕ) (file top : List ℕ) (libraries : List (List ℕ)) (text bytes : List ℕ) (step : Step Refusal FileKey LinkedDesign) → held' ≡ held → bytes ≡ text
+    → ReadsNetlistFile held file (Go text) → ReadsDesignOf held' corners bytes top libraries step → ReadsDesign held corners file top libraries step
+of_bytes held held' corners file top libraries text bytes step same is reads follows =
+    subst (λ (h : Option Held). ReadsDesign h corners file top libraries step) same
+    (follows file (subst (λ (h : Option Held). ReadsNetlistFile h file (Go bytes)) (sym same) (subst (λ (b : List ℕ). ReadsNetlistFile held file (Go b)) (sym is) reads)))
 
 -- ---- where the phases come to the reading of a file, they come to a file that is not held
 

@@ -109,6 +109,28 @@ pub fault_on : (A B : Type 0) (result : Result B (PhaseEnd Refusal FileKey)) (en
 fault_on A B (Ok value) end P Q is holds more = tt
 fault_on A B (Err other) end P Q is holds more = on_fault A B other P Q (subst (λ (e : PhaseEnd Refusal FileKey). AtReadFault {A = A} (Err e) P) (sym is) holds) more
 
+-- so is the end of phases
+on_halt : (A B : Type 0) (end : PhaseEnd Refusal FileKey) (P : Step Refusal FileKey A → Type 0) (Q : Step Refusal FileKey B → Type 0) → Follows P (Err end) → ((why : Stop Refusal FileKey) → P (Halt why) → Q (Halt why)) → Follows Q (Err end)
+on_halt A B (phase.Refused refusal) P Q holds more = more (RefusedBy refusal) holds
+on_halt A B (phase.ReadFault key) P Q holds more = more (Reads key) holds
+on_halt A B phase.OutOfMemory P Q holds more = tt
+
+pub halted : (A B : Type 0) (result : Result B (PhaseEnd Refusal FileKey)) (end : PhaseEnd Refusal FileKey) (P : Step Refusal FileKey A → Type 0) (Q : Step Refusal FileKey B → Type 0) → IsErrAnd result (λ other. other ≡ end)
+    → Follows P (Err end) → ((why : Stop Refusal FileKey) → P (Halt why) → Q (Halt why)) → Follows Q result
+halted A B (Ok value) end P Q is holds more = absurd is
+halted A B (Err other) end P Q is holds more = on_halt A B other P Q (subst (λ (e : PhaseEnd Refusal FileKey). Follows P (Err e)) (sym is) holds) more
+
+-- and where the phases around them say why they stop
+on_stop_follows : (A B : Type 0) (end : PhaseEnd Refusal FileKey) (P : Stop Refusal FileKey → Type 0) (Q : Step Refusal FileKey B → Type 0) → OnStop {A = A} (Err end) P → ((why : Stop Refusal FileKey) → P why → Q (Halt why)) → Follows Q (Err end)
+on_stop_follows A B (phase.Refused refusal) P Q holds more = more (RefusedBy refusal) holds
+on_stop_follows A B (phase.ReadFault key) P Q holds more = more (Reads key) holds
+on_stop_follows A B phase.OutOfMemory P Q holds more = tt
+
+pub stop_follows : (A B : Type 0) (result : Result B (PhaseEnd Refusal FileKey)) (end : PhaseEnd Refusal FileKey) (P : Stop Refusal FileKey → Type 0) (Q : Step Refusal FileKey B → Type 0) → IsErrAnd result (λ other. other ≡ end)
+    → OnStop {A = A} (Err end) P → ((why : Stop Refusal FileKey) → P why → Q (Halt why)) → Follows Q result
+stop_follows A B (Ok value) end P Q is holds more = absurd is
+stop_follows A B (Err other) end P Q is holds more = on_stop_follows A B other P Q (subst (λ (e : PhaseEnd Refusal FileKey). OnStop {A = A} (Err e) P) (sym is) holds) more
+
 -- so many libraries are read as there are corners
 pub libraries_counted : (held : Option Held) (corners : ℕ) (names : List (List ℕ)) (trees : List Tables) → ReadsLibraries held corners names (Go (map tree_of trees)) → length trees ≡ corners
 libraries_counted held corners names trees (all_read libraries first) = sym (length-map trees tree_of) ∙ first.counted

@@ -75,6 +75,11 @@ pub data ReadsDesign (held : Option Held) (corners : ℕ) (file top : List ℕ) 
       → ReadsInputs held corners bytes top libraries (Go inputs) → LinksInputs inputs top (Ok design)
       → ReadsDesign held corners file top libraries (Go design)
 
+-- the same from the bytes of a netlist, whichever file has them
+abbrev pub ReadsDesignOf : Option Held → ℕ → List ℕ → List ℕ → List (List ℕ) → Step Refusal FileKey LinkedDesign → Type 0
+ReadsDesignOf held corners bytes top libraries step =
+    (file : List ℕ) → ReadsNetlistFile held file (Go bytes) → ReadsDesign held corners file top libraries step
+
 -- the key of a file, by how many are read before it: the netlist, and then the libraries in the order of the corners
 abbrev pub input_key : ℕ → ℕ → FileKey
 input_key corners zero = Netlist

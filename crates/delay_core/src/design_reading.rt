@@ -3,7 +3,7 @@ ghost use Rattle.std.specs.Prelude.{◌≡◌, ◌<◌, ◌≤◌, ◌+◌, ◌^
 ghost use Rattle.edge_io.specs.Counts.{RoseBy};
 ghost use Rattle.netlist_link.specs.Linked.{IsLinked};
 ghost use Rattle.verdict_phases.specs.Phases.{Go, Halt, Follows, FollowsNoFile};
-ghost use Rattle.delay_core.specs.DesignReading.{inputs_of, ReadsInputs, LinksInputs, ReadsDesign, IsInputFault};
+ghost use Rattle.delay_core.specs.DesignReading.{inputs_of, ReadsInputs, LinksInputs, ReadsDesign, ReadsDesignOf, IsInputFault};
 ghost use Rattle.delay_core.specs.LibraryReading.{IsLibraryFault};
 ghost use Rattle.delay_core.specs.Refused.{AtReadFault, OnStop};
 ghost use Rattle.delay_core.specs.UsePhase.{UsesCells};
@@ -124,9 +124,31 @@ pub fn link_inputs<C: CornerSet>(
     Ok(Design { netlist, cells })
 }
 
+// The design of the bytes of a netlist: its inputs are read, and then they are linked.
+fn design_of<C: CornerSet, H: Shelf>(
+    alloc: Global,
+    shelf: &mut H,
+    bytes: &[u8],
+    top: &Text,
+    libraries: &TextList,
+) -> Result<Design<C>, PhaseEnd<Refusal, FileKey>>
+    requires bytes { length bytes.now < 2 ^ 30 }
+    requires libraries { length libraries.now ≡ C.COUNT }
+    ensures follows { Follows (ReadsDesignOf (H.held shelf.old) C.COUNT bytes.now top.now libraries.now) result }
+    ensures fault { AtReadFault result (IsLibraryFault (H.held shelf.old) C.COUNT libraries.now (H.faults shelf.old) (H.faults shelf.new)
+        (H.opens shelf.old) (H.opens shelf.new)) }
+    ensures later { H.faults shelf.old ≤ H.faults shelf.new }
+    ensures opens { OnOk result (RoseBy C.COUNT (H.opens shelf.old) (H.opens shelf.new)) }
+    ensures held { H.held shelf.new ≡ H.held shelf.old }
+{
+    let inputs = read_inputs::<C, H>(alloc, shelf, bytes, top, libraries)?;
+    let design = link_inputs::<C>(alloc, &inputs, top)?;
+    Ok(design)
+}
+
 /// Reads the netlist of that name, the cells that the module of this name uses and the libraries of all corners, in this order, and
 /// makes the flat netlist of them.
-#[tactic(auto, using(crate::specs::DesignReading::at_netlist, crate::specs::DesignReading::at_inputs, crate::specs::DesignReading::at_design, crate::specs::DesignReading::with_design))]
+#[tactic(auto, using(crate::specs::DesignReading::at_netlist))]
 pub fn read_design<C: CornerSet, H: Shelf>(
     alloc: Global,
     shelf: &mut H,
@@ -143,7 +165,6 @@ pub fn read_design<C: CornerSet, H: Shelf>(
     ensures held { H.held shelf.new ≡ H.held shelf.old }
 {
     let text = read_input(alloc, shelf, netlist, FileKey::Netlist)?;
-    let inputs = read_inputs::<C, H>(alloc, shelf, text.bytes(), top, libraries)?;
-    let design = link_inputs::<C>(alloc, &inputs, top)?;
+    let design = design_of::<C, H>(alloc, shelf, text.bytes(), top, libraries)?;
     Ok(design)
 }

@@ -1,12 +1,12 @@
 -- Where the design stops, and a fault at one of its files; its delays and their work come behind it.
 use Rattle.spef_nets.specs.Drafts.{corners_of}
 use Rattle.delay_core.specs.DesignReading.{LinkedDesign, ReadsDesign}
-use Rattle.delay_core.proofs.LibraryLemmas.{fault_on}
+use Rattle.delay_core.proofs.LibraryLemmas.{halted, fault_on}
 use Rattle.delay_annotation.specs.AnnotatedDesigns.{AnnotatedDesign}
 use Rattle.delay_annotation.specs.Annotation.{Annotates}
 use Rattle.delay_annotation.specs.TimingHalves.{AnnotatesDesign}
 use Rattle.delay_annotation.proofs.Faults.{input_fault, spef_fault}
-use Rattle.delay_annotation.proofs.Following.{halted, design_refused, design_stops, design_goes}
+use Rattle.delay_annotation.proofs.Following.{design_refused, design_stops, design_goes}
 use Rattle.delay_annotation.proofs.Work.{files_work}
 use Rattle.delay_annotation.proofs.annotation.annotate.Goals as goal
 

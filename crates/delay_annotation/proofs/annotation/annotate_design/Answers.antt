@@ -1,10 +1,10 @@
 -- Where the nets stop, the design stops; a refusal of the slews comes behind the SPEF file, and so does their work.
 use Rattle.spef_nets.specs.Drafts.{corners_of}
 use Rattle.slew_order.specs.NetTimes.{NetTimes}
-use Rattle.delay_core.proofs.LibraryLemmas.{lifted_follows}
+use Rattle.delay_core.proofs.LibraryLemmas.{halted, lifted_follows}
 use Rattle.delay_annotation.specs.AnnotatedDesigns.{AnnotatedDesign, DesignDelays}
 use Rattle.delay_annotation.specs.TimingHalves.{slews_work, ReadsNetTimes, TimesNets, AnnotatesDesign, DesignWork}
-use Rattle.delay_annotation.proofs.Following.{halted, lifted_late, lifted_no_fault, unread, untimed}
+use Rattle.delay_annotation.proofs.Following.{lifted_late, lifted_no_fault, unread, untimed}
 use Rattle.delay_annotation.proofs.SlewEnds.{timing_late}
 use Rattle.delay_annotation.proofs.Work.{with_rest}
 use Rattle.delay_annotation.proofs.annotation.annotate_design.Goals as goal

@@ -1,10 +1,10 @@
 -- What the design gets comes behind the linked inputs, and so does its work.
 use Rattle.spef_nets.specs.Drafts.{corners_of}
 use Rattle.delay_core.specs.DesignReading.{inputs_of}
+use Rattle.delay_core.proofs.LibraryLemmas.{halted}
 use Rattle.delay_annotation.specs.AnnotatedDesigns.{AnnotatedDesign}
 use Rattle.delay_annotation.specs.Annotation.{AnnotatesFrom}
 use Rattle.delay_annotation.specs.TimingHalves.{AnnotatesDesign}
-use Rattle.delay_annotation.proofs.Following.{halted}
 use Rattle.delay_annotation.proofs.Work.{inputs_work}
 use Rattle.delay_annotation.proofs.annotation.annotate_from.Goals as goal
 

@@ -2,9 +2,9 @@
 use Rattle.std.proofs.Common.{List, ℕ}
 use Rattle.spef_nets.specs.Drafts.{corners_of}
 use Rattle.slew_order.specs.NetTimes.{NetTimes}
-use Rattle.delay_core.proofs.LibraryLemmas.{lifted_follows}
+use Rattle.delay_core.proofs.LibraryLemmas.{halted, lifted_follows}
 use Rattle.delay_annotation.specs.TimingHalves.{slews_work, FindsNets, ReadsNetTimes, at_file}
-use Rattle.delay_annotation.proofs.Following.{halted, lifted_early, lifted_no_fault, nets_stop, nets_go}
+use Rattle.delay_annotation.proofs.Following.{lifted_early, lifted_no_fault, nets_stop, nets_go}
 use Rattle.delay_annotation.proofs.Work.{lent_work, lent_ahead}
 use Rattle.delay_annotation.proofs.annotation.read_nets.Goals as goal
 use Rattle.delay_core.specs.SpefPhases.{ReadsSpefFile}
