@@ -12,7 +12,7 @@ use Rattle.delay_core.specs.DesignReading.{ReadInputs, LinkedDesign, LinksInputs
 use Rattle.delay_core.specs.SpefPhases.{DesignNets, ParsesSpef, HeadsSpef, ReadsNets, ReadsSpefFile}
 use Rattle.delay_core.specs.declared.refusal.FileKey.{FileKey}
 use Rattle.delay_core.specs.declared.refusal.Refusal.{Refusal}
-use Rattle.delay_annotation.specs.AnnotatedDesigns.{AnnotatedDesign, DesignDelays}
+use Rattle.delay_annotation.specs.AnnotatedDesigns.{AnnotatedDesign, DesignDelays, with_delays_of}
 use Rattle.delay_annotation.specs.Annotation.{AnnotatesFrom}
 use Rattle.delay_annotation.specs.AnnotationWork.{edges_of, BytesWork, InputsWork}
 use Rattle.delay_annotation.specs.DelayPhase.{FindsDelays}
@@ -54,6 +54,16 @@ abbrev pub AnnotatesDesign : {I : Type 0} → Option Held → Corners I → Link
     → Step Refusal FileKey AnnotatedDesign → Type 0
 AnnotatesDesign held corners design spef settings step =
     (inputs : ReadInputs) → LinksInputs inputs settings.top (Ok design) → AnnotatesFrom held corners inputs spef settings step
+
+-- a step to the delays of a design, as one to the design with them
+abbrev pub annotated_step : LinkedDesign → Step Refusal FileKey DesignDelays → Step Refusal FileKey AnnotatedDesign
+annotated_step design (Go delays) = Go (with_delays_of design.netlist design.cells delays)
+annotated_step design (Halt why) = Halt why
+
+-- the same where the design and its delays are apart
+abbrev pub ReadsDelays : {I : Type 0} → Option Held → Corners I → LinkedDesign → List ℕ → Settings
+    → Step Refusal FileKey DesignDelays → Type 0
+ReadsDelays held corners design spef settings step = AnnotatesDesign held corners design spef settings (annotated_step design step)
 
 -- the work of a file whose grammar and head are read
 abbrev pub FileWork : {I : Type 0} → Corners I → LinkedDesign → SpefText → HeadText → Settings → ℕ → Type 0

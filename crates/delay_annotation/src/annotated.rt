@@ -1,4 +1,5 @@
 //! A design with its delays.
+ghost use Rattle.std.specs.Prelude.{◌≡◌};
 ghost use Rattle.delay_annotation.specs.AnnotatedDesigns.{PartsAgree};
 
 use cell_models::CellSets;
@@ -31,10 +32,11 @@ impl<C: CornerSet> Model for Annotated<C> {
 }
 
 impl<C: CornerSet> Annotated<C> {
-    /// That its parts agree. It does nothing when it is called.
-    pub fn agrees(&self)
-        ensures { PartsAgree C.COUNT self.now }
+    /// The rows alone, and that they are those of parts that agree. The parts are let go of.
+    pub fn into_rows(self) -> Rows<C>
+        ensures rows { result ≡ self.rows }
+        ensures agrees { PartsAgree C.COUNT self }
     {
-        let _ = &self.rows;
+        self.rows
     }
 }

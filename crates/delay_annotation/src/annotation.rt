@@ -1,5 +1,5 @@
 //! The delays of a design, from its files.
-ghost use Rattle.std.specs.Prelude.{◌≡◌, ◌≤◌, ◌+◌, length, Ok, OnOk};
+ghost use Rattle.std.specs.Prelude.{◌≡◌, ◌≤◌, ◌+◌, length, Ok, IfOk, OnOk};
 ghost use Rattle.edge_io.specs.Counts.{RoseBy};
 ghost use Rattle.net_parasitics.specs.Inputs.{AreNamedApart, HaveSmallPins};
 ghost use Rattle.spef_nets.specs.Drafts.{corners_of};
@@ -12,7 +12,7 @@ ghost use Rattle.delay_annotation.specs.AnnotatedDesigns.{PartsAgree, with_delay
 ghost use Rattle.delay_annotation.specs.Annotation.{AnnotatesFrom, Annotates, IsAnnotationFault, IsSpefFault};
 ghost use Rattle.delay_annotation.specs.AnnotationWork.{InputsWork, FilesWork};
 ghost use Rattle.delay_annotation.specs.DesignTiming.{AreInRange};
-ghost use Rattle.delay_annotation.specs.TimingHalves.{slews_work, ReadsNetTimes, AnnotatesDesign, DesignWork};
+ghost use Rattle.delay_annotation.specs.TimingHalves.{slews_work, ReadsNetTimes, AnnotatesDesign, ReadsDelays, DesignWork};
 
 use crate::annotated::Annotated;
 use crate::design_timing::{Delays, nets_from_text, time_design};
@@ -73,8 +73,37 @@ fn read_nets<C: CornerSet, H: Shelf, L: Ledger>(
     Ok(nets)
 }
 
+// The delays of a linked design, from its SPEF file: the loads and the Elmore sums of its nets are found, and then its slews and its rows.
+#[tactic(auto, using(crate::proofs::Following::read_fit, crate::proofs::Work::with_rest))]
+fn read_delays<C: CornerSet, H: Shelf, L: Ledger>(
+    alloc: Global,
+    shelf: &mut H,
+    design: &Design<C>,
+    spef: &Text,
+    settings: &Settings,
+    steps: &mut Steps<L>,
+) -> Result<Delays<C>, PhaseEnd<Refusal, FileKey>>
+    requires apart { AreNamedApart design.now.netlist }
+    requires small_pins { HaveSmallPins design.now.cells }
+    requires settings { AreInRange settings.now }
+    ensures follows { Follows (ReadsDelays (H.held shelf.old) (corners_of C.COUNT C.number_of C.member_of settings.now.pick)
+        design.now spef.now settings.now) result }
+    ensures agree { IfOk result (λ delays. PartsAgree C.COUNT (with_delays_of design.now.netlist design.now.cells delays)) }
+    ensures fault { AtReadFault result (IsSpefFault (H.held shelf.old) spef.now (H.faults shelf.old) (H.faults shelf.new)
+        (H.opens shelf.old) (H.opens shelf.new)) }
+    ensures later { H.faults shelf.old ≤ H.faults shelf.new }
+    ensures opens { RoseBy 1 (H.opens shelf.old) (H.opens shelf.new) }
+    ensures held { H.held shelf.new ≡ H.held shelf.old }
+    ensures steps { IsWithin (DesignWork (H.held shelf.old) (corners_of C.COUNT C.number_of C.member_of settings.now.pick)
+        design.now spef.now settings.now) steps.old steps.new }
+    ensures no_steps { OnEarly result (steps.new ≡ steps.old) }
+{
+    let nets = read_nets::<C, H, L>(alloc, shelf, design, spef, settings, steps)?;
+    let delays = time_design(alloc, design, nets, settings, steps)?;
+    Ok(delays)
+}
+
 // Reads the SPEF file of a linked design, and gives the design its delays.
-#[tactic(auto, using(crate::proofs::Following::unread, crate::proofs::Following::timed, crate::proofs::Following::read_fit, crate::proofs::Agreeing::agree, crate::proofs::Work::with_rest))]
 fn annotate_design<C: CornerSet, H: Shelf, L: Ledger>(
     alloc: Global,
     shelf: &mut H,
@@ -97,8 +126,7 @@ fn annotate_design<C: CornerSet, H: Shelf, L: Ledger>(
         design spef.now settings.now) steps.old steps.new }
     ensures no_steps { OnEarly result (steps.new ≡ steps.old) }
 {
-    let nets = read_nets::<C, H, L>(alloc, shelf, &design, spef, settings, steps)?;
-    let delays = time_design(alloc, &design, nets, settings, steps)?;
+    let delays = read_delays::<C, H, L>(alloc, shelf, &design, spef, settings, steps)?;
     Ok(annotated_of(design, delays))
 }
 

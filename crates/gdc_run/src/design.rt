@@ -40,6 +40,5 @@ pub fn design_rows<C: CornerSet, H: Shelf, L: Ledger>(
     ensures no_steps { OnEarly result (steps.new ≡ steps.old) }
 {
     let annotated = annotate::<C, H, L>(alloc, shelf, files, settings, steps)?;
-    annotated.agrees();
-    Ok(annotated.rows)
+    Ok(annotated.into_rows())
 }

@@ -1,45 +1,21 @@
--- Where the nets stop, the design stops; a refusal of the slews comes behind the SPEF file, and so does their work.
+-- Where the delays stop, the design stops.
+use Rattle.std.proofs.Common.{sym, subst}
 use Rattle.spef_nets.specs.Drafts.{corners_of}
-use Rattle.slew_order.specs.NetTimes.{NetTimes}
-use Rattle.delay_core.proofs.LibraryLemmas.{halted, lifted_follows}
+use Rattle.verdict_phases.specs.Phases.{Go}
+use Rattle.delay_core.proofs.LibraryLemmas.{halted}
 use Rattle.delay_annotation.specs.AnnotatedDesigns.{AnnotatedDesign, DesignDelays}
-use Rattle.delay_annotation.specs.TimingHalves.{slews_work, ReadsNetTimes, TimesNets, AnnotatesDesign, DesignWork}
-use Rattle.delay_annotation.proofs.Following.{lifted_late, lifted_no_fault, unread, untimed}
-use Rattle.delay_annotation.proofs.SlewEnds.{timing_late}
-use Rattle.delay_annotation.proofs.Work.{with_rest}
+use Rattle.delay_annotation.specs.TimingHalves.{AnnotatesDesign, ReadsDelays}
 use Rattle.delay_annotation.proofs.annotation.annotate_design.Goals as goal
 
 pub returns-in_err-delays-clause-follows : goal.returns-in_err-delays-clause-follows
 returns-in_err-delays-clause-follows g c =
     let corners = corners_of g.C.CornerSet.COUNT g.C.CornerSet.number_of g.C.CornerSet.member_of c.args.settings.now.pick in
-    lifted_follows DesignDelays AnnotatedDesign c.from_residual-in_err-delays.result c.in_err-delays.field-0.0 (TimesNets g.C.CornerSet.COUNT c.args.design c.in_ok-nets.nets c.args.settings.now)
-    (AnnotatesDesign (g.H.Shelf.held c.args.shelf.now) corners c.args.design c.args.spef.now c.args.settings.now) c.from_residual-in_err-delays.ensures.1 c.in_err-delays.ensures.follows
-    (λ refusal times. untimed (g.H.Shelf.held c.args.shelf.now) corners c.args.design c.args.spef.now c.args.settings.now c.in_ok-nets.nets refusal c.in_ok-nets.ensures.follows times)
+    halted DesignDelays AnnotatedDesign c.from_residual.result c.in_err-delays.field-0.0 (ReadsDelays (g.H.Shelf.held c.args.shelf.now) corners c.args.design c.args.spef.now c.args.settings.now)
+    (AnnotatesDesign (g.H.Shelf.held c.args.shelf.now) corners c.args.design c.args.spef.now c.args.settings.now) c.from_residual.ensures.1 c.in_err-delays.ensures.follows
+    (λ why stops. stops)
 
-pub returns-in_err-delays-clause-fault : goal.returns-in_err-delays-clause-fault
-returns-in_err-delays-clause-fault g c = lifted_no_fault AnnotatedDesign c.from_residual-in_err-delays.result c.in_err-delays.field-0.0 _ c.from_residual-in_err-delays.ensures.1
-
-pub returns-in_err-delays-clause-steps : goal.returns-in_err-delays-clause-steps
-returns-in_err-delays-clause-steps g c =
+pub returns-clause-follows : goal.returns-clause-follows
+returns-clause-follows g c =
     let corners = corners_of g.C.CornerSet.COUNT g.C.CornerSet.number_of g.C.CornerSet.member_of c.args.settings.now.pick in
-    with_rest (DesignWork (g.H.Shelf.held c.args.shelf.now) corners c.args.design c.args.spef.now c.args.settings.now) (slews_work g.C.CornerSet.COUNT c.args.design)
-    c.args.steps.now c.read_nets.new.steps c.time_design.new.steps c.in_ok-nets.ensures.ahead c.time_design.ensures.steps
-
-pub returns-in_err-delays-clause-no_steps : goal.returns-in_err-delays-clause-no_steps
-returns-in_err-delays-clause-no_steps g c =
-    lifted_late DesignDelays AnnotatedDesign c.from_residual-in_err-delays.result c.in_err-delays.field-0.0 (TimesNets g.C.CornerSet.COUNT c.args.design c.in_ok-nets.nets c.args.settings.now) _
-    c.from_residual-in_err-delays.ensures.1 c.in_err-delays.ensures.follows
-    (λ refusal times. timing_late g.C.CornerSet.COUNT c.args.design c.in_ok-nets.nets c.args.settings.now refusal times)
-
-pub returns-in_err-nets-clause-follows : goal.returns-in_err-nets-clause-follows
-returns-in_err-nets-clause-follows g c =
-    let corners = corners_of g.C.CornerSet.COUNT g.C.CornerSet.number_of g.C.CornerSet.member_of c.args.settings.now.pick in
-    halted NetTimes AnnotatedDesign c.from_residual.result c.in_err-nets.field-0.0 (ReadsNetTimes (g.H.Shelf.held c.args.shelf.now) corners c.args.design c.args.spef.now c.args.settings.now)
-    (AnnotatesDesign (g.H.Shelf.held c.args.shelf.now) corners c.args.design c.args.spef.now c.args.settings.now) c.from_residual.ensures.1 c.in_err-nets.ensures.follows
-    (λ why reads. unread (g.H.Shelf.held c.args.shelf.now) corners c.args.design c.args.spef.now c.args.settings.now why reads)
-
-pub returns-clause-steps : goal.returns-clause-steps
-returns-clause-steps g c =
-    let corners = corners_of g.C.CornerSet.COUNT g.C.CornerSet.number_of g.C.CornerSet.member_of c.args.settings.now.pick in
-    with_rest (DesignWork (g.H.Shelf.held c.args.shelf.now) corners c.args.design c.args.spef.now c.args.settings.now) (slews_work g.C.CornerSet.COUNT c.args.design)
-    c.args.steps.now c.read_nets.new.steps c.time_design.new.steps c.in_ok-nets.ensures.ahead c.time_design.ensures.steps
+    subst (λ (annotated : AnnotatedDesign). AnnotatesDesign (g.H.Shelf.held c.args.shelf.now) corners c.args.design c.args.spef.now c.args.settings.now (Go annotated)) (sym c.annotated_of.ensures)
+    c.in_ok-delays.ensures.follows
