@@ -2,8 +2,10 @@
 ghost use Rattle.std.specs.Prelude.{◌≡◌, Result, Err};
 ghost use Rattle.edge_io.specs.Counts.{Rose};
 ghost use Rattle.edge_io.specs.Told.{appended, AppendsFrontOf};
+ghost use Rattle.edge_io.specs.Writing.{Writes};
 ghost use Rattle.gdc_words.specs.CommandLine.{Asks};
 ghost use Rattle.gdc_run.specs.Verdict.{Gives, Answers};
+ghost use Rattle.gdc_run.specs.Outputs.{output_text};
 ghost use Rattle.gdc_run.specs.Outcomes.{OnDone, IfRefused, IfUsage, IfReadFault, OnWriteFault, UnlessWritten, GivesText, GivesFit, GivesReadable, HasReadFault, AskForTrial, AnswersUsage};
 ghost use Rattle.gdc_run.specs.OneVerdict.{OneVerdict};
 ghost use Rattle.gdc_run.specs.Saying.{AskForCorners, Says};
@@ -83,6 +85,13 @@ fn decide<H: Shelf, L: Ledger>(
     Ok(output)
 }
 
+// Writes what is decided, and lets go of it.
+fn write_decided<O: Sink>(output: Output, out: &mut O) -> Result<(), Failed>
+    ensures writes { Writes (output_text output) (O.written out.old) (O.written out.new) (O.faults out.old) (O.faults out.new) result }
+{
+    write_output(&output, out)
+}
+
 /// Decides, and writes what there is to write. `corners` becomes how many corners the words ask for.
 fn answer<H: Shelf, O: Sink, L: Ledger>(
     alloc: Global,
@@ -114,7 +123,7 @@ fn answer<H: Shelf, O: Sink, L: Ledger>(
         Err(End::Phase(PhaseEnd::ReadFault(key))) => Outcome::ReadFault(key),
         Err(End::Phase(PhaseEnd::OutOfMemory)) => Outcome::OutOfMemory,
         Err(End::OutOfMemory) => Outcome::OutOfMemory,
-        Ok(output) => match write_output(&output, out) {
+        Ok(output) => match write_decided(output, out) {
             Ok(()) => Outcome::Done,
             Err(Failed) => Outcome::WriteFault,
         },
