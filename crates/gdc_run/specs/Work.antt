@@ -27,7 +27,8 @@ use Rattle.delay_core.specs.LibraryPhases.{ParsesLibrary, ModelsCell}
 -- the work of `wires` at these corners: none before the SPEF file is read, and then that of its bytes
 pub data WiresWork {I : Type 0} (corners : Corners I) (held : Option Held) (name : List ℕ) : ℕ → Type 0 where
   no_file : WiresWork corners held name 0
-  of_file : {work : ℕ} (bytes : List ℕ) → ReadsSpefFile held name (Go bytes) → TextWork corners bytes work → WiresWork corners held name work
+  of_file : {work : ℕ} (bytes : List ℕ) → ReadsSpefFile held name (Go bytes) → TextWork corners bytes work
+      → WiresWork corners held name work
 
 -- the work of the bytes of the library of a corner: none before the model of the cell is made, and then 64 steps at the most for each
 -- edge of its arcs
