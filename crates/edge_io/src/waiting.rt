@@ -52,7 +52,7 @@ impl WaitingBytes {
 
     /// Puts the bytes after those that wait. Where there is no room for them, those are written first, and bytes that never have
     /// room are written behind them. `Failed` comes only where the sink's count of faults rose.
-    #[inline]
+    #[inline(always)]
     pub fn push<O: Sink>(&mut self, sink: &mut O, bytes: &[u8]) -> Result<(), Failed>
         ensures pushes { Pushes (self.old ++ bytes.now) self.new (O.written sink.old) (O.written sink.new) (O.faults sink.old)
             (O.faults sink.new) result }
@@ -61,6 +61,16 @@ impl WaitingBytes {
             self.keep(bytes);
             return Ok(());
         }
+        self.push_behind(sink, bytes)
+    }
+
+    // The same where there is no room: those that wait are written first. It stands apart, so that the usual way of a push is short
+    // enough to stand at each call.
+    #[inline(never)]
+    fn push_behind<O: Sink>(&mut self, sink: &mut O, bytes: &[u8]) -> Result<(), Failed>
+        ensures pushes { Pushes (self.old ++ bytes.now) self.new (O.written sink.old) (O.written sink.new) (O.faults sink.old)
+            (O.faults sink.new) result }
+    {
         self.flush(sink)?;
         if bytes.len() <= SIZE {
             self.keep(bytes);

@@ -1,7 +1,7 @@
 use Rattle.std.proofs.lemmas.Result.{err_from_is_err_and}
 use Rattle.edge_io.specs.Writing.{writes_cut, writes_then}
 use Rattle.edge_io.specs.Pushing.{pushes_written, pushes_cut}
-use Rattle.edge_io.proofs.waiting.WaitingBytes.push.Goals as goal
+use Rattle.edge_io.proofs.waiting.WaitingBytes.push_behind.Goals as goal
 
 pub returns-in_err-flush : goal.returns-in_err-flush
 returns-in_err-flush g c =
