@@ -1,5 +1,5 @@
 -- What stands at the front of some bytes, by their first byte.
-use Rattle.std.proofs.Common.{◌≡◌, ℕ, ◌+◌, ◌<◌, Bool, true, false, not, ◌||◌, ◌==◌, List, [], ◌∷◌, length, drop, get_or, position, refl, sym, ap, ◌∙◌, subst, true≢false, arith}
+use Rattle.std.proofs.Common.{◌≡◌, ℕ, zero, suc, ◌+◌, ◌<◌, Bool, true, false, not, ◌||◌, ◌==◌, List, [], ◌∷◌, length, drop, get_or, position, refl, sym, ap, ◌∙◌, subst, true≢false, arith}
 use Rattle.edge_io.specs.Bytes.{quote, star, slash, backslash, begins_with}
 use Rattle.token_texts.specs.Blanks.{is_blank}
 use Rattle.token_texts.specs.Comments.{line_length, comment_cut}
@@ -59,16 +59,28 @@ cut_plain first rest p none = by (first == quote) (first == slash) (first == bac
     by false true taken q r s none = absurd (cc)
     by false false true q r s none = absurd (cc)
 
--- a run of plain bytes that a blank ends
-pub short_cut : (bytes : List ℕ) (n : ℕ) → 0 < n → n < length bytes
+-- a run of plain bytes that has a byte, where a blank ends it
+run_cut : (bytes : List ℕ) (n : ℕ) → 0 < n → n < length bytes
     → ((k : ℕ) → k < n → (is_blank (get_or bytes (0 + k) 0) ≡ false) × (is_backslash (get_or bytes (0 + k) 0) ≡ false))
     → is_marked (get_or bytes 0 0) ≡ false → is_blank (get_or bytes n 0) ≡ true → front_cut bytes ≡ Take n Whole
-short_cut [] n some below plain none blank = absurd (omega arith)
-short_cut (first ∷ rest) n some below plain none blank =
+run_cut [] n some below plain none blank = absurd (omega arith)
+run_cut (first ∷ rest) n some below plain none blank =
     let begun : EscapedSoFar is_solid (first ∷ rest) 0 = record { within = omega arith; so_far = omega arith } in
     let far : EscapedSoFar is_solid (first ∷ rest) n = subst (EscapedSoFar is_solid (first ∷ rest)) (omega arith) (run_goes_far (first ∷ rest) 0 n begun (omega arith) plain) in
     let size = escaped_stops is_solid (first ∷ rest) n far below (λ e. true≢false (sym blank ∙ ap is_blank e)) (ap not blank) in
     cut_plain first rest (plain 0 some).0 none ∙ ap (λ k. Take k Whole) (sym (run_plain first rest (plain 0 some).1 (plain 0 some).0) ∙ sym size)
+
+-- the place of a blank is none of what begins with no blank
+some_run : (bytes : List ℕ) (first n : ℕ) → get_or bytes 0 0 ≡ first → is_blank first ≡ false → is_blank (get_or bytes n 0) ≡ true → 0 < n
+some_run bytes first zero front solid blank = absurd (true≢false (sym blank ∙ ap is_blank front ∙ solid))
+some_run bytes first (suc n) front solid blank = omega arith
+
+-- a run of plain bytes that a blank ends
+pub short_cut : (bytes : List ℕ) (first n : ℕ) → get_or bytes 0 0 ≡ first → is_blank first ≡ false → n < length bytes
+    → ((k : ℕ) → k < n → (is_blank (get_or bytes (0 + k) 0) ≡ false) × (is_backslash (get_or bytes (0 + k) 0) ≡ false))
+    → is_marked first ≡ false → is_blank (get_or bytes n 0) ≡ true → front_cut bytes ≡ Take n Whole
+short_cut bytes first n front solid below plain none blank =
+    run_cut bytes n (some_run bytes first n front solid blank) below plain (ap is_marked front ∙ none) blank
 
 -- a cut has a byte, and none past the end
 pub cut_within_bytes : (bytes : List ℕ) (first : ℕ) (rest : List ℕ) (cut : Cut Kind) → bytes ≡ first ∷ rest → cut ≡ cut_at first rest

@@ -7,7 +7,7 @@ ghost use Rattle.spef_text.specs.Tokens.{is_backslash};
 use std::simd::prelude::*;
 
 /// So many bytes are looked at together.
-const WIDTH: usize = 16;
+pub const WIDTH: usize = 16;
 
 // A bit for each of the bytes from a place on. It is set where the byte may end a run: blanks are no higher than a space.
 #[inline]
@@ -27,6 +27,7 @@ fn ends_from(bytes: &[u8], place: usize) -> u64
 pub fn plain_length(bytes: &[u8], place: usize) -> usize
     requires { place ≤ length bytes.now }
     ensures within { place + result ≤ length bytes.now }
+    ensures few { result ≤ 16 }
     ensures plain { (k : ℕ) → k < result → (is_blank (slice_index bytes.now (place + k)) ≡ false)
         × (is_backslash (slice_index bytes.now (place + k)) ≡ false) }
 {

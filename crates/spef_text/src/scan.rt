@@ -1,5 +1,5 @@
 //! What stands at the front of a file's bytes: a blank, a comment or a token.
-ghost use Rattle.std.specs.Prelude.{◌≡◌, false, ◌+◌, ◌^◌, ◌<◌, ◌≤◌, ◌∷◌, length, position, IfSome};
+ghost use Rattle.std.specs.Prelude.{◌≡◌, false, ◌+◌, ◌^◌, ◌<◌, ◌≤◌, ◌∷◌, length, position, slice_index, IfSome};
 ghost use Rattle.spef_text.specs.Tokens.{ends_text, is_marked, text_cut, run_length, cut_at};
 ghost use Rattle.spef_text.specs.Starts.{front_cut};
 ghost use Rattle.spef_text.specs.declared.scan.Kind.TheVariants.{Whole};
@@ -7,7 +7,7 @@ ghost use Rattle.token_texts.specs.Blanks.{is_blank};
 ghost use Rattle.token_texts.specs.Cuts.{IsWithin};
 ghost use Rattle.token_texts.specs.declared.cuts.Cut.TheVariants.{Take};
 
-use crate::lanes::plain_length;
+use crate::lanes::{WIDTH, plain_length};
 use memchr::memchr2;
 use token_texts::{Cut, begins_with, comment_cut, is_blank, line_length};
 
@@ -92,15 +92,16 @@ fn is_marked(byte: u8) -> bool
 
 /// How many bytes the token at the front has, where that is seen at a look: at most 16, with no mark, and a blank behind them.
 #[inline(always)]
-pub fn short_run(bytes: &[u8]) -> Option<usize>
+fn short_run(bytes: &[u8], first: u8) -> Option<usize>
+    requires front { slice_index bytes.now 0 ≡ first }
+    requires solid { is_blank first ≡ false }
     ensures cut { IfSome result (λ len. front_cut bytes.now ≡ Take len Whole) }
-    ensures within { IfSome result (λ len. len ≤ length bytes.now) }
 {
-    let len = plain_length(bytes, 0);
-    if len == 0 || len == bytes.len() {
+    if bytes.len() <= WIDTH {
         return None;
     }
-    if is_marked(bytes[0]) || !is_blank(bytes[len]) {
+    let len = plain_length(bytes, 0);
+    if is_marked(first) || !is_blank(bytes[len]) {
         return None;
     }
     Some(len)
@@ -124,6 +125,16 @@ fn marked_cut(first: u8, rest: &[u8]) -> Cut<Kind>
     }
 }
 
+/// The same. What it answers stands in memory of its own, which the way of a short run does not touch.
+#[inline(always)]
+fn other_cut(first: u8, rest: &[u8]) -> Cut<Kind>
+    requires bytes { length rest.now < 2 ^ 32 }
+    requires solid { is_blank first ≡ false }
+    ensures { result ≡ cut_at first rest.now }
+{
+    marked_cut(first, rest)
+}
+
 /// What stands at the front of the bytes, which are `first` and `rest`: mostly a blank, or a short run.
 #[inline(always)]
 pub fn cut_at(bytes: &[u8], first: u8, rest: &[u8]) -> Cut<Kind>
@@ -135,8 +146,8 @@ pub fn cut_at(bytes: &[u8], first: u8, rest: &[u8]) -> Cut<Kind>
     if is_blank(first) {
         return Cut::Skip(1);
     }
-    match short_run(bytes) {
+    match short_run(bytes, first) {
         Some(len) => Cut::Take(len, Kind::Whole),
-        None => marked_cut(first, rest),
+        None => other_cut(first, rest),
     }
 }

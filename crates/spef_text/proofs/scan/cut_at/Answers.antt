@@ -17,4 +17,4 @@ returns-in-Some-clause-within c =
 
 pub returns-in-None-clause-within : goal.returns-in-None-clause-within
 returns-in-None-clause-within c =
-    cut_within_bytes c.args.bytes.now c.args.first c.args.rest.now _ c.requires.parts c.marked_cut.ensures
+    cut_within_bytes c.args.bytes.now c.args.first c.args.rest.now _ c.requires.parts c.other_cut.ensures
