@@ -187,8 +187,17 @@ pub fn is_map_name(text: &[u8]) -> bool
     is_name(text)
 }
 
+/// A name that has not the form of a value. References are indices as a rule, so this stands by itself.
+#[inline(never)]
+fn is_plain_ref(text: &[u8]) -> bool
+    ensures { result ≡ (is_name text.now && not (is_value text.now)) }
+{
+    is_name(text) && !is_value(text)
+}
+
 /// What names a net or a node: an index, an index with the delimiter and a tail, or a name that has not the form of a
 /// value.
+#[inline]
 #[tactic(auto, unfolding(crate::specs::Classes::is_ref))]
 pub fn is_ref(delimiter: u8, text: &[u8]) -> bool
     ensures { result ≡ is_ref delimiter text.now }
@@ -199,7 +208,7 @@ pub fn is_ref(delimiter: u8, text: &[u8]) -> bool
             if *first == b'*' {
                 is_indexed(delimiter, rest)
             } else {
-                is_name(text) && !is_value(text)
+                is_plain_ref(text)
             }
         }
     }
