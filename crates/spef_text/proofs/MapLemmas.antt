@@ -1,6 +1,5 @@
 -- The digits of the entries so far, one after another.
-use Rattle.std.proofs.Common.{◌≡◌, ◌≢◌, ℕ, ◌+◌, ◌<◌, ◌≤◌, ◌^◌, decimal, arith, ◌⊎◌, inl, inr, List, [], ◌∷◌, ◌++◌, length, take, get_or, slice_get, Contains, Some, refl, sym, ap, ◌∙◌, add-one, subst}
-use Rattle.std.proofs.lemmas.Fmt.{decimal_injective}
+use Rattle.std.proofs.Common.{◌≡◌, ◌≢◌, ℕ, ◌+◌, ◌<◌, ◌≤◌, arith, ◌⊎◌, inl, inr, List, [], ◌∷◌, ◌++◌, length, take, get_or, slice_get, Contains, Some, refl, sym, ap, ◌∙◌, add-one, subst}
 use Rattle.std.proofs.lemmas.Bool.{cases_lt}
 use Rattle.std.proofs.lemmas.List.{map-append, length-map, get_or-map}
 use Rattle.std.proofs.lemmas.Option.{slice_get-get_or, get_or_from_slice_get, slice_get_within}
@@ -9,6 +8,7 @@ use Rattle.std.proofs.Math.Seq.{take-suc}
 use Rattle.name_table.specs.Names.{AreDistinct}
 use Rattle.spef_text.specs.SpefFiles.{SpefText}
 use Rattle.spef_text.specs.Heads.{indices_of, digits_of, IsRepeatedAt}
+use Rattle.spef_text.specs.IndexNumbers.{number_of}
 use Rattle.spef_text.specs.References.{IsMapped}
 use Rattle.spef_text.specs.declared.entries.MapEntry.{MapEntry}
 
@@ -35,35 +35,36 @@ repeated file entries i d indices digits is within so_far distinct same again = 
   token_is = refl;
 }
 
--- the indices of the entries so far are different numbers, up to the last
+-- the indices of the entries so far are different, and their numbers go up to the last
 pub record Rises (file : SpefText) (entries : List MapEntry) (n last : ℕ) : Type 0 where
-  pub numbered : (k : ℕ) (d : List ℕ) → k < n → (number : ℕ) × (number ≤ last) × (get_or (indices_of file entries) k d ≡ decimal number)
+  pub most : (k : ℕ) (d : List ℕ) → k < n → number_of (get_or (indices_of file entries) k d) ≤ last
   pub distinct : (i j : ℕ) (d : List ℕ) → i < j → j < n → get_or (indices_of file entries) i d ≡ get_or (indices_of file entries) j d → ⊥
 
 pub none_rise : (file : SpefText) (entries : List MapEntry) → Rises file entries 0 0
-none_rise file entries = record { numbered = λ k d below. absurd (omega arith); distinct = λ i j d less below e. absurd (omega arith) }
+none_rise file entries = record { most = λ k d below. absurd (omega arith); distinct = λ i j d less below e. absurd (omega arith) }
 
--- a later number is none of them
+-- an index of a later number is none of them
 pub rises_on : (file : SpefText) (entries : List MapEntry) (n last number : ℕ) (e : MapEntry) → Rises file entries n last → n < length entries
-    → last < number → number < 2 ^ 64 → digits_of file (get_or entries n e) ≡ decimal number → Rises file entries (n + 1) number
-rises_on file entries n last number e h within later fits is = record { numbered = λ k d below. at k d below (cases_lt k n); distinct = λ i j d less below same. apart i j d less below (cases_lt j n) same }
+    → last < number → number ≡ number_of (digits_of file (get_or entries n e)) → Rises file entries (n + 1) number
+rises_on file entries n last number e h within later is = record { most = λ k d below. at k d below (cases_lt k n); distinct = λ i j d less below same. apart i j d less below (cases_lt j n) same }
   where
-    here : (k : ℕ) (d : List ℕ) → k ≡ n → get_or (indices_of file entries) k d ≡ decimal number
-    here k d same = ap (λ m. get_or (indices_of file entries) m d) same ∙ get_or-map (digits_of file) entries n e d within ∙ is
+    here : (k : ℕ) (d : List ℕ) → k ≡ n → number_of (get_or (indices_of file entries) k d) ≡ number
+    here k d same = ap number_of (ap (λ m. get_or (indices_of file entries) m d) same ∙ get_or-map (digits_of file) entries n e d within) ∙ sym is
 
     last_of : (k : ℕ) → k < n + 1 → n ≤ k → k ≡ n
     last_of k below more = omega arith
 
-    at : (k : ℕ) (d : List ℕ) → k < n + 1 → (k < n) ⊎ (n ≤ k) → (m : ℕ) × (m ≤ number) × (get_or (indices_of file entries) k d ≡ decimal m)
-    at k d below (inl less) = let (m, most, same) = h.numbered k d less in (m, omega (arith, most, later), same)
-    at k d below (inr more) = (number, omega arith, here k d (last_of k below more))
+    at : (k : ℕ) (d : List ℕ) → k < n + 1 → (k < n) ⊎ (n ≤ k) → number_of (get_or (indices_of file entries) k d) ≤ number
+    at k d below (inl less) = let up_to = h.most k d less in omega (arith, up_to, later)
+    at k d below (inr more) = let same = here k d (last_of k below more) in omega (arith, same)
 
     apart : (i j : ℕ) (d : List ℕ) → i < j → j < n + 1 → (j < n) ⊎ (n ≤ j) → get_or (indices_of file entries) i d ≡ get_or (indices_of file entries) j d → ⊥
     apart i j d less below (inl lower) same = h.distinct i j d less lower same
     apart i j d less below (inr more) same =
-        let (m, most, one) = h.numbered i d (omega (arith, less, below)) in
-        let equal : m ≡ number = decimal_injective m number (omega (arith, most, later, fits)) fits (sym one ∙ same ∙ here j d (last_of j below more)) in
-        omega (arith, equal, most, later)
+        let up_to = h.most i d (omega (arith, less, below)) in
+        let one = here j d (last_of j below more) in
+        let equal = ap number_of same in
+        omega (arith, up_to, one, equal, later)
 
 pub all_rise : (file : SpefText) (entries : List MapEntry) (n last : ℕ) → Rises file entries n last → length entries ≤ n → AreDistinct (indices_of file entries)
 all_rise file entries n last h all i j d less below same =

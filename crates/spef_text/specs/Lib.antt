@@ -12,5 +12,6 @@ pub mod Leading
 pub mod TokenTexts
 pub mod Units
 pub mod Heads
+pub mod IndexNumbers
 pub mod References
 pub mod TokenOrder

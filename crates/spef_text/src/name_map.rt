@@ -1,14 +1,14 @@
 //! The indices of the name map, and where their entries stand.
-ghost use Rattle.std.specs.Prelude.{◌≡◌, ◌^◌, ◌<◌, ◌++◌, ◌∷◌, [], true, false, length, Contains, IfOk, IfErr, OnOk, IfSome, decimal};
+ghost use Rattle.std.specs.Prelude.{◌≡◌, ◌^◌, ◌<◌, ◌++◌, ◌∷◌, [], true, false, length, Contains, IfOk, IfErr, OnOk, IfSome};
 ghost use Rattle.name_table.specs.Names.{AreDistinct};
 ghost use Rattle.spef_text.specs.Heads.{indices_of, IsRepeat};
+ghost use Rattle.spef_text.specs.IndexNumbers.{number_of};
 
 use crate::classes::index_digits;
 use crate::file::SpefFile;
 use crate::head_ends::HeadEnd;
+use edge_io::OutOfMemory;
 use edge_io::lists::push;
-use edge_io::{OutOfMemory, are_equal};
-use itoa::Buffer;
 use name_table::Names;
 use std::alloc::Global;
 
@@ -47,22 +47,17 @@ fn place_in(runs: &[Run], number: u64) -> Option<usize> {
     Some(run.place.wrapping_add(further))
 }
 
-// The number that digits write, where it is small enough.
-fn number_of(digits: &[u8]) -> u64 {
+// The number that digits write, where it is small enough. Of larger ones it is what 64 bits hold, which tells two of them apart too,
+// where it differs.
+fn number_of(digits: &[u8]) -> u64
+    ensures { result ≡ number_of digits.now }
+{
     let mut number: u64 = 0;
     for digit in digits {
-        let value = digit.wrapping_sub(b'0') as u64;
-        number = number.wrapping_mul(10).wrapping_add(value);
+        let more = number.wrapping_mul(10).wrapping_add(*digit as u64);
+        number = more.wrapping_sub(b'0' as u64);
     }
     number
-}
-
-// Whether the digits are those of a number.
-fn is_number(digits: &[u8], number: u64) -> bool
-    ensures { result ≡ true → digits.now ≡ decimal number }
-{
-    let mut buffer = Buffer::new();
-    are_equal(digits, buffer.format(number).as_bytes())
 }
 
 // The runs of the indices, where these are numbers that rise from entry to entry. No two are the same then.
@@ -75,7 +70,7 @@ fn rising_runs(alloc: Global, file: &SpefFile) -> Result<Option<Vec<Run>>, OutOf
     for place in 0..entries.len() {
         let digits = index_digits(file.text_of(entries[place].index as u64));
         let number = number_of(digits);
-        if number <= last || !is_number(digits, number) {
+        if number <= last {
             return Ok(None);
         }
         if place == 0 || number - last > 1 {

@@ -1,4 +1,4 @@
--- The indices so far are different numbers, up to the last.
+-- The indices so far are different, and their numbers go up to the last.
 use Rattle.spef_text.proofs.MapLemmas.{Rises}
 use Rattle.spef_text.proofs.name_map.rising_runs.Given as goal
 
