@@ -1,11 +1,11 @@
 //! What the reader waits for, and what each token does.
-ghost use Rattle.std.specs.Prelude.{◌≡◌, ℕ, if◌then◌else◌, slice_index};
-ghost use Rattle.spef_text.specs.Classes.{is_loose, word_of};
+ghost use Rattle.std.specs.Prelude.{◌≡◌, ℕ, true, false, if◌then◌else◌, slice_index, IfSome};
+ghost use Rattle.spef_text.specs.Classes.{is_tight, holds_of};
 ghost use Rattle.spef_text.specs.Modes.{start_step, top_step, sections_step, total_step, confident_step, conns_step, left_step, tail_step, caps_step, ress_step, next_mode, may_end};
 
 use crate::classes::{
-    is_direction, is_id, is_index, is_loose, is_loose_as, is_map_name, is_mark, is_other, is_ref,
-    is_two_marks, is_value,
+    is_direction, is_id, is_index, is_loose, is_map_name, is_mark, is_other, is_ref, is_two_marks,
+    is_value,
 };
 use crate::entries::{CapAt, ConnAt, HeadItem, MapEntry, ResAt};
 use crate::words::{Word, word_of};
@@ -219,8 +219,24 @@ fn left_step(conn: ConnAt, word: Option<Word>) -> Step
     }
 }
 
+/// What is waited for behind a keyword that ends a connection, where more of the section follows.
+#[inline(always)]
+pub(crate) fn joined_mode(word: Option<Word>) -> Option<Mode>
+    ensures joined { IfSome result (λ mode. (conn : ConnAt) → tail_step conn false word ≡ Step.Join mode conn) }
+    ensures tight { IfSome result (λ mode. holds_of is_tight word ≡ true) }
+{
+    match word {
+        Some(Word::Port) => Some(Mode::ConnNode(true)),
+        Some(Word::Internal) => Some(Mode::ConnNode(false)),
+        Some(Word::Node) => Some(Mode::NodeLine),
+        Some(Word::Cap) => Some(Mode::Caps),
+        Some(Word::Res) => Some(Mode::Ress),
+        _ => None,
+    }
+}
+
 /// What a token does behind a connection's direction.
-fn tail_step(conn: ConnAt, word: Option<Word>, loose: bool) -> Step
+pub(crate) fn tail_step(conn: ConnAt, word: Option<Word>, loose: bool) -> Step
     ensures { result ≡ tail_step conn loose word }
 {
     if loose {
@@ -230,15 +246,6 @@ fn tail_step(conn: ConnAt, word: Option<Word>, loose: bool) -> Step
         Some(Word::Load) => Step::Go(Mode::ConnLoad(conn)),
         _ => left_step(conn, word),
     }
-}
-
-/// The same, of a token whose keyword is looked for once.
-#[inline(always)]
-pub(crate) fn conn_tail_step(conn: ConnAt, text: &[u8]) -> Step
-    ensures { result ≡ tail_step conn (is_loose text.now) (word_of text.now) }
-{
-    let word = word_of(text);
-    tail_step(conn, word, is_loose_as(text, word))
 }
 
 /// What a keyword does where a capacitance may begin.

@@ -1,19 +1,20 @@
 //! The reader: takes one token after another.
 ghost use Rattle.std.specs.Prelude.{◌≡◌, ℕ, [], ⊤, IfOk};
-ghost use Rattle.spef_text.specs.Modes.{first_state, next_mode};
+ghost use Rattle.spef_text.specs.Classes.{is_loose, word_of};
+ghost use Rattle.spef_text.specs.Modes.{first_state, next_mode, tail_step};
 ghost use Rattle.spef_text.specs.ReaderStates.{state_of, Steps};
 ghost use Rattle.spef_text.specs.Tokens.{cut_at};
 ghost use Rattle.spef_text.specs.Within.{cut_within};
 ghost use Rattle.spef_text.specs.Leading.{Leads, Stops, Makes};
 
-use crate::classes::{is_other, is_ref, is_value};
-use crate::entries::HeadItem;
+use crate::classes::{is_loose_as, is_other, is_ref, is_value};
+use crate::entries::{ConnAt, HeadItem};
 use crate::head_items::HeadItems;
 use crate::modes::{
-    Mode, Step, bus_step, cap_id_step, cap_value_step, confident_step, conn_tail_step, conns_step,
-    delimiter_step, design_step, direction_step, divider_step, go_if, load_step, map_name_step,
+    Mode, Step, bus_step, cap_id_step, cap_value_step, confident_step, conns_step, delimiter_step,
+    design_step, direction_step, divider_step, go_if, joined_mode, load_step, map_name_step,
     map_step, net_step, node_line_step, others_step, put_if, res_id_step, res_value_step,
-    right_step, second_step, sections_step, start_step, top_step, total_step,
+    right_step, second_step, sections_step, start_step, tail_step, top_step, total_step,
 };
 use crate::parsing::{SpefEnd, refusal};
 use crate::scan::{Kind, cut_at};
@@ -72,10 +73,7 @@ impl Reader {
                 self.mode = Mode::NetTotal;
                 self.sections.open(net);
             }
-            Step::Join(mode, conn) => {
-                self.mode = mode;
-                self.sections.push_conn(conn)?;
-            }
+            Step::Join(mode, conn) => return self.join(mode, conn),
             Step::AddCap(cap) => {
                 self.mode = Mode::Caps;
                 self.sections.push_cap(cap)?;
@@ -93,6 +91,34 @@ impl Reader {
             }
         }
         Ok(true)
+    }
+
+    /// Keeps a connection that has ended.
+    #[inline(always)]
+    fn join(&mut self, mode: Mode, conn: ConnAt) -> Result<bool, OutOfMemory>
+        ensures state { IfOk result (Steps (state_of self.old) (state_of self.new) (Step.Join mode conn)) }
+        ensures starts { self.new.starts ≡ self.old.starts }
+        ensures lens { self.new.lens ≡ self.old.lens }
+    {
+        self.mode = mode;
+        self.sections.push_conn(conn)?;
+        Ok(true)
+    }
+
+    /// Takes a token behind a connection's direction, whose keyword is looked for once. Mostly it ends the connection, and no step of it
+    /// is put into memory.
+    #[inline(always)]
+    fn take_conn_tail(&mut self, conn: ConnAt, text: &[u8]) -> Result<bool, OutOfMemory>
+        ensures state { IfOk result (Steps (state_of self.old) (state_of self.new)
+            (tail_step conn (is_loose text.now) (word_of text.now))) }
+        ensures starts { self.new.starts ≡ self.old.starts }
+        ensures lens { self.new.lens ≡ self.old.lens }
+    {
+        let word = word_of(text);
+        match joined_mode(word) {
+            Some(mode) => self.join(mode, conn),
+            None => self.step(&tail_step(conn, word, is_loose_as(text, word))),
+        }
     }
 
     /// Takes the token of this number, and tells whether it can stand here. Each mode takes its step in an arm of its own: there the
@@ -139,7 +165,7 @@ impl Reader {
                 Mode::ConnDirection(port, number),
             )),
             Mode::ConnDirection(port, node) => self.step(&direction_step(port, node, text)),
-            Mode::ConnTail(conn) => self.step(&conn_tail_step(conn, text)),
+            Mode::ConnTail(conn) => self.take_conn_tail(conn, text),
             Mode::ConnLoad(conn) => self.step(&load_step(conn, number, text)),
             Mode::NodeLine => self.step(&node_line_step(text)),
             Mode::Caps => self.step(&cap_id_step(text)),
