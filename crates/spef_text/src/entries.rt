@@ -74,13 +74,13 @@ pub enum HeadItem {
     Mapped(MapEntry),
 }
 
-/// A connection as it is kept.
+/// A connection as it is kept. Its single bytes stand last, where they leave no gap between its parts.
 #[derive(Clone, Copy)]
 pub struct ConnAt {
-    pub port: bool,
     pub node: u32,
-    pub direction: u8,
     pub load: Option<u32>,
+    pub port: bool,
+    pub direction: u8,
 }
 
 /// A capacitance as it is kept.
