@@ -86,8 +86,8 @@ pub struct ConnAt {
 /// A capacitance as it is kept.
 #[derive(Clone, Copy)]
 pub struct CapAt {
-    pub first: u32,
     pub second: Option<u32>,
+    pub first: u32,
     pub value: u32,
 }
 
