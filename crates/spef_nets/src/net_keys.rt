@@ -45,6 +45,7 @@ impl<'s, 'f> NetKeys<'s, 'f> {
     }
 
     /// What makes a node the one that it is, by its number. Of most nodes nothing is copied.
+    #[inline(always)]
     pub fn key(&mut self, alloc: Global, i: usize) -> Result<NodeKey<'s>, OutOfMemory>
         requires { i < length self.old }
         ensures key { IfOk result (IsKeyOf self.old i) }

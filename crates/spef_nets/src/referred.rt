@@ -203,6 +203,7 @@ impl<'r, 'f> Referred<'r, 'f> {
     }
 
     /// The number of a node in the section: its own, and else that of a new last one, named by this spelling.
+    #[inline]
     pub fn number(&mut self, spelling: usize) -> Result<u32, OutOfMemory>
         requires within { spelling < length (refs_of self.old).places }
         requires named { IsNamed (refs_of self.old) spelling }
