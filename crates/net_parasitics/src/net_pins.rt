@@ -1,5 +1,5 @@
 //! The pins of a net.
-ghost use Rattle.std.specs.Prelude.{◌≡◌, ◌+◌, ◌<◌, length, take, IfOk, OnOk};
+ghost use Rattle.std.specs.Prelude.{◌≡◌, ◌+◌, ◌<◌, length, take, OnOk};
 ghost use Rattle.netlist_link.specs.FlatNetlist.{net_at};
 ghost use Rattle.net_parasitics.specs.NetPins.{pins_to, net_pins};
 ghost use Rattle.net_parasitics.specs.NetTrees.{IsWired};
@@ -10,29 +10,28 @@ use delay_units::Farads;
 use edge_io::OutOfMemory;
 use netlist_link::End;
 use rc_tree::PinLoads;
-use std::alloc::Global;
 
 impl<'a, 'r, 'f, C: CornerSet> NetInputs<'a, 'r, 'f, C> {
-    /// The pins of a net. The grid has one row, which is used anew. No name is copied.
-    pub fn pins<'p>(
+    /// Puts the pins of a net in the place of those of another, in the memory that they have where that suffices. The grid has one row,
+    /// which is used anew. No name is copied.
+    pub fn put_pins<'p>(
         &'p self,
-        alloc: Global,
         net: usize,
         driver: End,
         row: &mut Grid<C, Farads>,
-    ) -> Result<PinLoads<'p, C>, OutOfMemory>
+        pins: &mut PinLoads<'p, C>,
+    ) -> Result<(), OutOfMemory>
         requires wired { IsWired self.now.netlist net driver }
         requires one_row { length row.old.values ≡ C.COUNT }
-        ensures pins { IfOk result (λ pins. pins ≡ net_pins self.now net driver) }
+        ensures pins { OnOk result (pins.new ≡ net_pins self.now net driver) }
         ensures one_row { length row.new.values ≡ C.COUNT }
     {
         self.sound();
-        let sinks = self.netlist.sink_count(net);
-        let mut pins = PinLoads::with_room(alloc, self.end_name(driver), sinks)?;
-        for sink in 0..sinks {
-            self.add_sink(net, driver, sink, row, &mut pins)?;
+        pins.restart(self.end_name(driver));
+        for sink in 0..self.netlist.sink_count(net) {
+            self.add_sink(net, driver, sink, row, pins)?;
         }
-        Ok(pins)
+        Ok(())
     }
 
     // Adds the next sink to the pins of a net.

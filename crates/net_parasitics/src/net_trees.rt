@@ -13,25 +13,33 @@ use delay_units::Farads;
 use edge_io::{OutOfMemory, Steps};
 use elmore_pass::elmore_into;
 use netlist_link::End;
-use rc_tree::{RcTree, Scratch, TreeEnd, Workspace};
+use rc_tree::{PinLoads, PinName, RcTree, Scratch, TreeEnd, Workspace};
 use spef_nets::Net;
 use std::alloc::Global;
 use std::marker::Model;
 use std::sync::ledger::Ledger;
 
+/// It stands for the driver before the first net.
+const NO_PIN: PinName<'static> = PinName {
+    head: &[],
+    tail: None,
+    head_sdf: &[],
+};
+
 /// The tree of a net with its Elmore sums, and what serves net after net. Contracts see the tree and the sums.
 #[derive(Drop)]
-pub struct TreeWork<C: CornerSet> {
+pub struct TreeWork<'p, C: CornerSet> {
     pub tree: RcTree<C>,
     pub sums: Scratch<C>,
     // where the section of the next net is likely to stand
     pub near: usize,
     workspace: Workspace,
+    pins: PinLoads<'p, C>,
     // the loads of one sink
     row: Grid<C, Farads>,
 }
 
-impl<C: CornerSet> Model for TreeWork<C> {
+impl<'p, C: CornerSet> Model for TreeWork<'p, C> {
     ghost use Rattle.std.specs.Prelude.{◌≡◌, length};
     ghost use Rattle.net_parasitics.specs.NetSteps.{DrawnTree};
 
@@ -42,14 +50,15 @@ impl<C: CornerSet> Model for TreeWork<C> {
     ghost invariant = { λ w. length w.row.values ≡ C.COUNT };
 }
 
-impl<C: CornerSet> TreeWork<C> {
+impl<'p, C: CornerSet> TreeWork<'p, C> {
     /// No tree yet.
-    pub fn new(alloc: Global) -> Result<TreeWork<C>, OutOfMemory> {
+    pub fn new(alloc: Global) -> Result<TreeWork<'p, C>, OutOfMemory> {
         Ok(TreeWork {
             tree: RcTree::new(alloc)?,
             sums: Scratch::reserve(alloc, 0)?,
             near: 0,
             workspace: Workspace::new(alloc),
+            pins: PinLoads::with_room(alloc, NO_PIN, 0)?,
             row: Grid::with_rows(alloc, 1, Farads(0))?,
         })
     }
@@ -58,7 +67,7 @@ impl<C: CornerSet> TreeWork<C> {
     pub fn draw<L: Ledger>(
         &mut self,
         alloc: Global,
-        inputs: &NetInputs<'_, '_, '_, C>,
+        inputs: &'p NetInputs<'_, '_, '_, C>,
         net: usize,
         driver: End,
         section: &Net<C>,
@@ -72,9 +81,9 @@ impl<C: CornerSet> TreeWork<C> {
         ensures steps { steps.new ≤ steps.old + length section.now.joints + C.COUNT * (length section.now.joints + length section.now.caps)
             + 12 * C.COUNT * (length section.now.joints + 1) }
     {
-        let pins = inputs.pins(alloc, net, driver, &mut self.row)?;
+        inputs.put_pins(net, driver, &mut self.row, &mut self.pins)?;
         self.tree
-            .rebuild(alloc, &mut self.workspace, section, &pins, steps)?;
+            .rebuild(alloc, &mut self.workspace, section, &self.pins, steps)?;
         self.sums.make_room(alloc, self.tree.len())?;
         elmore_into(&self.tree, &mut self.sums, steps);
         Ok(())

@@ -94,13 +94,13 @@ impl<'a, 'r, 'f, C: CornerSet> NetInputs<'a, 'r, 'f, C> {
     }
 
     // Puts the times of a net that has a section.
-    fn put_written<L: Ledger>(
-        &self,
+    fn put_written<'p, L: Ledger>(
+        &'p self,
         alloc: Global,
         net: usize,
         driver: End,
         section: &Net<C>,
-        work: &mut TreeWork<C>,
+        work: &mut TreeWork<'p, C>,
         delays: &mut NetDelays<C>,
         steps: &mut Steps<L>,
     ) -> Result<(), ParasiticsEnd>
@@ -147,12 +147,12 @@ impl<'a, 'r, 'f, C: CornerSet> NetInputs<'a, 'r, 'f, C> {
     }
 
     // Puts the times of a net that has a driver and a sink.
-    fn put_wired<L: Ledger>(
-        &self,
+    fn put_wired<'p, L: Ledger>(
+        &'p self,
         alloc: Global,
         net: usize,
         driver: End,
-        work: &mut TreeWork<C>,
+        work: &mut TreeWork<'p, C>,
         delays: &mut NetDelays<C>,
         steps: &mut Steps<L>,
     ) -> Result<(), ParasiticsEnd>
@@ -174,11 +174,11 @@ impl<'a, 'r, 'f, C: CornerSet> NetInputs<'a, 'r, 'f, C> {
     }
 
     // Puts the times of a net, which are 0 before, or refuses it.
-    fn put_net<L: Ledger>(
-        &self,
+    fn put_net<'p, L: Ledger>(
+        &'p self,
         alloc: Global,
         net: usize,
-        work: &mut TreeWork<C>,
+        work: &mut TreeWork<'p, C>,
         delays: &mut NetDelays<C>,
         steps: &mut Steps<L>,
     ) -> Result<(), ParasiticsEnd>

@@ -63,6 +63,15 @@ impl<'p, C: CornerSet> PinLoads<'p, C> {
         })
     }
 
+    /// Makes it a net with this driver and no sink. The lists keep their memory.
+    pub fn restart(&mut self, driver: PinName<'p>)
+        ensures { self.new ≡ record { driver = pin_name driver.entry; sinks = []; loads = [] } }
+    {
+        self.sinks.clear();
+        self.loads.clear();
+        put(&mut self.driver, driver);
+    }
+
     /// Adds a sink, whose loads stand in a row of the grid. It is another node than the pins so far, and each load is at most
     /// 10^12.
     pub fn add(
@@ -156,6 +165,13 @@ impl<'p, C: CornerSet> PinLoads<'p, C> {
         let name = section_name(alloc, section, numbered, number)?;
         Ok(name)
     }
+}
+
+// Puts an item in the place of another.
+fn put<T: Drop>(place: &mut T, item: T)
+    ensures { place.new ≡ item }
+{
+    *place = item;
 }
 
 // Puts a sink and its loads at the ends, or neither.
