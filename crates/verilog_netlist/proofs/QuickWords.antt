@@ -1,11 +1,12 @@
 -- What does not pass the quick test is a name.
-use Rattle.std.proofs.Common.{◌≡◌, ℕ, Bool, true, false, cond, ◌&&◌, List, [], ◌∷◌, refl, ap, ◌∙◌}
+use Rattle.std.proofs.Common.{sym, ◌≡◌, ℕ, Bool, true, false, cond, ◌&&◌, List, [], ◌∷◌, refl, ap, ◌∙◌}
+use Rattle.std.specs.Prelude.{codes}
 use Rattle.std.specs.Str.{bytes_eq}
 use Rattle.std.proofs.lemmas.Slice.Eq.{bytes_eq-Decides}
 use Rattle.verilog_netlist.specs.Words.{reserved_words, look_up, word_kind}
 use Rattle.verilog_netlist.specs.WordFilter.{may_be_reserved}
 use Rattle.verilog_netlist.specs.declared.kinds.Kind.{Kind}
-use Rattle.verilog_netlist.specs.declared.kinds.Kind.TheVariants.{Name}
+use Rattle.verilog_netlist.specs.declared.kinds.Kind.TheVariants.{Name, Wire}
 
 abbrev all_pass : List (List ℕ × Kind) → Bool
 all_pass [] = true
@@ -38,3 +39,11 @@ others_are_names word not = no_row reserved_words word refl not
 pub looked_up : (word : List ℕ) → look_up reserved_words word ≡ word_kind word
 unfolding word_kind
 looked_up word = refl
+
+-- the word that most netlists have most often
+wire_is_reserved : word_kind (codes "wire") ≡ Wire
+unfolding word_kind
+wire_is_reserved = refl
+
+pub wire_word : (word : List ℕ) → bytes_eq word (codes "wire") ≡ true → Wire ≡ word_kind word
+wire_word word same = sym (ap word_kind ((bytes_eq-Decides word (codes "wire")).0 same) ∙ wire_is_reserved)

@@ -5,6 +5,7 @@ ghost use Rattle.verilog_netlist.specs.Words.{look_up, word_kind};
 ghost use Rattle.verilog_netlist.specs.WordFilter.{may_begin, goes_on_reserved, may_be_reserved};
 
 use crate::kinds::Kind;
+use edge_io::are_equal;
 
 /// The reserved words that the grammar tells from names.
 const RESERVED_WORDS: [(&[u8], Kind); 103] = [
@@ -182,6 +183,10 @@ fn may_be_reserved(word: &[u8]) -> bool
 pub(crate) fn word_kind(word: &[u8]) -> Kind
     ensures { result ≡ word_kind word.now }
 {
+    // Most reserved words of a flat netlist are this one.
+    if are_equal(word, b"wire") {
+        return Kind::Wire;
+    }
     if may_be_reserved(word) {
         look_up(&RESERVED_WORDS, word)
     } else {
