@@ -245,6 +245,30 @@ impl DeclaredNames<'_> {
         false
     }
 
+    /// Whether a declaration of a name is bad.
+    #[inline(never)]
+    fn is_bad_declared(&self, scope: u32, name: &[u8], this: Declaration) -> bool
+        ensures { result ≡ is_bad_declaration (found_in self.now.rows.entries scope name.now) this }
+    {
+        is_bad_declaration(self.find(scope, name), this)
+    }
+
+    /// Whether a name has no bit at this place.
+    #[inline(never)]
+    fn is_bad_bit(&self, scope: u32, name: &[u8], place: u32) -> bool
+        ensures { result ≡ is_bad_bit (declared_range (found_in self.now.rows.entries scope name.now)) place }
+    {
+        is_bad_bit(declared_range(self.find(scope, name)), place)
+    }
+
+    /// Whether a name does not have this select.
+    #[inline(never)]
+    fn is_bad_part(&self, scope: u32, name: &[u8], select: Range) -> bool
+        ensures { result ≡ is_bad_part (declared_range (found_in self.now.rows.entries scope name.now)) select }
+    {
+        is_bad_part(declared_range(self.find(scope, name)), select)
+    }
+
     /// Whether an entry is bad, with these entries behind it.
     #[inline]
     fn is_bad(&self, scope: u32, bytes: &[u8], entry: Entry, behind: &[Entry]) -> bool
@@ -253,18 +277,11 @@ impl DeclaredNames<'_> {
     {
         match entry {
             Entry::Declared(by, name, range) => {
-                let first = self.find(scope, name.of(bytes));
-                is_bad_declaration(first, Declaration { by, range })
+                self.is_bad_declared(scope, name.of(bytes), Declaration { by, range })
             }
             Entry::Port(_) => self.may_be_wide(bytes, behind) && self.is_wide(scope, bytes, behind),
-            Entry::Bit(name, place) => {
-                let first = self.find(scope, name.of(bytes));
-                is_bad_bit(declared_range(first), place)
-            }
-            Entry::Part(name, select) => {
-                let first = self.find(scope, name.of(bytes));
-                is_bad_part(declared_range(first), select)
-            }
+            Entry::Bit(name, place) => self.is_bad_bit(scope, name.of(bytes), place),
+            Entry::Part(name, select) => self.is_bad_part(scope, name.of(bytes), select),
             Entry::Constant(token) => is_bad_width(constant_width(token.of(bytes))),
             _ => false,
         }
