@@ -75,7 +75,7 @@ differ_insert texts text d = by (list_any (bytes_eq text) texts) refl
     by true h = subst (λ (b : Bool). AllDiffer (if b then texts else texts ++ text ∷ [])) (sym h) d
     by false h = subst (λ (b : Bool). AllDiffer (if b then texts else texts ++ text ∷ [])) (sym h) (differ_push texts text d h)
 
-differ_all : (texts more : List (List ℕ)) → AllDiffer texts → AllDiffer (insert_all bytes_eq texts more)
+pub differ_all : (texts more : List (List ℕ)) → AllDiffer texts → AllDiffer (insert_all bytes_eq texts more)
 differ_all texts [] d = d
 differ_all texts (text ∷ more) d = differ_all (insert_key bytes_eq texts text) more (differ_insert texts text d)
 
@@ -232,6 +232,21 @@ pub found_there : (text : List ℕ) (keys : List NameText) (n : ℕ) (other : Na
 found_there text keys n other d stands is =
     sym (ap (λ (at : ℕ). cond (nat_lt at (length keys)) (Some at) None) (stands_first text keys n other d stands is)
     ∙ ap (λ (b : Bool). cond b (Some n) None) (lt-ltb n (length keys) (slice_get_within keys n other stands)))
+
+-- a text that stands among some is not added
+any_below : (p : List ℕ → Bool) (texts : List (List ℕ)) → position_or_len p texts < length texts → list_any p texts ≡ true
+any_below p [] below = absurd (omega arith)
+any_below p (t ∷ texts) below = by (p t) refl (any_below p texts)
+  where
+    by : (b : Bool) → p t ≡ b → (position_or_len p texts < length texts → list_any p texts ≡ true) → list_any p (t ∷ texts) ≡ true
+    by true e later = ap (λ (q : Bool). q || list_any p texts) e
+    by false e later =
+        let step : position_or_len p (t ∷ texts) ≡ 1 + position_or_len p texts = ap (λ (q : Bool). cond (not q) (1 + position_or_len p texts) 0) e in
+        let under : 1 + position_or_len p texts < length (t ∷ texts) = subst (λ (n : ℕ). n < length (t ∷ texts)) step below in
+        ap (λ (q : Bool). q || list_any p texts) e ∙ later (omega arith)
+
+pub held_kept : (text : List ℕ) (texts : List (List ℕ)) → position_or_len (bytes_eq text) texts < length texts → texts ≡ insert_key bytes_eq texts text
+held_kept text texts below = sym (ap (λ (b : Bool). if b then texts else texts ++ text ∷ []) (any_below (bytes_eq text) texts below))
 
 -- what the set finds
 module _ (text : List ℕ) (keys : List NameText) (found : Option ℕ) (is : found ≡ position (λ other. bytes_eq text other.bytes.now) keys) where

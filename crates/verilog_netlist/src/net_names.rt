@@ -1,8 +1,8 @@
 //! The names of each module: those of its header, then those that `wire` declares, then those that are joined to ports.
-ghost use Rattle.std.specs.Prelude.{◌≡◌, ℕ, ◌+◌, ◌<◌, ◌≤◌, ◌++◌, ◌∷◌, [], List, length, map, IfOk, OnOk};
-ghost use Rattle.std.specs.List.{position};
+ghost use Rattle.std.specs.Prelude.{◌≡◌, ℕ, ◌+◌, ◌<◌, ◌≤◌, ◌++◌, ◌∷◌, [], List, length, map, Some, IfOk, IfSome, OnOk};
+ghost use Rattle.std.specs.List.{position, position_or_len};
 ghost use Rattle.std.specs.Str.{bytes_eq};
-ghost use Rattle.indexmap.specs.IndexSet.{insert_all};
+ghost use Rattle.indexmap.specs.IndexSet.{insert_key, insert_all};
 ghost use Rattle.verilog_netlist.specs.Ranges.{declared_range};
 ghost use Rattle.verilog_netlist.specs.ModuleNames.{is_in, direction_by, way_of, texts_of, texts_in};
 ghost use Rattle.verilog_netlist.specs.PartPlaces.{ArePlaces};
@@ -164,28 +164,64 @@ fn add_texts<'a>(
     Ok(())
 }
 
+/// The number of a text that stands at this place or at the next one. An instance often joins the name that was joined last, or the one
+/// that is declared behind it, and those are found without a hash.
+#[inline]
+fn find_near(texts: &IndexSet<NameText<'_>, NameHash>, text: &[u8], place: usize) -> Option<usize>
+    requires { AllDiffer (keys_of texts.now.keys) }
+    ensures { IfSome result (λ number. Some number ≡ position (λ other. bytes_eq text.now other.bytes.now) texts.now.keys) }
+{
+    match find_at(texts, text, place) {
+        Some(number) => Some(number),
+        None => find_at(texts, text, place.saturating_add(1)),
+    }
+}
+
+/// The number of a name; one that is not there yet is added.
+fn number_text<'a>(
+    texts: &mut IndexSet<NameText<'a>, NameHash>,
+    name: &'a [u8],
+    near: u32,
+) -> Result<u32, OutOfMemory>
+    requires { AllDiffer (keys_of texts.old.keys) }
+    ensures texts { OnOk result (keys_of texts.new.keys ≡ insert_key bytes_eq (keys_of texts.old.keys) name.now) }
+    ensures number { IfOk result (λ number. number ≡ position_or_len (bytes_eq name.now) (keys_of texts.old.keys)) }
+{
+    if let Some(place) = find_near(texts, name, near as usize) {
+        let known = to_u32(place)?;
+        return Ok(known);
+    }
+    let Ok((place, _)) = texts.insert_full(NameText { bytes: name }) else {
+        return Err(OutOfMemory);
+    };
+    let number = to_u32(place)?;
+    Ok(number)
+}
+
 /// Adds the name that an entry joins, if it is not there yet, and answers its number; 0 where the entry joins none.
 #[inline]
 fn join_text<'a>(
     texts: &mut IndexSet<NameText<'a>, NameHash>,
     bytes: &'a [u8],
     entry: Entry,
+    near: u32,
 ) -> Result<u32, OutOfMemory>
+    requires { AllDiffer (keys_of texts.old.keys) }
     ensures texts { OnOk result (keys_of texts.new.keys
         ≡ insert_all bytes_eq (keys_of texts.old.keys) (joined_texts bytes.now (entry ∷ []))) }
     ensures number { IfOk result (λ number. number ≡ text_number bytes.now (keys_of texts.new.keys) entry) }
 {
     if entry.is_in(Group::Joined) {
-        let text = NameText {
-            bytes: entry.name().of(bytes),
-        };
-        let Ok((place, _)) = texts.insert_full(text) else {
-            return Err(OutOfMemory);
-        };
-        let number = to_u32(place)?;
+        let number = number_text(texts, entry.name().of(bytes), near)?;
         return Ok(number);
     }
     Ok(0)
+}
+
+// The number of the name that was joined last: this one, or the one before where this is 0, as it is beside what joins no name.
+#[inline]
+fn last_joined(number: u32, before: u32) -> u32 {
+    if number > 0 { number } else { before }
 }
 
 /// Adds the names that entries join, each where it first comes, and their numbers beside the entries.
@@ -195,13 +231,16 @@ fn join_texts<'a>(
     bytes: &'a [u8],
     entries: &[Entry],
 ) -> Result<(), OutOfMemory>
+    requires { AllDiffer (keys_of texts.old.keys) }
     ensures texts { OnOk result (keys_of texts.new.keys
         ≡ insert_all bytes_eq (keys_of texts.old.keys) (joined_texts bytes.now entries.now)) }
     ensures numbers { OnOk result (numbers.new.items
         ≡ numbers.old.items ++ map (text_number bytes.now (keys_of texts.new.keys)) entries.now) }
 {
+    let mut last = 0;
     for entry in entries {
-        let number = join_text(texts, bytes, *entry)?;
+        let number = join_text(texts, bytes, *entry, last)?;
+        last = last_joined(number, last);
         push(numbers, number)?;
     }
     Ok(())
@@ -241,6 +280,20 @@ fn add_rows<'a>(
     Ok(())
 }
 
+/// This place, where a text stands there.
+#[inline]
+fn find_at(texts: &IndexSet<NameText<'_>, NameHash>, text: &[u8], place: usize) -> Option<usize>
+    requires { AllDiffer (keys_of texts.now.keys) }
+    ensures { IfSome result (λ number. Some number ≡ position (λ other. bytes_eq text.now other.bytes.now) texts.now.keys) }
+{
+    if let Some(other) = texts.get_index(place) {
+        if are_equal(text, other.bytes) {
+            return Some(place);
+        }
+    }
+    None
+}
+
 /// The number of a text among these. The place at which it may stand is looked at first: names are mostly declared in the order of
 /// their numbers, and the next one is found without a hash.
 #[inline]
@@ -248,12 +301,10 @@ fn find_text(texts: &IndexSet<NameText<'_>, NameHash>, text: &[u8], guess: usize
     requires { AllDiffer (keys_of texts.now.keys) }
     ensures { result ≡ position (λ other. bytes_eq text.now other.bytes.now) texts.now.keys }
 {
-    if let Some(other) = texts.get_index(guess) {
-        if are_equal(text, other.bytes) {
-            return Some(guess);
-        }
+    match find_at(texts, text, guess) {
+        Some(number) => Some(number),
+        None => texts.get_index_of(&NameText { bytes: text }),
     }
-    texts.get_index_of(&NameText { bytes: text })
 }
 
 /// Notes what an entry declares, in the row of its name. The rows of these names stand from `from` on. It answers the number that the
