@@ -4,6 +4,7 @@ use Rattle.std.specs.List.{flat_map, join_with_byte}
 use Rattle.std.specs.Str.{bytes_eq}
 use Rattle.delay_units.specs.declared.Femto.{Femto}
 use Rattle.delay_units.specs.Printing.{femto_text}
+use Rattle.sdf_writer.specs.Escapes.{is_escaped}
 
 -- the delay of a wire from one pin to another, both as they are spelled in SDF, with one value a corner
 pub record WireRow : Type 0 where
@@ -29,7 +30,7 @@ pub record SdfRows : Type 0 where
 
 -- a byte within quotation marks: the quotation mark, 34, and the backslash, 92, have a backslash before them
 abbrev pub escaped : ℕ → List ℕ
-escaped byte = if (byte == 34) || (byte == 92) then 92 ∷ byte ∷ [] else byte ∷ []
+escaped byte = if is_escaped byte then 92 ∷ byte ∷ [] else byte ∷ []
 
 -- a text in quotation marks
 abbrev pub quoted : List ℕ → List ℕ

@@ -210,18 +210,35 @@ fn keep_cell(
         return Ok(count - 1);
     }
     cells.reserve(1)?;
-    let kept = keep_names(names, kind, instance)?;
+    let kept = keep_names(names, last_kind(cells.as_slice()), kind, instance)?;
     // There is room for it.
     let _ = cells.push(kept);
     Ok(count)
 }
 
-// Keeps the names of a cell.
-fn keep_names(names: &mut FlatTexts, kind: &[u8], instance: &[u8]) -> Result<KeptCell, OutOfMemory>
+// The number of the type of the last cell. Cells of one type stand together, as a rule.
+#[inline]
+fn last_kind(cells: &[KeptCell]) -> Option<u32>
+    ensures { (names : ℕ) → All (IsCellKept names) cells.now → IfSome result (λ number. number < names) }
+{
+    match cells.last() {
+        Some(cell) => Some(cell.kind),
+        None => None,
+    }
+}
+
+// Keeps the names of a cell. Its type may be the name of this number.
+fn keep_names(
+    names: &mut FlatTexts,
+    before: Option<u32>,
+    kind: &[u8],
+    instance: &[u8],
+) -> Result<KeptCell, OutOfMemory>
+    requires { IfSome before (λ number. number < length names.old) }
     ensures kept { IfOk result (KeepsCellNames names.new (record { kind = kind.now; instance = instance.now })) }
     ensures names { ExtendsNames names.old names.new }
 {
-    let kind = keep_name(names, kind)?;
+    let kind = keep_again(names, before, kind)?;
     let instance = keep_name(names, instance)?;
     Ok(KeptCell { kind, instance })
 }

@@ -109,44 +109,10 @@ impl<C: CornerSet> Rows<C> {
         Ok(())
     }
 
-    /// Adds the row of a path through a cell of that type (`cell`, a plain text) and of that instance, from one of its pins to
-    /// another, all three in the spelling of SDF. `rise` and `fall` are the delays of the edges at the second pin, each of one
-    /// row, with the time at each corner, of at most 10^27 fs in size, or none. Paths of one cell that are added one after
-    /// another stand in one CELL of the text, so those of an instance are to be added together. Where memory is missing the
-    /// names are dropped and the rows stay as they were.
-    pub fn add_path(
-        &mut self,
-        cell: Text,
-        instance: Text,
-        from: Text,
-        to: Text,
-        rise: Option<&Grid<C, Femto>>,
-        fall: Option<&Grid<C, Femto>>,
-    ) -> Result<(), OutOfMemory>
-        requires rise { IsEdge C.COUNT (edge_times rise) }
-        requires fall { IsEdge C.COUNT (edge_times fall) }
-        ensures ok { OnOk result (self.new ≡ record self.old {
-          paths = self.old.paths ++ record {
-            cell = cell;
-            instance = instance;
-            from = from;
-            to = to;
-            rise = edge_times rise.entry;
-            fall = edge_times fall.entry;
-          } ∷ [];
-        }) }
-        ensures err { OnErr result (self.new ≡ self.old) }
-    {
-        let names = PathNames {
-            cell: cell.bytes(),
-            instance: instance.bytes(),
-            from: from.bytes(),
-            to: to.bytes(),
-        };
-        self.put_path(names, rise, fall)
-    }
-
-    /// The same as [`Rows::add_path`], by names that stay the caller's.
+    /// Adds the row of a path through a cell, from one of its pins to another. `rise` and `fall` are the delays of the edges at the
+    /// second pin, each of one row, with the time at each corner, of at most 10^27 fs in size, or none. Paths of one cell that are
+    /// added one after another stand in one CELL of the text, so those of an instance are to be added together. The names stay the
+    /// caller's. Where memory is missing the rows stay as they were.
     pub fn put_path(
         &mut self,
         names: PathNames<'_>,

@@ -1,5 +1,5 @@
 //! Rows that are written, read and told. The lines are another program's, which was given the text.
-use super::rows::{FROM_A, FROM_B, add_path, add_wire, row_of};
+use super::rows::{FROM_A, FROM_B, add_wire, row_of};
 use corner_set::Single;
 use edge_io::{MemSink, OutOfMemory, Text};
 use sdf_reader::{print_rows, print_summary, read};
@@ -13,9 +13,9 @@ fn rows(alloc: Global) -> Result<Rows<Single>, OutOfMemory> {
     add_wire(alloc, &mut rows, b"a\\.b/", b"u1/A[3]", 300)?;
     add_wire(alloc, &mut rows, b"/Z", b"z[", -12_345)?;
     let fall = row_of(alloc, 37_500)?;
-    add_path(alloc, &mut rows, &FROM_A, None, Some(&fall))?;
+    rows.put_path(FROM_A, None, Some(&fall))?;
     let rise = row_of(alloc, -1_000_000_000_000_000_000_000_000_000)?;
-    add_path(alloc, &mut rows, &FROM_B, Some(&rise), None)?;
+    rows.put_path(FROM_B, Some(&rise), None)?;
     Ok(rows)
 }
 

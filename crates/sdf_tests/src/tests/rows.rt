@@ -6,7 +6,7 @@ ghost use Rattle.sdf_writer.specs.PathRows.{IsEdge, edge_times};
 use corner_set::{Grid, Single};
 use delay_units::Femto;
 use edge_io::{OutOfMemory, Text};
-use sdf_writer::Rows;
+use sdf_writer::{PathNames, Rows};
 use std::alloc::Global;
 
 /// One row with this time.
@@ -33,16 +33,8 @@ pub fn add_wire(
     rows.add_wire(from, to, &delay)
 }
 
-/// The names of a path: of its cell, of its instance, and of its pins.
-pub struct PathNames {
-    pub cell: &'static [u8],
-    pub instance: &'static [u8],
-    pub from: &'static [u8],
-    pub to: &'static [u8],
-}
-
 /// A path through a cell of two inputs, from the first.
-pub const FROM_A: PathNames = PathNames {
+pub const FROM_A: PathNames<'static> = PathNames {
     cell: b"N\"D\\2",
     instance: b"b/u2",
     from: b"A",
@@ -50,27 +42,9 @@ pub const FROM_A: PathNames = PathNames {
 };
 
 /// The other path through that cell.
-pub const FROM_B: PathNames = PathNames {
+pub const FROM_B: PathNames<'static> = PathNames {
     cell: b"N\"D\\2",
     instance: b"b/u2",
     from: b"B",
     to: b"Z",
 };
-
-/// Adds a path of one corner.
-pub fn add_path(
-    alloc: Global,
-    rows: &mut Rows<Single>,
-    names: &PathNames,
-    rise: Option<&Grid<Single, Femto>>,
-    fall: Option<&Grid<Single, Femto>>,
-) -> Result<(), OutOfMemory>
-    requires rise { IsEdge 1 (edge_times rise) }
-    requires fall { IsEdge 1 (edge_times fall) }
-{
-    let cell = Text::from_bytes(alloc, names.cell)?;
-    let instance = Text::from_bytes(alloc, names.instance)?;
-    let from = Text::from_bytes(alloc, names.from)?;
-    let to = Text::from_bytes(alloc, names.to)?;
-    rows.add_path(cell, instance, from, to, rise, fall)
-}

@@ -1,5 +1,5 @@
 //! The texts of small designs, worked by hand, and what a fault leaves of one.
-use super::rows::{FROM_A, FROM_B, PathNames, add_path, add_wire, row_of};
+use super::rows::{FROM_A, FROM_B, add_wire, row_of};
 use corner_set::{Grid, Pick, Single, Triple};
 use delay_units::Femto;
 use edge_io::{Failed, MemSink, OutOfMemory, Text};
@@ -132,11 +132,11 @@ fn wires_and_paths(alloc: Global) -> Result<Rows<Single>, OutOfMemory> {
     add_wire(alloc, &mut rows, b"u1/Z", b"z", 0)?;
     let rise = row_of(alloc, 37_500)?;
     let fall = row_of(alloc, 19_500)?;
-    add_path(alloc, &mut rows, &INVERTER, Some(&rise), Some(&fall))?;
+    rows.put_path(INVERTER, Some(&rise), Some(&fall))?;
     let fall = row_of(alloc, 12)?;
-    add_path(alloc, &mut rows, &FROM_A, None, Some(&fall))?;
+    rows.put_path(FROM_A, None, Some(&fall))?;
     let rise = row_of(alloc, -1_500)?;
-    add_path(alloc, &mut rows, &FROM_B, Some(&rise), None)?;
+    rows.put_path(FROM_B, Some(&rise), None)?;
     Ok(rows)
 }
 
