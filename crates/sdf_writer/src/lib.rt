@@ -9,6 +9,7 @@ mod names;
 mod paths;
 mod rows;
 mod text;
+mod times;
 mod values;
 
 pub use paths::PathNames;

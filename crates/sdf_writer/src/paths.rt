@@ -5,6 +5,7 @@ ghost use Rattle.sdf_writer.specs.Names.{ExtendsNames};
 ghost use Rattle.sdf_writer.specs.PathRows.{cell_of_names, cell_at, is_same, IsCellKept, IsKept, IsEdge, edge_times, Extends, ExtendsTimes, KeepsEdge, KeepsCellNames, KeepsCell, KeepsRow};
 
 use crate::names::{keep_again, keep_name, name};
+use crate::times::add_times;
 use corner_set::{CornerSet, Grid};
 use delay_units::Femto;
 use edge_io::OutOfMemory;
@@ -187,7 +188,7 @@ fn keep_edge<C: CornerSet>(
         None => Ok(None),
         Some(delay) => {
             let place = times.len();
-            times.extend_from_slice(delay.as_slice())?;
+            add_times(times, delay.as_slice())?;
             Ok(Some(place))
         }
     }

@@ -8,6 +8,7 @@ ghost use Rattle.sdf_writer.specs.PathRows.{IsEdge, edge_times};
 
 use crate::names::{keep_again, keep_name};
 use crate::paths::{PathNames, Paths};
+use crate::times::add_times;
 use corner_set::{CornerSet, Grid};
 use delay_units::Femto;
 use edge_io::{OutOfMemory, Text};
@@ -103,7 +104,7 @@ impl<C: CornerSet> Rows<C> {
     {
         self.wires.reserve(1)?;
         let wire = keep_wire(&mut self.names, last_from(&self.wires), from, to)?;
-        self.delays.extend_from_slice(delay.as_slice())?;
+        add_times(&mut self.delays, delay.as_slice())?;
         // There is room for it.
         let _ = self.wires.push(wire);
         Ok(())
