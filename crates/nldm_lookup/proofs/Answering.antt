@@ -120,3 +120,13 @@ answers table slew load grain beyond kept (Err end) none nothing is large make_v
 pub only_answer : (table : TimingTable) (slew load : ℕ) (grain : Grain) (beyond : Beyond) (r : Result ℤ LookupEnd) → IsTable table → IsLookup table slew load grain beyond r
     → (other : Result ℤ LookupEnd) → IsLookup table slew load grain beyond other → other ≡ r
 only_answer table slew load grain beyond r whole is other its = one_lookup_lem one_rounding_lem table slew load grain beyond other r whole its is
+
+-- a value that is not negative is not raised to 0
+pub natural_stays : (beyond : Beyond) (grain : Grain) (value : ℤ) → pos 0 ≤ℤ value → not_below beyond grain value ≡ value
+natural_stays Extend Atto (pos n) some = refl
+natural_stays Extend Atto (negsuc n) some = absurd (omega (arith, ints, some))
+natural_stays Extend Femto value some = refl
+natural_stays Refuse Atto value some = refl
+natural_stays Refuse Femto value some = refl
+natural_stays Edge Atto value some = refl
+natural_stays Edge Femto value some = refl

@@ -5,6 +5,7 @@ pub mod Scaling
 pub mod Gaps
 pub mod Answering
 pub mod Halvings
+pub mod NearQuotient
 pub mod Weighing
 pub mod Sizes
 pub mod Spanning

@@ -136,6 +136,7 @@ impl Axis {
     }
 
     /// What is taken for a quantity, or why nothing is. It takes at most 12 steps.
+    #[inline(always)]
     pub(crate) fn between<L: Ledger>(
         &self,
         axis: Which,
@@ -171,6 +172,7 @@ impl Axis {
     }
 
     // What is taken for a quantity that is past this end. It takes at most 10 steps.
+    #[inline(never)]
     fn past<L: Ledger>(
         &self,
         axis: Which,
@@ -204,6 +206,7 @@ impl Axis {
     }
 
     // The neighbouring points around one number, by their weights at another. It takes at most 10 steps.
+    #[inline(always)]
     fn neighbours<L: Ledger>(&self, near: u64, at: u64, steps: &mut Steps<L>) -> Between
         requires whole { IsAxis self.now }
         requires some { 1 < length self.now }
@@ -226,6 +229,7 @@ impl Axis {
     }
 
     // The place of the lower of two neighbouring points between which a quantity lies, by halves. It takes at most 8 steps.
+    #[inline]
     fn gap_of<L: Ledger>(&self, quantity: u64, steps: &mut Steps<L>) -> usize
         requires some { 1 < length self.now }
         requires first { slice_index self.now 0 ≤ quantity }

@@ -9,6 +9,7 @@ mod beyond;
 mod faults;
 mod grain;
 mod laws;
+mod quotient;
 mod table;
 
 pub use axis::Axis;

@@ -12,7 +12,8 @@ use crate::between::Between;
 use crate::beyond::Beyond;
 use crate::faults::{LookupEnd, TableFault, Which};
 use crate::grain::Grain;
-use delay_units::{Atto, Farads, half_up};
+use crate::quotient::rounded;
+use delay_units::{Atto, Farads};
 use edge_io::{OutOfMemory, Steps};
 use std::alloc::Global;
 use std::marker::Model;
@@ -70,7 +71,23 @@ fn divisor(slew: Between, load: Between, grain: Grain) -> u128
 }
 
 // A quotient of weighed values as the value of the table, or nothing where it is more than a microsecond in size.
+#[inline]
+#[tactic(auto, using(crate::proofs::Answering::natural_stays))]
 fn in_time(rounded: i128, grain: Grain, beyond: Beyond) -> Result<i64, LookupEnd>
+    ensures value { IfOk result (λ value. value ≡ not_below beyond grain rounded) }
+    ensures small { IfOk result (λ value. unsigned_abs value ≤ most_in grain) }
+    ensures past_time { IfErr result (λ end. end ≡ LookupEnd.PastTime) }
+    ensures large { OnErr result (most_in grain < unsigned_abs (not_below beyond grain rounded)) }
+{
+    if 0 <= rounded && rounded <= grain.most() as i128 {
+        return Ok(rounded as i64);
+    }
+    extended_value(rounded, grain, beyond)
+}
+
+// The same of any quotient. One that is negative or large is extended, as a rule.
+#[inline(never)]
+fn extended_value(rounded: i128, grain: Grain, beyond: Beyond) -> Result<i64, LookupEnd>
     ensures value { IfOk result (λ value. value ≡ not_below beyond grain rounded) }
     ensures small { IfOk result (λ value. unsigned_abs value ≤ most_in grain) }
     ensures past_time { IfErr result (λ end. end ≡ LookupEnd.PastTime) }
@@ -227,8 +244,8 @@ impl Table {
         let on_slew = self.slew.between(Which::Slew, slew, beyond, steps)?;
         let on_load = self.load.between(Which::Load, load.0, beyond, steps)?;
         let sum = self.weighed(on_slew, on_load, steps);
-        let rounded = half_up(sum, divisor(on_slew, on_load, grain) as i128);
-        in_time(rounded, grain, beyond)
+        let value = rounded(sum, divisor(on_slew, on_load, grain));
+        in_time(value, grain, beyond)
     }
 
     /// The value at a slew and a load: bilinear between the neighbouring points of the axes, and rounded once, half up, to whole grains.

@@ -1,6 +1,6 @@
-use Rattle.std.proofs.Common.{◌≡◌, ◌*◌, ◌≤◌, ◌∙◌, ℕ, ℤ, pos, List, ◌≤ℤ◌, unsigned_abs, arith, FitsSigned, subst, ap}
+use Rattle.std.proofs.Common.{◌≡◌, ◌*◌, ◌≤◌, ℕ, ℤ, pos, List, ◌≤ℤ◌, unsigned_abs, arith, FitsSigned, subst, ap}
 use Rattle.std.specs.Int.{w64, w128}
-use Rattle.std.proofs.lemmas.Int.{ints, to_z-of_z, to_z_pos, fits_signed_from_abs}
+use Rattle.std.proofs.lemmas.Int.{ints, to_z-of_z, fits_signed_from_abs}
 use Rattle.std.proofs.lemmas.Result.{err_from_is_err_and}
 use Rattle.delay_units.specs.Rounding.{IsRounding}
 use Rattle.nldm_lookup.specs.Axes.{most}
@@ -56,11 +56,8 @@ returns-in_err-on_load-clause-only g c =
     only_answer c.args.self.now (unsigned_abs c.args.slew.0) c.args.load.0 c.args.grain c.args.beyond c.from_residual-in_err-on_load.result
     (subst (λ t. IsTable t) c.self.view_is c.self.invariant) (returns-in_err-on_load-clause-answer g c)
 
-pub half_up-rounded-requires-clause-small_divisor : goal.half_up-rounded-requires-clause-small_divisor
-half_up-rounded-requires-clause-small_divisor g c = omega (arith, ints, c.divisor.ensures.small)
-
-pub half_up-rounded-requires-clause-small : goal.half_up-rounded-requires-clause-small
-half_up-rounded-requires-clause-small g c =
+pub rounded-value-requires-clause-small : goal.rounded-value-requires-clause-small
+rounded-value-requires-clause-small g c =
     let n : FitsSigned w128 c.weighed-sum.result = record { sfits = c.weighed-sum.type_inv } in
     let slew = c.in_ok-on_slew.ensures.on in
     let load = c.in_ok-on_load.ensures.on in
@@ -73,20 +70,19 @@ returns-clause-answer g c =
     let k : FitsSigned w64 c.args.slew.0 = kept c.args.slew.0 c.requires.not_negative c.requires.small in
     let size = simp to_z-of_z at c.unsigned_abs-slew.ensures.value in
     let n : FitsSigned w128 c.weighed-sum.result = record { sfits = c.weighed-sum.type_inv } in
-    let r : FitsSigned w128 c.half_up-rounded.result = record { sfits = c.half_up-rounded.type_inv } in
+    let r : FitsSigned w128 c.rounded-value.result = record { sfits = c.rounded-value.type_inv } in
     let whole = subst (λ t. IsTable t) c.self.view_is c.self.invariant in
     let on_slew = between_of c.in_ok-on_slew.on_slew in
     let on_load = between_of c.in_ok-on_load.on_load in
-    let divisor = to_z_pos w128 c.divisor.result (omega (arith, c.divisor.ensures.small)) ∙ c.divisor.ensures.value in
     let a = moved (λ points x. IsBetween points x c.args.beyond on_slew) _ _ _ _ (ap (λ t. t.slew) c.self.view_is) size c.in_ok-on_slew.ensures.between in
     let b = subst (λ points. IsBetween points c.args.load.0 c.args.beyond on_load) (ap (λ t. t.load) c.self.view_is) c.in_ok-on_load.ensures.between in
     let near = subst (λ points. c.args.beyond ≡ Extend → IsPassed points c.args.load.0 → c.args.load.0 ≤ most) (ap (λ t. t.load) c.self.view_is) c.in_ok-on_load.ensures.near in
-    let rounds = replaced c.weighed-sum.result _ _ _ c.half_up-rounded.result c.weighed-sum.ensures.value divisor (simp to_z-of_z at c.half_up-rounded.ensures.rounded) in
+    let rounds = replaced c.weighed-sum.result _ _ _ c.rounded-value.result c.weighed-sum.ensures.value c.divisor.ensures.value (simp to_z-of_z at c.rounded-value.ensures) in
     let small = subst (λ z. unsigned_abs z ≤ most * size_of on_load * size_of on_slew) c.weighed-sum.ensures.value c.weighed-sum.ensures.small in
-    answers c.args.self.now (unsigned_abs c.args.slew.0) c.args.load.0 c.args.grain c.args.beyond (not_below c.args.beyond c.args.grain c.half_up-rounded.result) c.in_time.result
+    answers c.args.self.now (unsigned_abs c.args.slew.0) c.args.load.0 c.args.grain c.args.beyond (not_below c.args.beyond c.args.grain c.rounded-value.result) c.in_time.result
     (simp to_z-of_z at c.in_time.ensures.value) c.in_time.ensures.small c.in_time.ensures.past_time (simp to_z-of_z at c.in_time.ensures.large)
-    (λ value is within. found c.args.self.now (unsigned_abs c.args.slew.0) c.args.load.0 c.args.grain c.args.beyond on_slew on_load c.half_up-rounded.result value a b near rounds is within)
-    (λ large. past_time c.args.self.now (unsigned_abs c.args.slew.0) c.args.load.0 c.args.grain c.args.beyond on_slew on_load c.half_up-rounded.result whole a b small rounds large)
+    (λ value is within. found c.args.self.now (unsigned_abs c.args.slew.0) c.args.load.0 c.args.grain c.args.beyond on_slew on_load c.rounded-value.result value a b near rounds is within)
+    (λ large. past_time c.args.self.now (unsigned_abs c.args.slew.0) c.args.load.0 c.args.grain c.args.beyond on_slew on_load c.rounded-value.result whole a b small rounds large)
 
 pub returns-clause-only : goal.returns-clause-only
 returns-clause-only g c =
