@@ -1,7 +1,6 @@
 //! Rows of wires and of paths.
 ghost use Rattle.std.specs.Prelude.{◌≡◌, ◌≤◌, ◌^◌, unsigned_abs, length, IfOk};
 ghost use Rattle.sdf_writer.specs.Bounds.{AreWithin};
-ghost use Rattle.sdf_writer.specs.PathRows.{IsEdge, edge_times};
 
 use corner_set::{Grid, Single};
 use delay_units::Femto;

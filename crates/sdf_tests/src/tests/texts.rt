@@ -3,7 +3,7 @@ use super::rows::{FROM_A, FROM_B, add_wire, row_of};
 use corner_set::{Grid, Pick, Single, Triple};
 use delay_units::Femto;
 use edge_io::{Failed, MemSink, OutOfMemory, Text};
-use sdf_writer::{Rows, write};
+use sdf_writer::{PathNames, Rows, write};
 use std::alloc::Global;
 use std::test::Fail;
 
@@ -118,7 +118,7 @@ fn a_value_has_a_number_for_each_corner(rt: HostRuntime) -> Result<(), Fail> {
 }
 
 /// The path through an inverter.
-const INVERTER: PathNames = PathNames {
+const INVERTER: PathNames<'static> = PathNames {
     cell: b"INV",
     instance: b"u1",
     from: b"A",
