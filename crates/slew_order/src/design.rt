@@ -213,8 +213,8 @@ impl<'a, C: CornerSet> Design<'a, C> {
         Some(look_up_both(tables, slew, load, self.beyond, steps))
     }
 
-    /// The transition at an edge of an arc's output at a corner, for a slew of its related pin, both in attoseconds. None where a look-up of
-    /// the edge is refused. It is at most 64 steps.
+    /// The transition at an edge of an arc's output at a corner, for a slew of its related pin, both in attoseconds. None where a
+    /// look-up of the edge is refused. It is at most 64 steps.
     pub(crate) fn transition<L: Ledger>(
         &self,
         arc: usize,

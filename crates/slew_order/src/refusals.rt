@@ -1,5 +1,5 @@
 //! The first look-up that is refused.
-ghost use Rattle.std.specs.Prelude.{◌≡◌, ◌+◌, ◌*◌, ◌<◌, ◌≤◌, ◌↔◌, if◌then◌else◌, length, IsTrue, IfSome, IfNone};
+ghost use Rattle.std.specs.Prelude.{◌≡◌, ◌+◌, ◌*◌, ◌<◌, ◌≤◌, ◌↔◌, if◌then◌else◌, length, true, IsTrue, IfSome, IfNone};
 ghost use Rattle.slew_states.specs.declared.arcs.Driver.TheVariants.{Pin};
 ghost use Rattle.slew_states.specs.Arcs.{arc_at, driver_at, has_edge};
 ghost use Rattle.slew_states.specs.PinState.{IsSmall, worst};
@@ -121,6 +121,28 @@ fn refusal_at<C: CornerSet, L: Ledger>(
     if is_taken(design, arc, edge, number, states) {
         return None;
     }
+    refused_lookup(design, arc, edge, number, states, steps)
+}
+
+// The look-up of an edge that an arc has, where it is refused at a corner. It stands by itself since few arcs come here, so that what
+// all arcs pass is short.
+#[inline(never)]
+fn refused_lookup<C: CornerSet, L: Ledger>(
+    design: &Design<'_, C>,
+    arc: usize,
+    edge: Edge,
+    number: usize,
+    states: &[EdgeStates],
+    steps: &mut Steps<L>,
+) -> Option<PartEnd>
+    requires has { has_edge (arc_at (flat_in design.now) arc) edge ≡ true }
+    requires arc { arc < length (arcs_in design.now) }
+    requires corner { number < design.now.count }
+    requires states { AreStatesAt design.now number states.now }
+    ensures refused { IfSome result (IsRefusal design.now arc edge number) }
+    ensures none { IfNone result (NoRefusalAt design.now arc edge number) }
+    ensures steps { steps.new ≤ steps.old + 64 }
+{
     let PinState::Known(slew) = worst_at(design, arc, edge, number, states) else {
         return None;
     };

@@ -38,7 +38,8 @@ pub(crate) fn state_behind(mode: WireSlew, elmore: u128, state: PinState) -> Pin
     }
 }
 
-// The slew behind a wire that joins its own.
+// The slew behind a wire that joins its own. It stands by itself since its root is long, and other modes have none.
+#[inline(never)]
 #[tactic(auto, using(crate::proofs::Wiring::wire_some, crate::proofs::Wiring::wire_none))]
 fn joined_slew(elmore: u128, slew: u64) -> Option<u64>
     requires slew { slew ≤ most }
