@@ -7,6 +7,7 @@ ghost use Rattle.annotation_rows.specs.SdfEnds.{IsEndThere, end_sdf, pin_count, 
 use cell_models::CellSets;
 use corner_set::{CornerSet, first_corner};
 use edge_io::OutOfMemory;
+use edge_io::lists::push;
 use name_table::push_escaped_sdf;
 use netlist_link::{End, Netlist};
 
@@ -59,7 +60,7 @@ fn pin_path<C: CornerSet>(
 {
     let name = pin_name(netlist, cells, instance, pin);
     put_bytes(netlist.instance_sdf(instance), text)?;
-    text.extend_from_slice(b"/")?;
+    push(text, b'/')?;
     push_escaped_sdf(text, name)
 }
 
