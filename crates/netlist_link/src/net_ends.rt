@@ -167,8 +167,10 @@ pub(crate) fn net_ends(
     ensures few_driving { IfOk result (λ ends. length ends.driving.items < 2 ^ 32) }
     ensures few_driven { IfOk result (λ ends. length ends.driven.items < 2 ^ 32) }
 {
-    let mut driving = Vec::with_capacity(alloc, instances.rows.len())?;
-    let mut driven = Vec::with_capacity(alloc, instances.rows.len())?;
+    // Most cells have one output, and each bit of a port is an end.
+    let many = instances.rows.len().saturating_add(ports.nets.len());
+    let mut driving = Vec::with_capacity(alloc, many)?;
+    let mut driven = Vec::with_capacity(alloc, many)?;
     add_port_ends(ports, true, &mut driving)?;
     add_instance_ends(design, instances, &mut driving, &mut driven)?;
     add_port_ends(ports, false, &mut driven)?;
