@@ -11,7 +11,7 @@ pub returns-in_err-rebuild-clause-refused : goal.returns-in_err-rebuild-clause-r
 returns-in_err-rebuild-clause-refused g c =
     handed_on (IsTreeEnd g.C.CornerSet.COUNT c.args.section.now (net_pins c.args.inputs.now c.args.net c.args.driver)) c.from_residual-in_err-rebuild.result c.in_err-rebuild.field-0.0
     c.from_residual-in_err-rebuild.ensures.1
-    (subst (λ (p : Pins). IsTreeEnd g.C.CornerSet.COUNT c.args.section.now p c.in_err-rebuild.field-0.0) c.in_ok-pins.ensures.pins c.in_err-rebuild.ensures.refused)
+    (subst (λ (p : Pins). IsTreeEnd g.C.CornerSet.COUNT c.args.section.now p c.in_err-rebuild.field-0.0) c.in_ok-put_pins.ensures.pins c.in_err-rebuild.ensures.refused)
 
 pub returns-clause-sums : goal.returns-clause-sums
 returns-clause-sums g c = λ corner below node within.
