@@ -110,8 +110,33 @@ fn filled<T: Copy>(alloc: Global, places: usize, fill: T) -> Result<Vec<T>, OutO
     Ok(values)
 }
 
-// Makes a list so many copies of a value, in the memory that it has.
+// Makes a list so many copies of a value, in the memory that it has. Most lists had as many values before.
+#[inline(always)]
 fn fill_within<T: Copy>(values: &mut Vec<T>, places: usize, fill: T)
+    requires { places ≤ vec_capacity values.old }
+    ensures items { values.new.items ≡ replicate places fill }
+    ensures room { vec_capacity values.old ≤ vec_capacity values.new }
+{
+    if values.len() == places {
+        overwrite(values.as_mut_slice(), fill);
+        return;
+    }
+    resize_within(values, places, fill);
+}
+
+// Puts a value in each place.
+#[inline]
+#[tactic(auto, using(crate::proofs::Overwriting::more_written, crate::proofs::Overwriting::all_written))]
+fn overwrite<T: Copy>(values: &mut [T], fill: T)
+    ensures { values.new ≡ replicate (length values.old) fill }
+{
+    for place in 0..values.len() {
+        values[place] = fill;
+    }
+}
+
+// Makes a list of another length so many copies of a value.
+fn resize_within<T: Copy>(values: &mut Vec<T>, places: usize, fill: T)
     requires { places ≤ vec_capacity values.old }
     ensures items { values.new.items ≡ replicate places fill }
     ensures room { vec_capacity values.old ≤ vec_capacity values.new }
