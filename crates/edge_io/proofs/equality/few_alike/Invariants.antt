@@ -1,5 +1,5 @@
 use Rattle.std.proofs.Common.{◌≡◌, length, bytes_eq}
-use Rattle.edge_io.proofs.equality.are_equal.Given as goal
+use Rattle.edge_io.proofs.equality.few_alike.Given as goal
 
 -- what is left is as long, and equal where the whole is
 abbrev pub invariant-loop-byte : goal.invariant-loop-byte
