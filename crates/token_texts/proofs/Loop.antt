@@ -2,7 +2,7 @@
 use Rattle.std.proofs.Common.{◌≡◌, ℕ, ◌+◌, ◌-◌, ◌<◌, ◌≤◌, List, [], ◌∷◌, ◌++◌, length, take, drop, length-drop, Option, None, Ok, refl, sym, ap, ◌∙◌, subst, arith, append_assoc, append-nil}
 use Rattle.std.specs.Prelude.{⊤}
 use Rattle.std.proofs.lemmas.List.{length-take-le}
-use Rattle.token_texts.specs.Cuts.{Lexeme, Part, gap, token, AreParts, no_part, and_gap, and_token, lexemes, byte_count, place_behind, IsWithin}
+use Rattle.token_texts.specs.Cuts.{Lexeme, Part, gap, token, AreParts, no_part, and_gap, and_token, HasGapFirst, lexemes, byte_count, place_behind, IsWithin}
 use Rattle.token_texts.specs.CutLemmas.{some_parts, bytes_behind, one_token_more, no_token_more, place_there, place_past}
 use Rattle.token_texts.specs.Readings.{IsNext, MakesParts, StopsParts, OnTaken}
 use Rattle.token_texts.specs.declared.cuts.Cut.{Cut}
@@ -52,6 +52,13 @@ module _ {K S : Type 0} (cut_at : ℕ → List ℕ → Cut K) (Leads : List (Par
         subst (λ (l : List ℕ). LedTo bytes l number (start + n) now) (sym (back ∙ ap (drop n) split))
         (one_gap first after n now here cut (omega arith)
         (subst (λ (l : List ℕ). Leads (here.before ++ gap l ∷ []) now) (front ∙ ap (take n) split) (moves here.before here.leads)))
+
+    -- a byte that is passed over by itself
+    pub led_past : {others skipped : List ℕ} (rest : List ℕ) (now : S) → LedTo bytes rest number start state → HasGapFirst cut_at rest → skipped ≡ take 1 rest → others ≡ drop 1 rest
+        → ((before : List (Part K)) → Leads before state → Leads (before ++ gap skipped ∷ []) now)
+        → LedTo bytes others number (start + 1) now
+    led_past [] now h here front back moves = absurd here
+    led_past (first ∷ after) now h here front back moves = led_skips (first ∷ after) first after 1 now h refl here (omega arith) front back moves
 
     one_token : (first : ℕ) (after : List ℕ) (n : ℕ) (kind : K) (now : S)
         → (h : LedTo bytes (first ∷ after) number start state) → cut_at first after ≡ Take n kind → 0 < n → n ≤ length after + 1

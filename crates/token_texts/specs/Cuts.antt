@@ -25,6 +25,11 @@ pub data AreParts {K : Type 0} (cut_at : ℕ → List ℕ → Cut K) : List ℕ 
       → AreParts cut_at (drop n (first ∷ rest)) parts
       → AreParts cut_at (first ∷ rest) (token (record { kind = kind; bytes = take n (first ∷ rest) }) ∷ parts)
 
+-- the first byte is passed over by itself
+abbrev pub HasGapFirst : {K : Type 0} → (ℕ → List ℕ → Cut K) → List ℕ → Type 0
+HasGapFirst cut_at [] = ⊥
+HasGapFirst cut_at (first ∷ rest) = cut_at first rest ≡ Skip 1
+
 -- The tokens of the bytes, in order, where `tokens_of` says what tokens the parts of a text are.
 pub record AreTokensOf {K T : Type 0} (cut_at : ℕ → List ℕ → Cut K) (tokens_of : List (Part K) → List T) (bytes : List ℕ)
     (tokens : List T) : Type 0 where
@@ -58,6 +63,11 @@ place_behind (suc count) (token lexeme ∷ parts) = length lexeme.bytes + place_
 -- the place of the token of this number, which counts from 1, or of the end of the text
 abbrev pub place_of : {K : Type 0} → List (Part K) → ℕ → ℕ
 place_of parts number = place_behind (number - 1) parts
+
+-- a byte stands behind what is cut from the bytes, and is passed over by itself
+abbrev pub HasGapBehind : {K : Type 0} → (ℕ → List ℕ → Cut K) → List ℕ → Cut K → Type 0
+HasGapBehind cut_at bytes (Skip n) = HasGapFirst cut_at (drop n bytes)
+HasGapBehind cut_at bytes (Take n kind) = HasGapFirst cut_at (drop n bytes)
 
 -- What can stand as a token, those that are broken aside: some bytes are this one token, and all of it.
 pub data IsToken {K : Type 0} (cut_at : ℕ → List ℕ → Cut K) (is_broken : K → Bool) : Lexeme K → Type 0 where

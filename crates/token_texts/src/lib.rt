@@ -18,7 +18,7 @@ mod spans;
 
 pub use blanks::{Blank, begins_with, is_blank};
 pub use comments::{comment_at, comment_cut, line_length, pair_place};
-pub use cuts::Cut;
+pub use cuts::{Cut, Front};
 pub use pieces::first_piece;
 pub use quoted::{Escape, quote_end, quoted_cut, takes};
 pub use reading::{ReadEnd, TokenReader, read_tokens};

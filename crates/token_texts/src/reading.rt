@@ -1,10 +1,10 @@
 //! One loop over the tokens of a text.
-ghost use Rattle.std.specs.Prelude.{◌≡◌, ℕ, ◌+◌, ◌<◌, ◌^◌, ◌∷◌, [], ◌++◌, List, length, IfOk};
-ghost use Rattle.token_texts.specs.Cuts.{Part, gap, IsWithin};
+ghost use Rattle.std.specs.Prelude.{◌≡◌, true, ℕ, ◌+◌, ◌<◌, ◌^◌, ◌∷◌, [], ◌++◌, List, length, IfOk};
+ghost use Rattle.token_texts.specs.Cuts.{Part, gap, IsWithin, HasGapBehind};
 ghost use Rattle.token_texts.specs.Readings.{IsNext, Follows, OnTaken, Finishes, MakesParts, StopsParts, IfRefused};
 ghost use Rattle.token_texts.specs.declared.cuts.Cut.{Cut};
 
-use crate::cuts::Cut;
+use crate::cuts::{Cut, Front};
 use edge_io::OutOfMemory;
 
 /// Why a text is not read.
@@ -44,6 +44,22 @@ pub trait TokenReader: Drop {
         requires bytes { length bytes.now < 2 ^ 32 }
         ensures value { result ≡ cut_at first rest.now }
         ensures within { IsWithin (length bytes.now) result };
+
+    /// What [`cut`](TokenReader::cut) tells, and whether a byte stands behind it that is passed over by itself, as a blank. A reader that
+    /// sees such a byte without a further look tells so: it takes no turn of its own then.
+    #[inline(always)]
+    fn front(bytes: &[u8], first: u8, rest: &[u8]) -> Front<Self::Kind>
+        requires parts { bytes.now ≡ first ∷ rest.now }
+        requires bytes { length bytes.now < 2 ^ 32 }
+        ensures value { result.cut ≡ cut_at first rest.now }
+        ensures within { IsWithin (length bytes.now) result.cut }
+        ensures gap { result.has_gap ≡ true → HasGapBehind cut_at bytes.now result.cut }
+    {
+        Front {
+            cut: Self::cut(bytes, first, rest),
+            has_gap: false,
+        }
+    }
 
     /// Goes on behind bytes that are passed over, as a blank or a comment.
     fn pass(&mut self, bytes: &[u8])
@@ -87,7 +103,8 @@ pub fn read_tokens<R: TokenReader>(first: R, bytes: &[u8]) -> Result<R::Value, R
     let mut start = 0;
     let mut rest = bytes;
     while let [byte, behind @ ..] = rest {
-        match R::cut(rest, *byte, behind) {
+        let front = R::front(rest, *byte, behind);
+        match front.cut {
             Cut::Skip(count) => {
                 let (gap, others) = rest.split_at(count);
                 reader.pass(gap);
@@ -104,6 +121,12 @@ pub fn read_tokens<R: TokenReader>(first: R, bytes: &[u8]) -> Result<R::Value, R
                 number += 1;
                 start += count;
                 rest = others;
+                if front.has_gap {
+                    let (gap, further) = rest.split_at(1);
+                    reader.pass(gap);
+                    start += 1;
+                    rest = further;
+                }
             }
         }
     }
