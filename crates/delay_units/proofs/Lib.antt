@@ -10,6 +10,7 @@ pub mod OneDecimal
 pub mod OneLiteral
 pub mod PlaceLemmas
 pub mod PowerLemmas
+pub mod Powers
 pub mod PrintingLemmas
 pub mod ReadingLemmas
 pub mod RoundingLemmas

@@ -2,24 +2,25 @@
 ghost use Rattle.std.specs.Prelude.{◌≡◌, ◌↔◌, IsTrue, List, ℕ, IfSome, IfNone};
 ghost use Rattle.delay_units.specs.Literal.{IsLiteral};
 ghost use Rattle.delay_units.specs.LiteralFronts.{IsLiteralFront, HasNoLiteralFront};
-ghost use Rattle.delay_units.specs.Parts.{DropsDigits, HasMantissa, HasNoMantissa};
+ghost use Rattle.delay_units.specs.Parts.{DropsDigits, HasMantissa, HasNoMantissa, SplitsExponent};
+ghost use Rattle.delay_units.specs.declared.literal.Power.{Power};
 ghost use Rattle.delay_units.specs.Places.{is_literal};
 
-use crate::literal::{leading_exponent, split_sign, strip};
+use crate::literal::{leading_exponent, split_sign, strip, strip_mark};
 
 /// The text behind the digits at its front.
 #[inline]
 fn behind_digits(text: &[u8]) -> &[u8]
     ensures { DropsDigits text.now result.now }
 {
-    let mut rest = text;
-    while let [first, after @ ..] = rest {
-        if !first.is_ascii_digit() {
-            break;
+    let mut count = 0;
+    while count < text.len() {
+        if !text[count].is_ascii_digit() {
+            return text.split_at(count).1;
         }
-        rest = after;
+        count += 1;
     }
-    rest
+    text.split_at(count).1
 }
 
 /// The text behind the digits at its front, with at most one point among them: nothing where there is no digit.
@@ -48,6 +49,17 @@ fn behind_mantissa(text: &[u8]) -> Option<&[u8]>
     }
 }
 
+/// The text behind the exponent at its front, which most numbers have not.
+#[inline]
+fn behind_exponent(text: &[u8]) -> &[u8]
+    ensures { (power : Power) × SplitsExponent text.now power result.now }
+{
+    match strip_mark(text) {
+        Some(_) => leading_exponent(text).1,
+        None => text,
+    }
+}
+
 /// The text behind the longest front of it that is a decimal literal: nothing where no front is one.
 #[inline]
 pub fn behind_literal(text: &[u8]) -> Option<&[u8]>
@@ -56,7 +68,7 @@ pub fn behind_literal(text: &[u8]) -> Option<&[u8]>
 {
     let (_, unsigned) = split_sign(text);
     match behind_mantissa(unsigned) {
-        Some(rest) => Some(leading_exponent(rest).1),
+        Some(rest) => Some(behind_exponent(rest)),
         None => None,
     }
 }

@@ -142,7 +142,9 @@ pub fn leading_exponent(text: &[u8]) -> (Power, &[u8])
     (Power { negative, size }, rest)
 }
 
-fn strip_mark(text: &[u8]) -> Option<&[u8]>
+/// The text behind the mark of an exponent, if it begins with one.
+#[inline]
+pub fn strip_mark(text: &[u8]) -> Option<&[u8]>
     ensures { MatchOption result (NoMarkFirst text.now) (λ rest. BeginsWithMark text.now rest.now) }
 {
     match strip(text, b'e') {

@@ -117,6 +117,38 @@ fn power_behind(unit: &Unit, places: u32) -> Option<u32>
     if power > 18 { None } else { Some(power) }
 }
 
+/// The powers of ten that 64 bits hold, up to the most that a literal needs.
+const POWERS: [u64; 19] = [
+    1,
+    10,
+    100,
+    1_000,
+    10_000,
+    100_000,
+    1_000_000,
+    10_000_000,
+    100_000_000,
+    1_000_000_000,
+    10_000_000_000,
+    100_000_000_000,
+    1_000_000_000_000,
+    10_000_000_000_000,
+    100_000_000_000_000,
+    1_000_000_000_000_000,
+    10_000_000_000_000_000,
+    100_000_000_000_000_000,
+    1_000_000_000_000_000_000,
+];
+
+/// 10 to a power.
+#[inline]
+fn power_of_ten(power: u32) -> u64
+    requires { power ≤ 18 }
+    ensures { result ≡ 10 ^ power }
+{
+    POWERS[power as usize]
+}
+
 /// The reading of a short literal, where it needs no rounding.
 #[inline]
 fn exactly(unit: &Unit, short: &Short) -> Option<u64>
@@ -124,7 +156,7 @@ fn exactly(unit: &Unit, short: &Short) -> Option<u64>
 {
     let power = power_behind(unit, short.places)?;
     let product = short.digits.checked_mul(unit.mantissa as u64)?;
-    product.checked_mul(10u64.pow(power))
+    product.checked_mul(power_of_ten(power))
 }
 
 /// The reading of the literal in front of a text, where these digits are all of it and need no rounding: nothing for other literals. Most
