@@ -38,6 +38,22 @@ fn extend(bytes: &mut Vec<u8>, path: &[u8], name: &[u8], suffix: &[u8]) -> Resul
     Ok(())
 }
 
+// Puts two pieces of a text at the end, with a byte between them. Where memory is short some of them may be there.
+fn extend_parted(
+    bytes: &mut Vec<u8>,
+    front: &[u8],
+    divider: u8,
+    back: &[u8],
+) -> Result<(), OutOfMemory>
+    ensures ok { OnOk result (bytes.new.items ≡ bytes.old.items ++ (front.now ++ divider ∷ back.now)) }
+    ensures kept { (more : List ℕ) × (bytes.new.items ≡ bytes.old.items ++ more) }
+{
+    bytes.extend_from_slice(front)?;
+    push(bytes, divider)?;
+    bytes.extend_from_slice(back)?;
+    Ok(())
+}
+
 impl FlatTexts {
     /// No text yet. It takes no memory.
     pub fn new(alloc: Global) -> FlatTexts
@@ -97,6 +113,21 @@ impl FlatTexts {
         self.bytes.extend_from_slice(text)?;
         push(&mut self.pieces, Span { start, len })?;
         Ok(number)
+    }
+
+    /// Puts a text of two pieces with a byte between them at the end, and says its number. Where memory is missing the texts stay as they
+    /// were.
+    pub fn add_parted(&mut self, front: &[u8], divider: u8, back: &[u8]) -> Result<u32, OutOfMemory>
+        ensures number { IfOk result (λ number. number ≡ length self.old) }
+        ensures ok { OnOk result (self.new ≡ self.old ++ (front.now ++ divider ∷ back.now) ∷ []) }
+        ensures err { OnErr result (self.new ≡ self.old) }
+    {
+        let many = to_u32(self.pieces.len())?;
+        let start = to_u32(self.bytes.len())?;
+        extend_parted(&mut self.bytes, front, divider, back)?;
+        let len = to_u32(self.bytes.len())? - start;
+        push(&mut self.pieces, Span { start, len })?;
+        Ok(many)
     }
 
     /// How many texts there are.
