@@ -12,5 +12,7 @@ pub mod Growing
 pub mod Limiting
 pub mod Meeting
 pub mod OneUse
+pub mod Numbered
+mod OneFile
 mod Numbers
 mod Marking

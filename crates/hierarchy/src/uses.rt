@@ -88,7 +88,7 @@ fn cells_below(alloc: Global, modules: &Modules, top: usize) -> Result<Names, Us
 {
     let cells = InstanceCells::of(alloc, modules)?;
     check_walk(alloc, modules, &cells, top)?;
-    let names = cells_along(alloc, modules, &cells, top)?;
+    let names = cells_met(alloc, modules, &cells, top)?;
     Ok(names)
 }
 
@@ -249,6 +249,46 @@ fn cells_along(
         }
     }
     Ok(names)
+}
+
+// The names of the cells of a file of one module, in the order in which the walk first meets them: it meets the instances of this module.
+fn cells_of_one(
+    alloc: Global,
+    modules: &Modules,
+    cells: &InstanceCells,
+    top: usize,
+) -> Result<Names, WantOfMemory>
+    requires one { length modules.now ≡ 1 }
+    requires within { top < length modules.now }
+    requires walkable { IsWalkable modules.now top }
+    requires cells { AreInstanceCells modules.now cells.now }
+    ensures { IfOk result (λ names. names ≡ cells_used modules.now top) }
+{
+    let mut marks = no_marks(alloc, cells.names().len())?;
+    let mut names = Names::new(alloc);
+    for instance in 0..modules.instance_count(top) {
+        let number = cells.number(top, instance);
+        use_name(cells, number, &mut marks, &mut names)?;
+    }
+    Ok(names)
+}
+
+// The names of the cells, in the order in which the walk first meets them.
+fn cells_met(
+    alloc: Global,
+    modules: &Modules,
+    cells: &InstanceCells,
+    top: usize,
+) -> Result<Names, WantOfMemory>
+    requires within { top < length modules.now }
+    requires walkable { IsWalkable modules.now top }
+    requires cells { AreInstanceCells modules.now cells.now }
+    ensures { IfOk result (λ names. names ≡ cells_used modules.now top) }
+{
+    if modules.module_count() == 1 {
+        return cells_of_one(alloc, modules, cells, top);
+    }
+    cells_along(alloc, modules, cells, top)
 }
 
 // The names as texts.
