@@ -1,11 +1,12 @@
 -- What stands at the front of some bytes, by their first byte.
-use Rattle.std.proofs.Common.{◌≡◌, ℕ, zero, suc, ◌+◌, ◌<◌, Bool, true, false, not, ◌||◌, ◌==◌, List, [], ◌∷◌, length, drop, get_or, position, refl, sym, ap, ◌∙◌, subst, true≢false, arith}
+use Rattle.std.proofs.Common.{◌≡◌, ℕ, suc, ◌+◌, ◌<◌, true, false, not, ◌==◌, List, [], ◌∷◌, length, drop, get_or, position, refl, sym, ap, ◌∙◌, subst, true≢false, arith}
+use Rattle.std.proofs.Math.Seq.{drop-cons}
 use Rattle.edge_io.specs.Bytes.{quote, star, slash, backslash, begins_with}
 use Rattle.token_texts.specs.Blanks.{is_blank}
 use Rattle.token_texts.specs.Comments.{line_length, comment_cut}
-use Rattle.spef_text.specs.Tokens.{is_backslash, ends_text, is_marked, is_solid, text_cut, run_length, cut_at}
+use Rattle.spef_text.specs.Tokens.{is_backslash, ends_text, is_solid, text_cut, run_length, cut_at}
 use Rattle.spef_text.specs.Starts.{front_cut}
-use Rattle.token_texts.specs.Cuts.{IsWithin}
+use Rattle.token_texts.specs.Cuts.{IsWithin, HasGapFirst}
 use Rattle.token_texts.specs.declared.cuts.Cut.{Cut}
 use Rattle.token_texts.specs.declared.cuts.Cut.TheVariants.{Skip, Take}
 use Rattle.spef_text.specs.declared.scan.Kind.{Kind}
@@ -48,39 +49,27 @@ pub cut_run : (first : ℕ) (rest : List ℕ) → is_blank first ≡ false → (
 unfolding cut_at
 cut_run first rest p q r s = simp (p, q, r, s) (ap (λ n. Take n Whole) (run_plain first rest s p))
 
--- what begins with no blank and no mark is a run
-pub cut_plain : (first : ℕ) (rest : List ℕ) → is_blank first ≡ false → is_marked first ≡ false → cut_at first rest ≡ Take (run_length rest + 1) Whole
-cut_plain first rest p none = by (first == quote) (first == slash) (first == backslash) refl refl refl none
-  where
-    by : (text cut taken : Bool) → (first == quote) ≡ text → (first == slash) ≡ cut → (first == backslash) ≡ taken → text || (cut || taken) ≡ false
-        → cut_at first rest ≡ Take (run_length rest + 1) Whole
-    by false false false q r s none = cut_run first rest p q r s
-    by true cut taken q r s none = absurd (cc)
-    by false true taken q r s none = absurd (cc)
-    by false false true q r s none = absurd (cc)
-
--- a run of plain bytes that has a byte, where a blank ends it
+-- a run of plain bytes that has a byte, and neither a text nor a comment, where a blank ends it
 run_cut : (bytes : List ℕ) (n : ℕ) → 0 < n → n < length bytes
     → ((k : ℕ) → k < n → (is_blank (get_or bytes (0 + k) 0) ≡ false) × (is_backslash (get_or bytes (0 + k) 0) ≡ false))
-    → is_marked (get_or bytes 0 0) ≡ false → is_blank (get_or bytes n 0) ≡ true → front_cut bytes ≡ Take n Whole
-run_cut [] n some below plain none blank = absurd (omega arith)
-run_cut (first ∷ rest) n some below plain none blank =
+    → (get_or bytes 0 0 == quote) ≡ false → (get_or bytes 0 0 == slash) ≡ false → is_blank (get_or bytes n 0) ≡ true → front_cut bytes ≡ Take n Whole
+run_cut [] n some below plain no_text no_comment blank = absurd (omega arith)
+run_cut (first ∷ rest) n some below plain no_text no_comment blank =
     let begun : EscapedSoFar is_solid (first ∷ rest) 0 = record { within = omega arith; so_far = omega arith } in
     let far : EscapedSoFar is_solid (first ∷ rest) n = subst (EscapedSoFar is_solid (first ∷ rest)) (omega arith) (run_goes_far (first ∷ rest) 0 n begun (omega arith) plain) in
     let size = escaped_stops is_solid (first ∷ rest) n far below (λ e. true≢false (sym blank ∙ ap is_blank e)) (ap not blank) in
-    cut_plain first rest (plain 0 some).0 none ∙ ap (λ k. Take k Whole) (sym (run_plain first rest (plain 0 some).1 (plain 0 some).0) ∙ sym size)
+    cut_run first rest (plain 0 some).0 no_text no_comment (plain 0 some).1 ∙ ap (λ k. Take k Whole) (sym (run_plain first rest (plain 0 some).1 (plain 0 some).0) ∙ sym size)
 
--- the place of a blank is none of what begins with no blank
-some_run : (bytes : List ℕ) (first n : ℕ) → get_or bytes 0 0 ≡ first → is_blank first ≡ false → is_blank (get_or bytes n 0) ≡ true → 0 < n
-some_run bytes first zero front solid blank = absurd (true≢false (sym blank ∙ ap is_blank front ∙ solid))
-some_run bytes first (suc n) front solid blank = omega arith
-
--- a run of plain bytes that a blank ends
-pub short_cut : (bytes : List ℕ) (first n : ℕ) → get_or bytes 0 0 ≡ first → is_blank first ≡ false → n < length bytes
+-- the same by its first byte
+pub short_cut : (bytes : List ℕ) (first n : ℕ) → get_or bytes 0 0 ≡ first → 0 < n → n < length bytes
     → ((k : ℕ) → k < n → (is_blank (get_or bytes (0 + k) 0) ≡ false) × (is_backslash (get_or bytes (0 + k) 0) ≡ false))
-    → is_marked first ≡ false → is_blank (get_or bytes n 0) ≡ true → front_cut bytes ≡ Take n Whole
-short_cut bytes first n front solid below plain none blank =
-    run_cut bytes n (some_run bytes first n front solid blank) below plain (ap is_marked front ∙ none) blank
+    → (first == quote) ≡ false → (first == slash) ≡ false → is_blank (get_or bytes n 0) ≡ true → front_cut bytes ≡ Take n Whole
+short_cut bytes first n front some below plain no_text no_comment blank =
+    run_cut bytes n some below plain (ap (λ b. b == quote) front ∙ no_text) (ap (λ b. b == slash) front ∙ no_comment) blank
+
+-- a blank is passed over by itself
+pub gap_there : (bytes : List ℕ) (n : ℕ) → n < length bytes → is_blank (get_or bytes n 0) ≡ true → HasGapFirst cut_at (drop n bytes)
+gap_there bytes n below blank = subst (HasGapFirst cut_at) (sym (drop-cons bytes n 0 below)) (cut_blank (get_or bytes n 0) (drop (suc n) bytes) blank)
 
 -- a cut has a byte, and none past the end
 pub cut_within_bytes : (bytes : List ℕ) (first : ℕ) (rest : List ℕ) (cut : Cut Kind) → bytes ≡ first ∷ rest → cut ≡ cut_at first rest

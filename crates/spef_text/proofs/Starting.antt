@@ -1,15 +1,18 @@
 -- Where tokens begin: behind each part that is read, and that each token is the one at its place.
-use Rattle.std.proofs.Common.{◌≡◌, ℕ, zero, suc, ◌+◌, ◌<◌, ◌≤◌, List, [], ◌∷◌, ◌++◌, length, take, drop, Some, refl, sym, ap, ◌∙◌, subst, arith, append-nil}
-use Rattle.std.specs.Prelude.{slice_get, get_or}
+use Rattle.std.proofs.Common.{◌≡◌, ℕ, zero, suc, ◌+◌, ◌-◌, ◌%◌, ◌<◌, ◌≤◌, if◌then◌else◌, List, [], ◌∷◌, ◌++◌, length, min, take, drop, Some, refl, sym, ap, ◌∙◌, subst, arith, append-nil}
+use Rattle.std.specs.Prelude.{slice_get, slice_index_or, get_or}
 use Rattle.std.specs.Option.{option_map}
-use Rattle.std.proofs.lemmas.Option.{slice_get-map, slice_get-get_or}
-use Rattle.std.proofs.lemmas.List.{drop-drop, length-take, length-map}
+use Rattle.std.proofs.lemmas.Option.{slice_get-map, slice_get-get_or, get_or_from_slice_get}
+use Rattle.std.proofs.lemmas.List.{drop-drop, length-take, length-drop, length-map, get_or_past}
+use Rattle.token_texts.specs.ByteLemmas.{not_byte}
 use Rattle.token_texts.specs.Cuts.{Part, gap, token, Lexeme, AreParts, no_part, and_gap, and_token, lexemes, byte_count, IsWithin}
 use Rattle.token_texts.specs.declared.cuts.Cut.{Cut}
 use Rattle.token_texts.specs.declared.cuts.Cut.TheVariants.{Skip, Take}
 use Rattle.spef_text.specs.Tokens.{cut_at, texts_of}
 use Rattle.spef_text.specs.Starts.{taken_by, front_cut, front_token, token_at, short_len, short_lens, texts, starts_from}
 use Rattle.spef_text.specs.Within.{cut_within}
+use Rattle.spef_text.specs.Heads.{text_of}
+use Rattle.spef_text.specs.SpefFiles.{SpefText}
 use Rattle.spef_text.specs.declared.scan.Kind.{Kind}
 
 -- ---- one part more
@@ -89,6 +92,19 @@ taken_size (Take n kind) bytes = front n bytes
 pub token_size : (bytes : List ℕ) (start : ℕ) → token_at bytes start ≡ take (length (token_at bytes start)) (drop start bytes)
 token_size bytes start = taken_size (front_cut (drop start bytes)) (drop start bytes)
 
+-- what is shorter than the byte tells is as long as it tells
+known_size : (n len : ℕ) → len ≡ min n 255 → len < 255 → n ≡ len
+known_size n len is short = omega (arith, is, short)
+
+-- a token whose length is known is so many bytes from its place on
+pub known_token : (bytes : List ℕ) (start len : ℕ) → len ≡ short_len (token_at bytes start) → 0 < len → len < 255
+    → (start + len ≤ length bytes) × (take len (drop start bytes) ≡ token_at bytes start)
+known_token bytes start len is some short =
+    let size : length (token_at bytes start) ≡ len = known_size (length (token_at bytes start)) len is short in
+    let part : token_at bytes start ≡ take len (drop start bytes) = token_size bytes start ∙ ap (λ n. take n (drop start bytes)) size in
+    let long : len ≡ min len (length (drop start bytes)) = sym size ∙ ap length part ∙ length-take len (drop start bytes) in
+    (omega (arith, long, length-drop start bytes, some), sym part)
+
 -- the lengths that are kept of tokens are theirs, place by place
 pub length_there : (bytes starts lens : List ℕ) (place start len : ℕ) → lens ≡ short_lens (texts bytes starts) → place < length starts
     → start ≡ get_or starts place start → len ≡ get_or lens place len → len ≡ short_len (token_at bytes start)
@@ -101,3 +117,36 @@ length_there bytes starts lens place start len are within at_start at_len =
     let same : Some len ≡ Some (short_len (token_at bytes start))
     = ap Some at_len ∙ sym (slice_get-get_or lens place len (omega (arith, as_many, within))) ∙ ap (λ l. slice_get l place) are ∙ there in
     cc
+
+-- ---- the text of a token by its number
+
+-- the place of a number that is less by one, where no number stands before 0
+pub place_of_number : (number : ℕ) → 0 < number → number < 18446744073709551616 → (number + 18446744073709551615) % 18446744073709551616 ≡ number - 1
+place_of_number number some fits = omega arith
+
+-- a number that is not 0 is that of a place
+number_there : (file : SpefText) (number : ℕ) → 0 < number → text_of file number ≡ slice_index_or file.texts (number - 1) []
+number_there file number some =
+    ap (λ b. if b then [] else slice_index_or file.texts (number - 1) []) (not_byte number 0 (λ none. omega (arith, none, some)))
+
+pub text_there : (file : SpefText) (bytes starts : List ℕ) (number place start : ℕ) → file.texts ≡ texts bytes starts
+    → 0 < number → place ≡ number - 1 → place < length starts → start ≡ get_or starts place start → token_at bytes start ≡ text_of file number
+text_there file bytes starts number place start are some is within at =
+    let here : slice_get (texts bytes starts) place ≡ Some (token_at bytes start)
+    = slice_get-map (token_at bytes) starts place ∙ ap (option_map (token_at bytes)) (slice_get-get_or starts place start within ∙ ap Some (sym at)) in
+    sym (number_there file number some
+    ∙ ap (λ l. slice_index_or l (number - 1) []) are
+    ∙ ap (λ k. slice_index_or (texts bytes starts) k []) (sym is)
+    ∙ get_or_from_slice_get (texts bytes starts) place (token_at bytes start) [] here)
+
+pub no_text_there : (file : SpefText) (bytes starts : List ℕ) (number place : ℕ) → file.texts ≡ texts bytes starts
+    → (0 < number → place ≡ number - 1) → length starts ≤ place → text_of file number ≡ []
+no_text_there file bytes starts zero place are is past = refl
+no_text_there file bytes starts (suc before) place are is past =
+    let number : ℕ = suc before in
+    let some : 0 < number = omega arith in
+    let size : length (texts bytes starts) ≡ length starts = length-map starts (token_at bytes) in
+    number_there file number some
+    ∙ ap (λ l. slice_index_or l (number - 1) []) are
+    ∙ ap (λ k. slice_index_or (texts bytes starts) k []) (sym (is some))
+    ∙ get_or_past (texts bytes starts) place [] (omega (arith, size, past))

@@ -17,10 +17,6 @@ is_quote byte = byte == quote
 abbrev pub is_backslash : ℕ → Bool
 is_backslash byte = byte == backslash
 
--- a byte that can begin more than a run of bytes
-abbrev pub is_marked : ℕ → Bool
-is_marked byte = is_quote byte || (byte == slash || is_backslash byte)
-
 abbrev pub is_nothing : List ℕ → Bool
 is_nothing [] = true
 is_nothing (first ∷ rest) = false

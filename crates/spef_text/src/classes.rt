@@ -103,6 +103,7 @@ fn are_two_literals(text: &[u8]) -> bool
 
 /// A literal, or three with colons between them. Each byte is looked at once: no literal has a colon, so the longest front that is one
 /// ends before the colon.
+#[inline(always)]
 pub fn is_value(text: &[u8]) -> bool
     ensures { result ≡ is_value text.now }
 {

@@ -10,10 +10,8 @@ impl<'a> SpefFile<'a> {
     pub fn text_of(&self, number: u64) -> &[u8]
         ensures { result.now ≡ text_of self.now number }
     {
-        if number == 0 {
-            return &[];
-        }
-        let place = number as usize - 1;
+        // no token has the number 0: the place is past all of them then
+        let place = (number as usize).wrapping_sub(1);
         if place < self.starts.len() {
             token_at(self.bytes, self.starts[place], self.lens[place])
         } else {

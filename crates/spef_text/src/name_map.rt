@@ -32,23 +32,41 @@ pub enum Places {
 impl Places {
     /// Where the entry of an index stands, by its digits, if the map has it.
     #[inline]
-    pub fn place_of(&self, digits: &[u8]) -> Option<usize> {
+    pub fn place_of(&self, index: &[u8]) -> Option<usize> {
         match self {
-            Places::Runs(runs) => place_in(runs.as_slice(), number_of(digits)),
-            Places::Table(table) => Some(table.find(digits)?.0 as usize),
+            Places::Runs(runs) => place_in(runs.as_slice(), index_number(index)),
+            Places::Table(table) => Some(table.find(index_digits(index))?.0 as usize),
         }
     }
 }
 
+// The number of an index. Zeros in front make no other number.
+#[inline]
+fn index_number(index: &[u8]) -> u64 {
+    match index {
+        [] => 0,
+        [_, digits @ ..] => number_of(digits),
+    }
+}
+
+// The place of a number in the last run that begins with no larger one. That is the last of all for the names of most pins, which stand
+// behind those of nets.
+#[inline]
 fn place_in(runs: &[Run], number: u64) -> Option<usize> {
-    let behind = runs.partition_point(|run| run.number <= number);
-    let run = runs.get(behind.wrapping_sub(1))?;
+    let last = runs.last()?;
+    let run = if last.number <= number {
+        last
+    } else {
+        let behind = runs.partition_point(|run| run.number <= number);
+        runs.get(behind.wrapping_sub(1))?
+    };
     let further = number.wrapping_sub(run.number) as usize;
     Some(run.place.wrapping_add(further))
 }
 
 // The number that digits write, where it is small enough. Of larger ones it is what 64 bits hold, which tells two of them apart too,
 // where it differs.
+#[inline]
 fn number_of(digits: &[u8]) -> u64
     ensures { result ≡ number_of digits.now }
 {

@@ -17,7 +17,7 @@ use crate::modes::{
     right_step, second_step, sections_step, start_step, tail_step, top_step, total_step,
 };
 use crate::parsing::{SpefEnd, refusal};
-use crate::scan::{Kind, cut_at};
+use crate::scan::{Kind, cut_at, front_at};
 use crate::sections::Sections;
 use crate::starts::short_len;
 use crate::words::word_of;
@@ -25,7 +25,7 @@ use delay_units::is_literal;
 use edge_io::OutOfMemory;
 use edge_io::lists::push;
 use std::alloc::Global;
-use token_texts::{Cut, TokenReader};
+use token_texts::{Cut, Front, TokenReader};
 
 /// What is waited for, what has been read, where each token begins, and how long it is.
 #[derive(Drop)]
@@ -203,6 +203,11 @@ impl TokenReader for Reader {
     #[inline]
     fn cut(bytes: &[u8], first: u8, rest: &[u8]) -> Cut<Kind> {
         cut_at(bytes, first, rest)
+    }
+
+    #[inline(always)]
+    fn front(bytes: &[u8], first: u8, rest: &[u8]) -> Front<Kind> {
+        front_at(bytes, first, rest)
     }
 
     #[inline]

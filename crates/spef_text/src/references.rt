@@ -1,5 +1,5 @@
 //! What a reference names: a node or a net.
-ghost use Rattle.std.specs.Prelude.{◌≡◌, ◌≢◌, ℕ, ◌<◌, ◌++◌, true, List, length, slice_get, Some, IfOk, IfErr, IfSome, IfNone, MatchResult};
+ghost use Rattle.std.specs.Prelude.{◌≡◌, ◌≢◌, bytes_eq, ℕ, ◌<◌, ◌++◌, true, List, length, slice_get, Some, IfOk, IfErr, IfSome, IfNone, MatchResult};
 ghost use Rattle.spef_text.specs.Heads.{text_of, digits_of, IsHeadOf};
 ghost use Rattle.spef_text.specs.declared.entries.MapEntry.{MapEntry};
 ghost use Rattle.spef_text.specs.Classes.{index_digits};
@@ -127,15 +127,30 @@ fn written_mapped<'w>(
     }
 }
 
-// The name of the entry at that place, if its index has these digits.
+// Whether two indices have the same digits. As a rule they are spelled alike.
 #[inline(always)]
-fn name_there<'f>(file: &'f SpefFile<'_>, place: usize, digits: &[u8]) -> Option<&'f [u8]>
-    ensures mapped { IfSome result (λ name. IsMapped file.now digits.now name.now) }
+fn same_index(one: &[u8], other: &[u8]) -> bool
+    ensures { result ≡ bytes_eq (index_digits one.now) (index_digits other.now) }
+{
+    are_equal(one, other) || same_digits(one, other)
+}
+
+#[inline(never)]
+fn same_digits(one: &[u8], other: &[u8]) -> bool
+    ensures { result ≡ bytes_eq (index_digits one.now) (index_digits other.now) }
+{
+    are_equal(index_digits(one), index_digits(other))
+}
+
+// The name of the entry at that place, if its index has the digits of this one.
+#[inline(always)]
+fn name_there<'f>(file: &'f SpefFile<'_>, place: usize, index: &[u8]) -> Option<&'f [u8]>
+    ensures mapped { IfSome result (λ name. IsMapped file.now (index_digits index.now) name.now) }
     ensures unlike { IfNone result ((entry : MapEntry) → slice_get file.now.reading.head.map place ≡ Some entry
-        → digits_of file.now entry ≢ digits.now) }
+        → digits_of file.now entry ≢ index_digits index.now) }
 {
     let entry = file.head.map().get(place)?;
-    if are_equal(index_digits(file.text_of(entry.index as u64)), digits) {
+    if same_index(file.text_of(entry.index as u64), index) {
         Some(file.text_of(entry.name as u64))
     } else {
         None
@@ -144,12 +159,12 @@ fn name_there<'f>(file: &'f SpefFile<'_>, place: usize, digits: &[u8]) -> Option
 
 // The name of an index by its digits, if the map has it. All entries are looked through.
 #[inline(never)]
-fn name_among<'f>(file: &'f SpefFile<'_>, digits: &[u8]) -> Option<&'f [u8]>
-    ensures mapped { IfSome result (λ name. IsMapped file.now digits.now name.now) }
-    ensures unknown { IfNone result ((name : List ℕ) → IsMapped file.now digits.now name → ⊥) }
+fn name_among<'f>(file: &'f SpefFile<'_>, index: &[u8]) -> Option<&'f [u8]>
+    ensures mapped { IfSome result (λ name. IsMapped file.now (index_digits index.now) name.now) }
+    ensures unknown { IfNone result ((name : List ℕ) → IsMapped file.now (index_digits index.now) name → ⊥) }
 {
     for place in 0..file.head.map().len() {
-        if let Some(name) = name_there(file, place, digits) {
+        if let Some(name) = name_there(file, place, index) {
             return Some(name);
         }
     }
@@ -164,13 +179,12 @@ impl Head {
         ensures mapped { IfSome result (λ name. IsMapped file.now (index_digits index.now) name.now) }
         ensures unknown { IfNone result ((name : List ℕ) → IsMapped file.now (index_digits index.now) name → ⊥) }
     {
-        let digits = index_digits(index);
-        if let Some(place) = self.places.place_of(digits) {
-            if let Some(name) = name_there(file, place, digits) {
+        if let Some(place) = self.places.place_of(index) {
+            if let Some(name) = name_there(file, place, index) {
                 return Some(name);
             }
         }
-        name_among(file, digits)
+        name_among(file, index)
     }
 
     /// What a token names, which is a reference of the file that the head is of: a name as it is written, or an index, which

@@ -1,15 +1,15 @@
 //! What stands at the front of a file's bytes: a blank, a comment or a token.
-ghost use Rattle.std.specs.Prelude.{◌≡◌, false, ◌+◌, ◌^◌, ◌<◌, ◌≤◌, ◌∷◌, length, position, slice_index, IfSome};
-ghost use Rattle.spef_text.specs.Tokens.{ends_text, is_marked, text_cut, run_length, cut_at};
+ghost use Rattle.std.specs.Prelude.{◌≡◌, true, false, ◌+◌, ◌^◌, ◌<◌, ◌≤◌, ◌∷◌, length, position, slice_index, IfSome};
+ghost use Rattle.spef_text.specs.Tokens.{ends_text, text_cut, run_length, cut_at};
 ghost use Rattle.spef_text.specs.Starts.{front_cut};
 ghost use Rattle.spef_text.specs.declared.scan.Kind.TheVariants.{Whole};
 ghost use Rattle.token_texts.specs.Blanks.{is_blank};
-ghost use Rattle.token_texts.specs.Cuts.{IsWithin};
+ghost use Rattle.token_texts.specs.Cuts.{IsWithin, HasGapBehind};
 ghost use Rattle.token_texts.specs.declared.cuts.Cut.TheVariants.{Take};
 
 use crate::lanes::{WIDTH, plain_length};
 use memchr::memchr2;
-use token_texts::{Cut, begins_with, comment_cut, is_blank, line_length};
+use token_texts::{Cut, Front, begins_with, comment_cut, is_blank, line_length};
 
 /// What a token is: one that can stand in a text, or one that is broken, which takes all the bytes that are left.
 #[derive(Clone, Copy, PartialEq, Eq, Debug)]
@@ -82,26 +82,19 @@ fn backslash_cut(rest: &[u8]) -> Cut<Kind>
     }
 }
 
-/// Whether a byte can begin more than a run of bytes: a text, a comment or what a backslash takes.
-#[inline]
-fn is_marked(byte: u8) -> bool
-    ensures { result ≡ is_marked byte }
-{
-    matches!(byte, b'"' | b'/' | b'\\')
-}
-
-/// How many bytes the token at the front has, where that is seen at a look: at most 16, with no mark, and a blank behind them.
+/// How many bytes the token at the front has, where that is seen at a look: at most 16, with a blank behind them, and neither a text nor
+/// a comment.
 #[inline(always)]
 fn short_run(bytes: &[u8], first: u8) -> Option<usize>
     requires front { slice_index bytes.now 0 ≡ first }
-    requires solid { is_blank first ≡ false }
     ensures cut { IfSome result (λ len. front_cut bytes.now ≡ Take len Whole) }
+    ensures gap { IfSome result (λ len. (len < length bytes.now) × (is_blank (slice_index bytes.now len) ≡ true)) }
 {
     if bytes.len() <= WIDTH {
         return None;
     }
     let len = plain_length(bytes, 0);
-    if is_marked(first) || !is_blank(bytes[len]) {
+    if len == 0 || first == b'"' || first == b'/' || !is_blank(bytes[len]) {
         return None;
     }
     Some(len)
@@ -125,29 +118,47 @@ fn marked_cut(first: u8, rest: &[u8]) -> Cut<Kind>
     }
 }
 
-/// The same. What it answers stands in memory of its own, which the way of a short run does not touch.
+/// The same for any first byte. What it answers stands in memory of its own, which the way of a short run does not touch.
 #[inline(always)]
 fn other_cut(first: u8, rest: &[u8]) -> Cut<Kind>
-    requires bytes { length rest.now < 2 ^ 32 }
-    requires solid { is_blank first ≡ false }
+    requires { length rest.now < 2 ^ 32 }
     ensures { result ≡ cut_at first rest.now }
 {
-    marked_cut(first, rest)
+    if is_blank(first) {
+        Cut::Skip(1)
+    } else {
+        marked_cut(first, rest)
+    }
 }
 
-/// What stands at the front of the bytes, which are `first` and `rest`: mostly a blank, or a short run.
+/// What stands at the front of the bytes, which are `first` and `rest`: mostly a short run with a blank behind it.
 #[inline(always)]
+pub fn front_at(bytes: &[u8], first: u8, rest: &[u8]) -> Front<Kind>
+    requires parts { bytes.now ≡ first ∷ rest.now }
+    requires bytes { length bytes.now < 2 ^ 32 }
+    ensures value { result.cut ≡ cut_at first rest.now }
+    ensures within { IsWithin (length bytes.now) result.cut }
+    ensures gap { result.has_gap ≡ true → HasGapBehind cut_at bytes.now result.cut }
+{
+    match short_run(bytes, first) {
+        Some(len) => Front {
+            cut: Cut::Take(len, Kind::Whole),
+            has_gap: true,
+        },
+        None => Front {
+            cut: other_cut(first, rest),
+            has_gap: false,
+        },
+    }
+}
+
+/// The same, without what stands behind it.
+#[inline]
 pub fn cut_at(bytes: &[u8], first: u8, rest: &[u8]) -> Cut<Kind>
     requires parts { bytes.now ≡ first ∷ rest.now }
     requires bytes { length bytes.now < 2 ^ 32 }
     ensures value { result ≡ cut_at first rest.now }
     ensures within { IsWithin (length bytes.now) result }
 {
-    if is_blank(first) {
-        return Cut::Skip(1);
-    }
-    match short_run(bytes, first) {
-        Some(len) => Cut::Take(len, Kind::Whole),
-        None => other_cut(first, rest),
-    }
+    front_at(bytes, first, rest).cut
 }

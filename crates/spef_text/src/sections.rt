@@ -66,6 +66,7 @@ impl Sections {
     }
 
     /// Adds a connection to the section that has begun.
+    #[inline(always)]
     pub fn push_conn(&mut self, conn: ConnAt) -> Result<(), OutOfMemory>
         ensures { OnOk result (self.new ≡ with_conn_at self.old conn) }
     {

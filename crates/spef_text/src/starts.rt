@@ -7,7 +7,6 @@ use crate::scan::cut_at;
 use token_texts::Cut;
 
 /// The token at the front of the bytes, or none of them where none is there.
-#[inline(never)]
 fn front_token(bytes: &[u8]) -> &[u8]
     requires { length bytes.now < 2 ^ 32 }
     ensures { result.now ≡ front_token bytes.now }
@@ -19,6 +18,16 @@ fn front_token(bytes: &[u8]) -> &[u8]
         Cut::Skip(_) => &[],
         Cut::Take(len, _) => bytes.split_at(len).0,
     }
+}
+
+/// The token that begins at a place, where its length is not known, or no bytes where none begins there.
+#[inline(never)]
+fn long_token_at(bytes: &[u8], start: u32) -> &[u8]
+    requires { length bytes.now < 2 ^ 32 }
+    ensures { result.now ≡ token_at bytes.now start }
+{
+    let start = (start as usize).min(bytes.len());
+    front_token(bytes.split_at(start).1)
 }
 
 /// The length of a token as it is kept: 255 stands for all that are longer.
@@ -36,12 +45,10 @@ pub fn token_at(bytes: &[u8], start: u32, len: u8) -> &[u8]
     requires len { len ≡ short_len (token_at bytes.now start) }
     ensures { result.now ≡ token_at bytes.now start }
 {
-    let start = (start as usize).min(bytes.len());
-    let behind = bytes.split_at(start).1;
-    let len = len as usize;
-    if len < 255 && len <= behind.len() {
-        behind.split_at(len).0
+    if matches!(len, 1..=254) {
+        let start = start as usize;
+        &bytes[start..start + len as usize]
     } else {
-        front_token(behind)
+        long_token_at(bytes, start)
     }
 }

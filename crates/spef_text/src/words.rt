@@ -170,6 +170,7 @@ fn sifted_word(text: &[u8]) -> Option<Word>
 }
 
 /// The keyword that a token is, if any. Keywords are in capitals.
+#[inline(always)]
 pub fn word_of(text: &[u8]) -> Option<Word>
     ensures { result ≡ word_of text.now }
 {
