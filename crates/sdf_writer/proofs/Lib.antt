@@ -4,6 +4,7 @@ mod Escaping
 mod Remaining
 mod PathsLeft
 mod Within
+mod EndNames
 mod KeptNames
 mod Adding
 mod Keeping

@@ -4,6 +4,7 @@
 #![tactic(auto)]
 
 mod cells;
+mod ends;
 mod entries;
 mod names;
 mod paths;
@@ -12,6 +13,7 @@ mod text;
 mod times;
 mod values;
 
+pub use ends::WireEnd;
 pub use paths::PathNames;
 pub use rows::Rows;
 pub use text::write;

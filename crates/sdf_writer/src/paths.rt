@@ -257,6 +257,7 @@ fn is_last(names: &FlatTexts, cells: &[KeptCell], kind: &[u8], instance: &[u8]) 
 }
 
 // Whether a cell is of that type and that instance.
+#[inline(always)]
 pub(crate) fn is_cell(names: &FlatTexts, cell: &KeptCell, kind: &[u8], instance: &[u8]) -> bool
     requires cell { IsCellKept (length names.now) cell.now }
     ensures { result ≡ is_same (cell_of_names names.now cell.now) (record { kind = kind.now; instance = instance.now }) }

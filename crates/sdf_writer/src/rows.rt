@@ -3,10 +3,11 @@ ghost use Rattle.std.specs.Prelude.{◌≡◌, ℕ, ◌<◌, [], ◌∷◌, ◌+
 ghost use Rattle.std.specs.List.{All};
 ghost use Rattle.sdf_writer.specs.Bounds.{AreWithin};
 ghost use Rattle.sdf_writer.specs.Names.{ExtendsNames};
+ghost use Rattle.sdf_writer.specs.WireEnds.{end_name};
 ghost use Rattle.sdf_writer.specs.WireRows.{IsWireKept, KeepsWire};
 ghost use Rattle.sdf_writer.specs.PathRows.{IsEdge, edge_times};
 
-use crate::names::{keep_again, keep_name};
+use crate::ends::{WireEnd, keep_end, keep_end_again};
 use crate::paths::{PathNames, Paths};
 use crate::times::add_times;
 use corner_set::{CornerSet, Grid};
@@ -86,20 +87,22 @@ impl<C: CornerSet> Rows<C> {
             { wires = self.old.wires ++ record { from = from; to = to; delay = delay.now.values } ∷ [] }) }
         ensures err { OnErr result (self.new ≡ self.old) }
     {
-        self.put_wire(from.bytes(), to.bytes(), delay)
+        let from = WireEnd::Name(from.bytes());
+        let to = WireEnd::Name(to.bytes());
+        self.put_wire(from, to, delay)
     }
 
     /// The same as [`Rows::add_wire`], by names that stay the caller's.
     pub fn put_wire(
         &mut self,
-        from: &[u8],
-        to: &[u8],
+        from: WireEnd<'_>,
+        to: WireEnd<'_>,
         delay: &Grid<C, Femto>,
     ) -> Result<(), OutOfMemory>
         requires one_row { length delay.now.values ≡ C.COUNT }
         requires within { AreWithin delay.now.values }
         ensures ok { OnOk result (self.new ≡ record self.old
-            { wires = self.old.wires ++ record { from = from.now; to = to.now; delay = delay.now.values } ∷ [] }) }
+            { wires = self.old.wires ++ record { from = end_name from.entry; to = end_name to.entry; delay = delay.now.values } ∷ [] }) }
         ensures err { OnErr result (self.new ≡ self.old) }
     {
         self.wires.reserve(1)?;
@@ -153,14 +156,14 @@ fn last_from(wires: &[Wire]) -> Option<u32>
 fn keep_wire(
     names: &mut FlatTexts,
     before: Option<u32>,
-    from: &[u8],
-    to: &[u8],
+    from: WireEnd<'_>,
+    to: WireEnd<'_>,
 ) -> Result<Wire, OutOfMemory>
     requires { IfSome before (λ number. number < length names.old) }
-    ensures kept { IfOk result (KeepsWire names.new from.now to.now) }
+    ensures kept { IfOk result (KeepsWire names.new (end_name from.entry) (end_name to.entry)) }
     ensures names { ExtendsNames names.old names.new }
 {
-    let from = keep_again(names, before, from)?;
-    let to = keep_name(names, to)?;
+    let from = keep_end_again(names, before, from)?;
+    let to = keep_end(names, to)?;
     Ok(Wire { from, to })
 }
