@@ -140,6 +140,7 @@ fn number_section<'k, C: CornerSet>(
 
 // Notes the number of a node that is not among the earlier ones of its section: a pin has its own, another gets the next. It answers how
 // many nodes there are with it. The pins come first in a section as a rule, and in the order in which they have their numbers.
+#[inline(always)]
 fn number_node<'k>(
     table: &PinTable<'k, '_>,
     key: &NodeKey<'k>,

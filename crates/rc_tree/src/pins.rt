@@ -175,6 +175,7 @@ fn put<T: Drop>(place: &mut T, item: T)
 }
 
 // Puts a sink and its loads at the ends, or neither.
+#[inline(always)]
 fn push_both<'p>(
     sinks: &mut Vec<PinName<'p>>,
     loads: &mut Vec<Farads>,

@@ -102,6 +102,7 @@ fn refit<C: CornerSet, T: Copy>(
 }
 
 // Makes a list these items.
+#[inline(always)]
 fn replace_items<T: Copy>(items: &[T], list: &mut Vec<T>) -> Result<(), OutOfMemory>
     ensures { OnOk result (list.new.items ≡ items.now) }
 {
