@@ -14,7 +14,7 @@ use Rattle.netlist_link.specs.KeptEnds.{Selects, wanted_end}
 use Rattle.netlist_link.specs.PortRows.{kept_port}
 use Rattle.netlist_link.specs.declared.instances.Instances.{Instances}
 use Rattle.netlist_link.specs.declared.ports.Ports.{Ports}
-use Rattle.netlist_link.proofs.Numbered.{numbered_count}
+use Rattle.hierarchy.proofs.Numbered.{numbered_count}
 
 pub port_ends-append : (inputs : Bool) (from : ℕ) (xs ys : List FlatPort)
     → port_ends inputs from (xs ++ ys) ≡ port_ends inputs from xs ++ port_ends inputs (from + length xs) ys

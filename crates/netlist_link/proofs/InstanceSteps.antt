@@ -89,10 +89,10 @@ module _ (d : Design) (cells : List NamedCells) (is : IsDesign cells d) (distinc
   stays n below =
       let texts_count = so_far.tables.texts_count in
       let spellings_count = so_far.tables.spellings_count in
-      let text_is : get_or new.texts n [] ≡ get_or old.texts n [] =
-      ap (λ (l : List (List ℕ)). get_or l n []) more.texts ∙ get_or_append_left old.texts (text ∷ []) [] n (omega arith) in
-      let sdf_is : get_or new.spellings n [] ≡ get_or old.spellings n [] =
-      ap (λ (l : List (List ℕ)). get_or l n []) more.spellings ∙ get_or_append_left old.spellings (sdf ∷ []) [] n (omega arith) in
+      let text_is : get_or new.names.texts n [] ≡ get_or old.names.texts n [] =
+      ap (λ (l : List (List ℕ)). get_or l n []) more.texts ∙ get_or_append_left old.names.texts (text ∷ []) [] n (omega arith) in
+      let sdf_is : get_or new.names.spellings n [] ≡ get_or old.names.spellings n [] =
+      ap (λ (l : List (List ℕ)). get_or l n []) more.spellings ∙ get_or_append_left old.names.spellings (sdf ∷ []) [] n (omega arith) in
       let row_is : row_at new n ≡ row_at old n =
       ap (λ (l : List InstanceRow). get_or l n no_row) more.row.rows_are ∙ get_or_append_left old.rows.items (row ∷ []) no_row n below in
       let fits = so_far.tables.pins_within n (row_at old n) (slice_get-get_or old.rows.items n no_row below) in
@@ -113,12 +113,12 @@ module _ (d : Design) (cells : List NamedCells) (is : IsDesign cells d) (distinc
   last_is : kept_instance new (length old.rows.items) ≡ added
   last_is =
       let n = length old.rows.items in
-      let text_is : get_or new.texts n [] ≡ text =
-      ap (λ (l : List (List ℕ)). get_or l n []) more.texts ∙ ap (λ (k : ℕ). get_or (old.texts ++ text ∷ []) k []) (sym so_far.tables.texts_count)
-      ∙ get_or-append_seam old.texts text [] [] in
-      let sdf_is : get_or new.spellings n [] ≡ sdf =
-      ap (λ (l : List (List ℕ)). get_or l n []) more.spellings ∙ ap (λ (k : ℕ). get_or (old.spellings ++ sdf ∷ []) k []) (sym so_far.tables.spellings_count)
-      ∙ get_or-append_seam old.spellings sdf [] [] in
+      let text_is : get_or new.names.texts n [] ≡ text =
+      ap (λ (l : List (List ℕ)). get_or l n []) more.texts ∙ ap (λ (k : ℕ). get_or (old.names.texts ++ text ∷ []) k []) (sym so_far.tables.texts_count)
+      ∙ get_or-append_seam old.names.texts text [] [] in
+      let sdf_is : get_or new.names.spellings n [] ≡ sdf =
+      ap (λ (l : List (List ℕ)). get_or l n []) more.spellings ∙ ap (λ (k : ℕ). get_or (old.names.spellings ++ sdf ∷ []) k []) (sym so_far.tables.spellings_count)
+      ∙ get_or-append_seam old.names.spellings sdf [] [] in
       let row_is : row_at new n ≡ row =
       ap (λ (l : List InstanceRow). get_or l n no_row) more.row.rows_are ∙ get_or-append_seam old.rows.items row [] no_row in
       let nets_is : take (row_at new n).pin_count (drop (row_at new n).first_pin new.pin_nets.items) ≡ own =
@@ -146,8 +146,8 @@ module _ (d : Design) (cells : List NamedCells) (is : IsDesign cells d) (distinc
       let rows_long = ap length more.row.rows_are ∙ length_push old.rows.items row in
       let long = ap length more.row.nets_are ∙ length-append old.pin_nets.items own in
       record {
-        texts_count = ap length more.texts ∙ length_push old.texts text ∙ ap (λ (n : ℕ). n + 1) so_far.tables.texts_count ∙ sym rows_long;
-        spellings_count = ap length more.spellings ∙ length_push old.spellings sdf ∙ ap (λ (n : ℕ). n + 1) so_far.tables.spellings_count ∙ sym rows_long;
+        texts_count = ap length more.texts ∙ length_push old.names.texts text ∙ ap (λ (n : ℕ). n + 1) so_far.tables.texts_count ∙ sym rows_long;
+        spellings_count = ap length more.spellings ∙ length_push old.names.spellings sdf ∙ ap (λ (n : ℕ). n + 1) so_far.tables.spellings_count ∙ sym rows_long;
         pins_within = subst (λ (rows : List InstanceRow). (n : ℕ) (r : InstanceRow) → slice_get rows n ≡ Some r
             → r.first_pin + r.pin_count ≤ length new.pin_nets.items) (sym more.row.rows_are)
             (each_push (λ n r. r.first_pin + r.pin_count ≤ length new.pin_nets.items) old.rows.items row
@@ -228,7 +228,7 @@ module _ (d : Design) (walk : AreTablesOfWalk d.modules.now (top_of d.walk.now) 
       by (Some v) is has = is.2
 
 -- before the first instance none is kept
-pub none_kept : (d : Design) (kept : Instances) (cells : List NamedCells) → kept.texts ≡ [] → kept.spellings ≡ [] → kept.rows.items ≡ []
+pub none_kept : (d : Design) (kept : Instances) (cells : List NamedCells) → kept.names.texts ≡ [] → kept.names.spellings ≡ [] → kept.rows.items ≡ []
     → HoldInstances d [] kept cells
 none_kept d kept cells texts spellings rows = record {
   tables = record {

@@ -3,6 +3,7 @@ pub mod PathSteps
 pub mod PortNaming
 pub mod WorkedDesign
 pub mod Pushing
+mod Spellings
 pub mod Joining
 pub mod JointFaults
 pub mod MetPlaces
@@ -36,7 +37,6 @@ pub mod JoinedAbove
 pub mod JoinedLower
 pub mod FaultlessJoints
 pub mod LinkSteps
-pub mod Numbered
 pub mod NetlistReading
 pub mod EndLists
 pub mod PinRows

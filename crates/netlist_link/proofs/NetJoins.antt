@@ -26,7 +26,7 @@ use Rattle.netlist_link.specs.declared.grouping.KeptEnd.{KeptEnd}
 use Rattle.netlist_link.specs.declared.ends.End.{End}
 use Rattle.netlist_link.specs.declared.ends.End.TheVariants as end
 use Rattle.netlist_link.proofs.NetlistReading.{kept_ends_are}
-use Rattle.netlist_link.proofs.Numbered.{numbered_at, numbered_count}
+use Rattle.hierarchy.proofs.Numbered.{numbered_at, numbered_count}
 
 -- the ends on a net, as they are kept and as they are
 pub on_flat : (n : ℕ) (ends : List EndOn) → map end_of (kept_on n ends) ≡ ends_on n (flat_ends ends)

@@ -13,7 +13,7 @@ use Rattle.netlist_link.specs.declared.grouping.EndsByNet.{EndsByNet}
 use Rattle.netlist_link.specs.declared.instances.Instances.{Instances}
 use Rattle.netlist_link.specs.declared.ports.Ports.{Ports}
 use Rattle.netlist_link.proofs.NetEnds.{from_is, end_is, ends_read}
-use Rattle.netlist_link.proofs.Numbered.{numbered_at, numbered_count}
+use Rattle.hierarchy.proofs.Numbered.{numbered_at, numbered_count}
 
 module _ (netlist : FlatNetlist) (instances : Instances) (ports : Ports) (texts : List (List ℕ)) (drivers : List (Option KeptEnd))
     (sinks : EndsByNet) (is : netlist_of instances ports texts drivers sinks ≡ netlist) where

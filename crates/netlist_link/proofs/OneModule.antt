@@ -11,7 +11,7 @@ use Rattle.hierarchy.specs.Hierarchy.{lower_of, is_hierarchy, instance_count}
 use Rattle.hierarchy.specs.Walks.{Met, joined_from, met_at, walk, whole_walk, is_module, entered, visits, cells_met}
 use Rattle.netlist_link.specs.FlatBits.{NetBit, names_on, nets_of_name, nets_of_visit, nets}
 use Rattle.netlist_link.specs.FlatNames.{path_text, bit_suffix, net_text, instance_text}
-use Rattle.netlist_link.proofs.Numbered.{numbered_count, numbered_at}
+use Rattle.hierarchy.proofs.Numbered.{numbered_count, numbered_at}
 
 -- texts that differ by their numbers
 pub distinct_numbered : (text : ℕ → List ℕ) (n : ℕ) → Differ n text → AreDistinct (joined_from (λ k. text k ∷ []) 0 n)

@@ -32,7 +32,7 @@ use Rattle.netlist_link.proofs.ClashEnds.{nets_end, instances_end}
 use Rattle.netlist_link.proofs.LinkedInstances.{instance_texts_are}
 use Rattle.netlist_link.proofs.LinkedParts.{have_pins, ports-on, pins-on, nets_joined}
 use Rattle.netlist_link.proofs.NetJoins.{driving-on, driven-on, refused_drivers}
-use Rattle.netlist_link.proofs.Numbered.{numbered_at, numbered_count}
+use Rattle.hierarchy.proofs.Numbered.{numbered_at, numbered_count}
 
 -- want of memory may come at any design
 pub no_room : (d : Design) → OverCells d (IsEndOver d refused.OutOfMemory)

@@ -17,7 +17,7 @@ use Rattle.netlist_link.specs.declared.instances.Instances.{Instances}
 use Rattle.netlist_link.proofs.EndLists.{pin_ends-more}
 use Rattle.netlist_link.proofs.Joining.{no_pin}
 use Rattle.netlist_link.proofs.NetlistReading.{pins_many, pin_here}
-use Rattle.netlist_link.proofs.Numbered.{numbered_at, numbered_count}
+use Rattle.hierarchy.proofs.Numbered.{numbered_at, numbered_count}
 
 module _ (d : Design) (kept : Instances) (have : HaveCells d kept) (i : ℕ) (below : i < length kept.rows.items) where
   here : slice_get (instances_in kept) i ≡ Some (kept_instance kept i)

@@ -25,7 +25,7 @@ use Rattle.netlist_link.specs.PortRows.{kept_port, ports_in, IsPortAdded, HoldsP
 use Rattle.netlist_link.specs.declared.checking.Design.{Design}
 use Rattle.netlist_link.specs.declared.flat_bits.FlatBits.{FlatBits}
 use Rattle.netlist_link.specs.declared.ports.Ports.{Ports}
-use Rattle.netlist_link.proofs.Numbered.{numbered_at, numbered_count}
+use Rattle.hierarchy.proofs.Numbered.{numbered_at, numbered_count}
 use Rattle.netlist_link.proofs.PathSteps.{path_text_none, path_sdf_none}
 use Rattle.text_table.proofs.Pushing.{each_push}
 

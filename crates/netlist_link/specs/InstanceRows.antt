@@ -54,8 +54,8 @@ pub record IsRowMore (d : Design) (i place : ℕ) (old_rows rows : List Instance
 -- one instance more is kept, and its names
 pub record IsInstanceMore (d : Design) (i place : ℕ) (old new : Instances) : Type 0 where
   pub row : IsRowMore d i place old.rows.items new.rows.items old.pin_nets.items new.pin_nets.items
-  pub texts : new.texts ≡ old.texts ++ instance_text d.modules.now (top_of d.walk.now) (met_of d i) ∷ []
-  pub spellings : new.spellings ≡ old.spellings ++ instance_sdf d.modules.now (top_of d.walk.now) (met_of d i) ∷ []
+  pub texts : new.names.texts ≡ old.names.texts ++ instance_text d.modules.now (top_of d.walk.now) (met_of d i) ∷ []
+  pub spellings : new.names.spellings ≡ old.names.spellings ++ instance_sdf d.modules.now (top_of d.walk.now) (met_of d i) ∷ []
 
 -- the instances of cells among the first so many that the walk meets
 abbrev pub mets_before : Design → ℕ → List Met

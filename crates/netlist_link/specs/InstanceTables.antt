@@ -14,8 +14,8 @@ row_at kept i = get_or kept.rows.items i no_row
 -- an instance: the nets of its pins stand from its first pin on
 abbrev pub kept_instance : Instances → ℕ → FlatInstance
 kept_instance kept i = record {
-  text = get_or kept.texts i [];
-  sdf = get_or kept.spellings i [];
+  text = get_or kept.names.texts i [];
+  sdf = get_or kept.names.spellings i [];
   cell = (row_at kept i).cell;
   nets = take (row_at kept i).pin_count (drop (row_at kept i).first_pin kept.pin_nets.items);
 }
@@ -25,7 +25,7 @@ instances_in kept = joined_from (λ i. kept_instance kept i ∷ []) 0 (length ke
 
 -- each instance has its names, and its pins' nets stand in the list of all
 pub record AreInstanceTables (kept : Instances) : Type 0 where
-  pub texts_count : length kept.texts ≡ length kept.rows.items
-  pub spellings_count : length kept.spellings ≡ length kept.rows.items
+  pub texts_count : length kept.names.texts ≡ length kept.rows.items
+  pub spellings_count : length kept.names.spellings ≡ length kept.rows.items
   pub pins_within : (i : ℕ) (row : InstanceRow) → slice_get kept.rows.items i ≡ Some row
       → row.first_pin + row.pin_count ≤ length kept.pin_nets.items

@@ -15,6 +15,7 @@ pub mod FlatEnds
 pub mod Grouping
 pub mod NamePlaces
 pub mod BitTables
+pub mod InstanceNames
 pub mod InstanceTables
 pub mod PortRows
 pub mod NetlistTables

@@ -12,7 +12,7 @@ use Rattle.netlist_link.specs.declared.checking.Design.{Design}
 -- the nets have their names, which differ; and the instances and the ports are those of the design
 pub record AreParts (d : Design) (parts : NetlistParts) (cells : List NamedCells) : Type 0 where
   pub net_names : AreNamed (texts_of_nets d) parts.net_texts
-  pub instance_names : AreNamed (texts_of_instances d) parts.instances.texts
+  pub instance_names : AreNamed (texts_of_instances d) parts.instances.names.texts
   pub instance_tables : AreInstanceTables parts.instances
   pub instances : AreInstances d.modules.now (top_of d.walk.now) cells (instances_in parts.instances)
   pub port_tables : ArePortTables parts.ports

@@ -85,9 +85,9 @@ fn is_plain_byte(byte: u8) -> bool
     byte.is_ascii_alphanumeric() || byte == b'_'
 }
 
-// Whether each byte of a name is a letter, a digit or `_`. SDF spells such a name as it is.
+/// Whether each byte of a name is a letter, a digit or `_`. SDF spells such a name as it is.
 #[tactic(auto, using(crate::proofs::PlainNames::plain_more))]
-fn is_plain_name(name: &[u8]) -> bool
+pub(crate) fn is_plain_name(name: &[u8]) -> bool
     ensures { result ≡ true → part name.now ≡ name.now }
 {
     for &byte in name {

@@ -14,12 +14,11 @@ ghost use Rattle.netlist_link.specs.InstanceRows.{connection_of, IsFirstNet, Are
 use crate::checking::{Design, Joints, place_of};
 use crate::ends::LinkEnd;
 use crate::flat_bits::FlatBits;
-use crate::flat_names::push_spelled;
+use crate::instance_names::InstanceNames;
 use crate::name_clashes::check_instances;
 use edge_io::OutOfMemory;
 use edge_io::lists::{push, to_u32};
 use std::alloc::Global;
-use text_table::FlatTexts;
 
 /// An instance of a cell: the place of its cell, that of its first pin, and how many pins it has.
 #[derive(Clone, Copy)]
@@ -32,8 +31,7 @@ pub(crate) struct InstanceRow {
 /// The instances of cells, and the nets of their pins.
 #[derive(Drop)]
 pub(crate) struct Instances {
-    pub texts: FlatTexts,
-    pub spellings: FlatTexts,
+    pub names: InstanceNames,
     pub rows: Vec<InstanceRow>,
     pub pin_nets: Vec<Option<u32>>,
 }
@@ -119,8 +117,7 @@ fn add_row(
     requires cell { IsOfCell design.now i }
     ensures row { OnOk result (IsRowMore design.now i (slice_index joints.now.places.items i)
         instances.old.rows.items instances.new.rows.items instances.old.pin_nets.items instances.new.pin_nets.items) }
-    ensures texts { instances.new.texts ≡ instances.old.texts }
-    ensures spellings { instances.new.spellings ≡ instances.old.spellings }
+    ensures names { instances.new.names ≡ instances.old.names }
 {
     let cell = joints.places[i];
     let many = design.pins[cell as usize].directions.len();
@@ -142,24 +139,23 @@ fn add_names(
     alloc: Global,
     design: &Design<'_>,
     i: usize,
-    texts: &mut FlatTexts,
-    spellings: &mut FlatTexts,
+    names: &mut InstanceNames,
 ) -> Result<(), OutOfMemory>
     requires walk { IsWalk design.now.modules.now design.now.walk.now }
     requires paths { ArePaths design.now.modules.now (top_of design.now.walk.now) design.now.paths.now }
     requires within { i < length design.now.walk.now.met }
-    ensures texts { OnOk result (texts.new
-        ≡ texts.old ++ instance_text design.now.modules.now (top_of design.now.walk.now) (met_of design.now i) ∷ []) }
-    ensures spellings { OnOk result (spellings.new
-        ≡ spellings.old ++ instance_sdf design.now.modules.now (top_of design.now.walk.now) (met_of design.now i) ∷ []) }
+    ensures texts { OnOk result (names.new.texts
+        ≡ names.old.texts ++ instance_text design.now.modules.now (top_of design.now.walk.now) (met_of design.now i) ∷ []) }
+    ensures spellings { OnOk result (names.new.spellings
+        ≡ names.old.spellings ++ instance_sdf design.now.modules.now (top_of design.now.walk.now) (met_of design.now i) ∷ []) }
 {
     let (m, k) = place_of(design, i);
     let met = design.walk.met();
     let visit = met[i].visit as usize;
     let name = design.modules.instance_name(m, k);
-    texts.push(design.paths.text(visit), name)?;
-    push_spelled(alloc, design.paths.spelling(visit), name, spellings)?;
-    Ok(())
+    let path = design.paths.text(visit);
+    let spelled_path = design.paths.spelling(visit);
+    names.push(alloc, path, spelled_path, name)
 }
 
 // Puts one instance of a cell more at the end.
@@ -182,24 +178,17 @@ fn add_instance(
     ensures { OnOk result (IsInstanceMore design.now i (slice_index joints.now.places.items i) instances.old instances.new) }
 {
     add_row(design, joints, bits, i, instances)?;
-    add_names(
-        alloc,
-        design,
-        i,
-        &mut instances.texts,
-        &mut instances.spellings,
-    )
+    add_names(alloc, design, i, &mut instances.names)
 }
 
 // No instance yet, with room for so many, and for so many pins.
 fn no_instances(alloc: Global, many: usize, pins: usize) -> Result<Instances, OutOfMemory>
-    ensures texts { IfOk result (λ instances. instances.texts ≡ []) }
-    ensures spellings { IfOk result (λ instances. instances.spellings ≡ []) }
+    ensures texts { IfOk result (λ instances. instances.names.texts ≡ []) }
+    ensures spellings { IfOk result (λ instances. instances.names.spellings ≡ []) }
     ensures rows { IfOk result (λ instances. instances.rows.items ≡ []) }
 {
     Ok(Instances {
-        texts: FlatTexts::with_room(alloc, many)?,
-        spellings: FlatTexts::with_room(alloc, many)?,
+        names: InstanceNames::with_room(alloc, many)?,
         rows: Vec::with_capacity(alloc, many)?,
         pin_nets: Vec::with_capacity(alloc, pins)?,
     })
@@ -221,7 +210,7 @@ fn all_instances(
     ensures instances { IfOk result (λ instances. OverCells design.now
         (λ cells. AreInstances design.now.modules.now (top_of design.now.walk.now) cells (instances_in instances))) }
     ensures tables { IfOk result AreInstanceTables }
-    ensures texts { IfOk result (λ instances. instances.texts ≡ texts_of_instances design.now) }
+    ensures texts { IfOk result (λ instances. instances.names.texts ≡ texts_of_instances design.now) }
 {
     let many = design.walk.met().len();
     let mut instances = no_instances(alloc, many, joints.numbers.len())?;
@@ -251,11 +240,11 @@ pub(crate) fn flat_instances(
     ensures instances { IfOk result (λ instances. OverCells design.now
         (λ cells. AreInstances design.now.modules.now (top_of design.now.walk.now) cells (instances_in instances))) }
     ensures tables { IfOk result AreInstanceTables }
-    ensures named { IfOk result (λ instances. AreNamed (texts_of_instances design.now) instances.texts) }
+    ensures named { IfOk result (λ instances. AreNamed (texts_of_instances design.now) instances.names.texts) }
     ensures refused { IfErr result (IsClash (texts_of_instances design.now)) }
 {
     let instances = all_instances(alloc, design, joints, bits)?;
-    match check_instances(alloc, design, &instances.texts) {
+    match check_instances(alloc, design, instances.names.texts()) {
         Ok(()) => Ok(instances),
         Err(end) => Err(end),
     }

@@ -10,6 +10,7 @@ mod ends;
 mod flat_bits;
 mod flat_names;
 mod grouping;
+mod instance_names;
 mod instances;
 mod laws;
 mod linking;

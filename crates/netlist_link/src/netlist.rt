@@ -66,7 +66,7 @@ impl Netlist {
         requires { i < length self.now.instances }
         ensures { result.now ≡ (instance_at self.now i).text }
     {
-        self.instances.texts.text(i)
+        self.instances.names.text(i)
     }
 
     /// The path of an instance as SDF spells it.
@@ -74,7 +74,7 @@ impl Netlist {
         requires { i < length self.now.instances }
         ensures { result.now ≡ (instance_at self.now i).sdf }
     {
-        self.instances.spellings.text(i)
+        self.instances.names.spelling(i)
     }
 
     /// The place of an instance's cell.

@@ -31,7 +31,7 @@ loop-i-preserved c =
           let old = c.loop-i.instances in
           let new = w.add_instance.new.instances in
           rw w.instances-is (record {
-            texts = texts_step d i within of old.texts c.loop-i.invariant.texts new.texts w.in_ok-add_instance.ensures.texts;
+            texts = texts_step d i within of old.names.texts c.loop-i.invariant.texts new.names.texts w.in_ok-add_instance.ensures.texts;
             kept = λ cells is distinct. subst (λ (mets : List Met). HoldInstances d mets new cells) (sym (mets_more d i within of))
                 (instances_step d cells is distinct i place below of ((c.requires.joints cells is distinct).places_are i within of) (mets_before d i) old new
                 (c.loop-i.invariant.kept cells is distinct) w.in_ok-add_instance.ensures);
@@ -58,4 +58,4 @@ returns-clause-texts c =
     let whole : c.loop-i.i ≡ length (walk_of d) =
     (let count = c.requires.sound.walk.met_count in let end = ap length c.met-many.ensures in let test = c.loop-i-test.false in
     let fits = c.loop-i.auto.i-end in omega arith) in
-    all_texts d c.loop-i.instances.texts c.loop-i.i c.loop-i.invariant.texts whole
+    all_texts d c.loop-i.instances.names.texts c.loop-i.i c.loop-i.invariant.texts whole

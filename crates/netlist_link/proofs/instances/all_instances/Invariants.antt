@@ -7,6 +7,6 @@ use Rattle.netlist_link.proofs.instances.all_instances.Given as goal
 
 abbrev pub invariant-loop-i : goal.invariant-loop-i
 invariant-loop-i l = record {
-  texts : l.instances.texts ≡ map (instance_text l.design.modules.now (top_of l.design.walk.now)) (mets_before l.design l.i);
+  texts : l.instances.names.texts ≡ map (instance_text l.design.modules.now (top_of l.design.walk.now)) (mets_before l.design l.i);
   kept : OverCells l.design (HoldInstances l.design (mets_before l.design l.i) l.instances);
 }

@@ -14,6 +14,6 @@ text-requires c =
 pub returns : goal.returns
 returns c =
     let n = c.self.inside in
-    sym (get_or_from_slice_get n.instances.texts c.args.i c.text.result.now [] c.text.ensures)
+    sym (get_or_from_slice_get n.instances.names.texts c.args.i c.text.result.now [] c.text.ensures)
     ∙ sym (ap (λ (instance : FlatInstance). instance.text)
     (instance_here c.args.self.now n.instances n.ports n.net_texts n.drivers.items n.sinks c.self.view_is c.args.i c.requires))
