@@ -24,3 +24,4 @@ pub mod FewLemmas
 pub mod FewKeys
 pub mod EveryNode
 pub mod TableLemmas
+pub mod NetNameLemmas

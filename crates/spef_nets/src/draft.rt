@@ -28,7 +28,7 @@ const FEW_CAPS: usize = 32;
 /// The elements that have been read of the section of a net. Its lists serve one section after another.
 #[derive(Drop)]
 pub struct Draft<'r, 'f> {
-    pub net: NetName,
+    pub net: NetName<'r>,
     pub refs: Referred<'r, 'f>,
     conns: Vec<Listed>,
     loads: Vec<Farads>,
@@ -89,7 +89,7 @@ impl<'r, 'f> Draft<'r, 'f> {
         ensures { (drafted result).refs.file ≡ file.now }
     {
         Draft {
-            net: NetName::new(alloc),
+            net: NetName::new(),
             refs: Referred::new(alloc, file, head),
             conns: Vec::new(alloc),
             loads: Vec::new(alloc),

@@ -80,6 +80,7 @@ pub struct ElementParts<'s> {
 }
 
 /// Puts items behind others.
+#[inline(always)]
 pub fn put_all<T: Copy>(items: &mut Vec<T>, more: &[T]) -> Result<(), OutOfMemory>
     ensures { OnOk result (items.new.items ≡ items.old.items ++ more.now) }
 {

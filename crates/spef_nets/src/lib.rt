@@ -11,6 +11,7 @@ mod marks;
 mod net;
 mod net_keys;
 mod net_name;
+mod net_names;
 mod node_names;
 mod node_table;
 mod node_tokens;

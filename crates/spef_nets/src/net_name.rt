@@ -1,47 +1,78 @@
 //! The name of the net whose section is read.
-ghost use Rattle.std.specs.Prelude.{◌≡◌, [], OnOk};
+ghost use Rattle.std.specs.Prelude.{◌≡◌, [], IfOk, OnOk};
+ghost use Rattle.std.specs.Cow.{cow_slice_items};
 
 use edge_io::OutOfMemory;
 use std::alloc::Global;
+use std::borrow::CowSlice;
 use std::marker::Model;
 
-/// The name of a net. Its memory serves one net after another. Contracts see its bytes.
+/// The name of a net. One that stands in the file as it is written is not copied. Contracts see its bytes.
 #[derive(Drop)]
-pub struct NetName {
-    bytes: Vec<u8>,
+pub struct NetName<'r> {
+    name: CowSlice<'r, u8>,
 }
 
-impl Model for NetName {
+impl<'r> Model for NetName<'r> {
     ghost use Rattle.std.specs.Prelude.{ℕ, List};
+    ghost use Rattle.std.specs.Cow.{cow_slice_items};
 
     ghost Value = { List ℕ };
 
-    ghost view = { λ name. name.bytes.items };
+    ghost view = { λ name. cow_slice_items name.name };
 }
 
-impl NetName {
-    /// The empty name. It takes no memory.
-    pub fn new(alloc: Global) -> NetName
+impl<'r> NetName<'r> {
+    /// The empty name.
+    pub fn new() -> NetName<'r>
         ensures { result ≡ [] }
     {
         NetName {
-            bytes: Vec::new(alloc),
+            name: CowSlice::Borrowed(&[]),
         }
     }
 
-    /// Puts this name in the place of the one before.
-    pub fn put(&mut self, name: &[u8]) -> Result<(), OutOfMemory>
+    /// Puts a name that stands in the file in the place of the one before.
+    pub fn put(&mut self, name: &'r [u8])
+        ensures { self.new ≡ name.now }
+    {
+        put(&mut self.name, CowSlice::Borrowed(name));
+    }
+
+    /// The same of a name that stands nowhere else, and is copied.
+    pub fn put_copy(&mut self, alloc: Global, name: &[u8]) -> Result<(), OutOfMemory>
         ensures { OnOk result (self.new ≡ name.now) }
     {
-        self.bytes.clear();
-        self.bytes.extend_from_slice(name)?;
+        let copy = Vec::from_slice(alloc, name)?;
+        put(&mut self.name, CowSlice::Owned(copy));
         Ok(())
     }
 
     /// The bytes, in order.
+    #[inline]
     pub fn bytes(&self) -> &[u8]
         ensures { result.now ≡ self.now }
     {
-        self.bytes.as_slice()
+        match &self.name {
+            CowSlice::Borrowed(name) => name,
+            CowSlice::Owned(name) => name.as_slice(),
+        }
     }
+
+    /// The name once more, to be kept.
+    pub fn kept(&self, alloc: Global) -> Result<CowSlice<'r, u8>, OutOfMemory>
+        ensures { IfOk result (λ name. cow_slice_items name ≡ self.now) }
+    {
+        match &self.name {
+            CowSlice::Borrowed(name) => Ok(CowSlice::Borrowed(name)),
+            CowSlice::Owned(name) => Ok(CowSlice::Owned(Vec::from_slice(alloc, name.as_slice())?)),
+        }
+    }
+}
+
+// Puts an item in the place of the one before.
+fn put<T: Drop>(place: &mut T, item: T)
+    ensures { place.new ≡ item }
+{
+    *place = item;
 }

@@ -15,18 +15,18 @@ ghost use Rattle.spef_nets.specs.TablesOf.{HoldNets, nets_in};
 use crate::draft::Draft;
 use crate::ends::SectionEnd;
 use crate::net_name::NetName;
+use crate::net_names::NetNames;
 use crate::parts::Joined;
 use crate::sections::Sections;
 use crate::source::Source;
 use crate::tables::Tables;
 use corner_set::{CornerSet, Pick};
 use edge_io::Text;
-use name_table::Names;
 use spef_text::{Head, SpefFile};
 use std::alloc::Global;
 use std::marker::PhantomData;
 
-fn repeated(alloc: Global, net: &NetName, token: u64) -> SectionEnd
+fn repeated(alloc: Global, net: &NetName<'_>, token: u64) -> SectionEnd
     ensures { IsUnless (λ end. end ≡ SectionEnd.RepeatedNet net.now token) result }
 {
     match Text::from_bytes(alloc, net.bytes()) {
@@ -36,15 +36,17 @@ fn repeated(alloc: Global, net: &NetName, token: u64) -> SectionEnd
 }
 
 // Numbers a net by its section's place, or refuses it where it has a section already.
-fn number_net(alloc: Global, nets: &mut Names, net: &NetName, token: u64) -> Result<(), SectionEnd>
-    requires room { length nets.old < 2 ^ 30 }
+fn number_net<'r>(
+    alloc: Global,
+    nets: &mut NetNames<'r>,
+    net: &NetName<'r>,
+    token: u64,
+) -> Result<(), SectionEnd>
     ensures new { OnOk result (¬ Contains nets.old net.now) }
     ensures put { OnOk result (nets.new ≡ nets.old ++ net.now ∷ []) }
     ensures err { IfErr result (IsUnless (λ end. Contains nets.old net.now × (end ≡ SectionEnd.RepeatedNet net.now token))) }
 {
-    let many = nets.len();
-    nets.intern(net.bytes())?;
-    if nets.len() == many {
+    if !nets.put(alloc, net)? {
         return Err(repeated(alloc, net, token));
     }
     Ok(())
@@ -53,13 +55,12 @@ fn number_net(alloc: Global, nets: &mut Names, net: &NetName, token: u64) -> Res
 // Reads the section behind those of these nets into the draft, and puts the name of its net behind theirs.
 fn read_behind<'r, 'f, C: CornerSet>(
     source: &Source<'r, 'f>,
-    nets: &mut Names,
+    nets: &mut NetNames<'r>,
     draft: &mut Draft<'r, 'f>,
     joints: &mut Vec<Joined>,
 ) -> Result<(), SectionEnd>
     requires reading { IsReading source.now.file.now source.now.head.now nets.old }
     requires left { length nets.old < length source.now.file.now.reading.sections }
-    requires few { length source.now.file.now.reading.sections < 2 ^ 30 }
     requires file { (drafted draft.old).refs.file ≡ source.now.file.now }
     ensures ok { OnOk result (IsNet (corners_of C.COUNT C.number_of C.member_of source.now.pick) source.now.file.now
         source.now.head.now (section_at source.now.file.now.reading.sections (length nets.old))
@@ -82,14 +83,13 @@ fn read_behind<'r, 'f, C: CornerSet>(
 // Reads the next section, and puts its net behind those before it.
 fn push_next<'r, 'f, C: CornerSet>(
     source: &Source<'r, 'f>,
-    nets: &mut Names,
+    nets: &mut NetNames<'r>,
     tables: &mut Tables,
     draft: &mut Draft<'r, 'f>,
     joints: &mut Vec<Joined>,
 ) -> Result<(), SectionEnd>
     requires reading { IsReading source.now.file.now source.now.head.now nets.old }
     requires left { length nets.old < length source.now.file.now.reading.sections }
-    requires few { length source.now.file.now.reading.sections < 2 ^ 30 }
     requires held { HoldNets source.now.file.now source.now.head.now C.COUNT nets.old tables.old }
     requires file { (drafted draft.old).refs.file ≡ source.now.file.now }
     ensures next { OnOk result ((net : NetElements)
@@ -110,11 +110,10 @@ fn push_next<'r, 'f, C: CornerSet>(
 // Reads all sections into the lists, which are empty.
 fn push_all<'r, 'f, C: CornerSet>(
     source: &Source<'r, 'f>,
-    nets: &mut Names,
+    nets: &mut NetNames<'r>,
     tables: &mut Tables,
 ) -> Result<(), SectionEnd>
     requires head { IsHeadOf source.now.file.now source.now.head.now }
-    requires few { length source.now.file.now.reading.sections < 2 ^ 30 }
     requires nets { nets.old ≡ [] }
     requires nodes { tables.old.nodes.items ≡ [] }
     requires rows { rows_of tables.old.elements ≡ no_rows }
@@ -165,7 +164,7 @@ pub fn read_sections<'r, 'f, C: CornerSet>(
         head,
         pick,
     };
-    let mut nets = Names::new(alloc);
+    let mut nets = NetNames::with_room(alloc, file.section_count())?;
     let mut tables = Tables::with_room::<C>(alloc, file)?;
     file.formed();
     push_all::<C>(&source, &mut nets, &mut tables)?;

@@ -104,7 +104,7 @@ impl<'r, 'f> Referred<'r, 'f> {
         word: &[u8],
         token: u64,
         key: NodeKey<'r>,
-        net: &NetName,
+        net: &NetName<'_>,
     ) -> Result<usize, OutOfMemory>
         requires marked { length (refs_of self.old).marks ≡ length (refs_of self.old).keys }
         requires word { word.now ≡ text_of (refs_of self.old).file token }

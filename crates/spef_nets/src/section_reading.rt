@@ -47,7 +47,7 @@ impl<'r, 'f> Source<'r, 'f> {
     fn joined_at(
         &self,
         refs: &mut Referred<'r, 'f>,
-        net: &NetName,
+        net: &NetName<'_>,
         token: u64,
     ) -> Result<Option<usize>, OutOfMemory>
         requires head { IsHeadOf self.now.file.now self.now.head.now }
@@ -68,7 +68,7 @@ impl<'r, 'f> Source<'r, 'f> {
         &self,
         s: usize,
         refs: &mut Referred<'r, 'f>,
-        net: &NetName,
+        net: &NetName<'_>,
         joints: &mut Vec<Joined>,
     ) -> Result<(), OutOfMemory>
         requires section { s < length self.now.file.now.reading.sections }
@@ -184,7 +184,7 @@ impl<'r, 'f> Source<'r, 'f> {
         Ok(())
     }
 
-    fn foreign(&self, net: &NetName, token: u64) -> SectionEnd
+    fn foreign(&self, net: &NetName<'_>, token: u64) -> SectionEnd
         ensures { IsUnless (λ end. end ≡ SectionEnd.ForeignCoupling net.now token) result }
     {
         match Text::from_bytes(self.alloc, net.bytes()) {

@@ -4,11 +4,11 @@ ghost use Rattle.name_table.specs.Names.{AreDistinct};
 ghost use Rattle.spef_nets.specs.NetElements.{NetElements, AreWhole, net_names};
 
 use crate::net::Net;
+use crate::net_names::NetNames;
 use crate::node_names::NodeNames;
 use crate::tables::Tables;
 use corner_set::CornerSet;
 use edge_io::are_equal;
-use name_table::{NameId, Names};
 use spef_text::{Head, SpefFile};
 use std::marker::{Model, PhantomData};
 
@@ -19,13 +19,13 @@ pub struct Sections<'r, 'f, C: CornerSet> {
     pub(crate) file: &'r SpefFile<'f>,
     pub(crate) head: &'r Head,
     // the names of the nets, each numbered by its section's place
-    pub(crate) nets: Names,
+    pub(crate) nets: NetNames<'r>,
     pub(crate) tables: Tables,
     pub(crate) corners: PhantomData<C>,
 }
 
 impl<'r, 'f, C: CornerSet> Model for Sections<'r, 'f, C> {
-    ghost use Rattle.std.specs.Prelude.{ℕ, ◌<◌, ◌^◌, List, length};
+    ghost use Rattle.std.specs.Prelude.{ℕ, List};
     ghost use Rattle.spef_nets.specs.NetElements.{NetElements};
     ghost use Rattle.spef_nets.specs.TablesOf.{nets_in, HoldNets};
 
@@ -33,8 +33,8 @@ impl<'r, 'f, C: CornerSet> Model for Sections<'r, 'f, C> {
 
     ghost view = { λ s. nets_in s.file.now C.COUNT s.nets s.tables };
 
-    // each net is whole, and they are few
-    ghost invariant = { λ s. HoldNets s.file.now s.head.now C.COUNT s.nets s.tables × (length s.nets < 2 ^ 30) };
+    // each net is whole
+    ghost invariant = { λ s. HoldNets s.file.now s.head.now C.COUNT s.nets s.tables };
 }
 
 impl<'r, 'f, C: CornerSet> Sections<'r, 'f, C> {
@@ -53,7 +53,7 @@ impl<'r, 'f, C: CornerSet> Sections<'r, 'f, C> {
     {
         let (from, to) = self.tables.ends_of(s);
         Net {
-            net: self.nets.text(NameId(s as u32)),
+            net: self.nets.name(s),
             names: NodeNames {
                 file: self.file,
                 head: self.head,
@@ -71,8 +71,7 @@ impl<'r, 'f, C: CornerSet> Sections<'r, 'f, C> {
         ensures within { IfSome result (λ s. s < length self.now) }
         ensures absent { IfNone result (¬ Contains (net_names self.now) net.now) }
     {
-        let id = self.nets.find(net)?;
-        Some(id.0 as usize)
+        self.nets.find(net)
     }
 
     /// The same where the section is likely to stand at this place, which is looked at first: a file has its nets in the order of the
@@ -82,7 +81,7 @@ impl<'r, 'f, C: CornerSet> Sections<'r, 'f, C> {
         ensures within { IfSome result (λ s. s < length self.now) }
         ensures absent { IfNone result (¬ Contains (net_names self.now) net.now) }
     {
-        if place < self.nets.len() && are_equal(self.nets.text(NameId(place as u32)), net) {
+        if place < self.nets.len() && are_equal(self.nets.name(place), net) {
             Some(place)
         } else {
             self.find(net)

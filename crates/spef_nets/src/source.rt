@@ -44,19 +44,32 @@ impl<'r, 'f> Source<'r, 'f> {
     }
 
     /// Puts the name of the net that a token names in the place of another.
-    pub fn put_net(&self, token: u64, net: &mut NetName) -> Result<(), SectionEnd>
+    pub fn put_net(&self, token: u64, net: &mut NetName<'r>) -> Result<(), SectionEnd>
         requires { IsHeadOf self.now.file.now self.now.head.now }
         ensures ok { OnOk result (net_at self.now.file.now token ≡ Some net.new) }
         ensures err { IfErr result (IsUnless (IsUnknownAt self.now.file.now token)) }
     {
         match WrittenNames::new(self.file, self.head).name(token, false) {
-            Some(name) => net.put(name.head)?,
-            None => net.put(self.named_net(token)?.bytes())?,
+            Some(name) => {
+                net.put(name.head);
+                Ok(())
+            }
+            None => self.put_copy(token, net),
         }
+    }
+
+    // The same by a copy.
+    fn put_copy(&self, token: u64, net: &mut NetName<'r>) -> Result<(), SectionEnd>
+        requires { IsHeadOf self.now.file.now self.now.head.now }
+        ensures ok { OnOk result (net_at self.now.file.now token ≡ Some net.new) }
+        ensures err { IfErr result (IsUnless (IsUnknownAt self.now.file.now token)) }
+    {
+        let name = self.named_net(token)?;
+        net.put_copy(self.alloc, name.bytes())?;
         Ok(())
     }
 
-    // The same by the name of its node.
+    // The name of a net by that of its node.
     fn named_net(&self, token: u64) -> Result<Text, SectionEnd>
         requires { IsHeadOf self.now.file.now self.now.head.now }
         ensures ok { IfOk result (λ net. net_at self.now.file.now token ≡ Some net) }
@@ -101,7 +114,7 @@ impl<'r, 'f> Source<'r, 'f> {
     pub fn spelling_at(
         &self,
         refs: &mut Referred<'r, 'f>,
-        net: &NetName,
+        net: &NetName<'_>,
         token: u64,
     ) -> Result<Option<usize>, OutOfMemory>
         requires head { IsHeadOf self.now.file.now self.now.head.now }

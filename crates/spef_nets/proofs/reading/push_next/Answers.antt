@@ -17,7 +17,7 @@ returns-clause-next g c =
     let file = c.args.source.now.file.now in
     let draft = c.read_behind.new.draft in
     let caps = length (section_at file.reading.sections (length c.args.nets.now)).caps in
-    let written : c.cap_count-written.result ≡ caps = c.cap_count-written.ensures ∙ ap (λ (n : ℕ). length (section_at file.reading.sections n).caps) c.len.ensures.len in
+    let written : c.cap_count-written.result ≡ caps = c.cap_count-written.ensures ∙ ap (λ (n : ℕ). length (section_at file.reading.sections n).caps) c.len.ensures in
     let net : NetElements = written_net (drafted draft).net caps in
     let adds : AddsNet file c.args.tables.now c.put_into.new.tables net =
     subst (λ (f : SpefText). AddsNet f c.args.tables.now c.put_into.new.tables net) c.in_ok-read_behind.ensures.file
@@ -32,7 +32,7 @@ returns-clause-held g c =
     let file = c.args.source.now.file.now in
     let draft = c.read_behind.new.draft in
     let caps = length (section_at file.reading.sections (length c.args.nets.now)).caps in
-    let written : c.cap_count-written.result ≡ caps = c.cap_count-written.ensures ∙ ap (λ (n : ℕ). length (section_at file.reading.sections n).caps) c.len.ensures.len in
+    let written : c.cap_count-written.result ≡ caps = c.cap_count-written.ensures ∙ ap (λ (n : ℕ). length (section_at file.reading.sections n).caps) c.len.ensures in
     let net : NetElements = written_net (drafted draft).net caps in
     let adds : AddsNet file c.args.tables.now c.put_into.new.tables net =
     subst (λ (f : SpefText). AddsNet f c.args.tables.now c.put_into.new.tables net) c.in_ok-read_behind.ensures.file

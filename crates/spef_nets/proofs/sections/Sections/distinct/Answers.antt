@@ -8,5 +8,5 @@ use Rattle.spef_nets.proofs.sections.Sections.distinct.Goals as goal
 pub returns : goal.returns
 returns g c =
     subst AreDistinct
-    (sym (names_of_all c.self.inside.file.now c.self.inside.head.now g.C.CornerSet.COUNT c.self.inside.nets c.self.inside.tables.ends.items c.self.inside.tables.nodes.items (rows_of c.self.inside.tables.elements) c.self.invariant.0 c.args.self.now c.self.view_is))
+    (sym (names_of_all c.self.inside.file.now c.self.inside.head.now g.C.CornerSet.COUNT c.self.inside.nets c.self.inside.tables.ends.items c.self.inside.tables.nodes.items (rows_of c.self.inside.tables.elements) c.self.invariant c.args.self.now c.self.view_is))
     c.distinct.ensures

@@ -4,4 +4,4 @@ use Rattle.spef_nets.proofs.sections.Sections.whole.Goals as goal
 
 -- src/sections.rt
 pub returns : goal.returns
-returns g c = all_whole c.self.inside.file.now c.self.inside.head.now g.C.CornerSet.COUNT c.self.inside.nets c.self.inside.tables.ends.items c.self.inside.tables.nodes.items (rows_of c.self.inside.tables.elements) c.self.invariant.0 c.args.self.now c.self.view_is
+returns g c = all_whole c.self.inside.file.now c.self.inside.head.now g.C.CornerSet.COUNT c.self.inside.nets c.self.inside.tables.ends.items c.self.inside.tables.nodes.items (rows_of c.self.inside.tables.elements) c.self.invariant c.args.self.now c.self.view_is
