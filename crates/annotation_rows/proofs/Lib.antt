@@ -19,6 +19,7 @@ pub mod PathNumbers
 pub mod PrintedRows
 pub mod Rounded
 pub mod RowLaws
+pub mod SpelledPins
 pub mod SpelledRows
 pub mod StuckStates
 pub mod WireLists

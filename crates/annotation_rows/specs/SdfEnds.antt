@@ -1,13 +1,24 @@
 -- How the ends of nets are spelled in SDF (IEEE 1497-2001).
-use Rattle.std.specs.Prelude.{ℕ, ◌<◌, List, [], ◌∷◌, ◌++◌, length, slice_get}
+use Rattle.std.specs.Prelude.{ℕ, ◌<◌, List, [], ◌∷◌, ◌++◌, length, map, slice_get}
 use Rattle.std.specs.Option.{option_map_or}
+use Rattle.cell_models.specs.Cells.{TimedCell}
+use Rattle.cell_models.specs.CornerCells.{pins_at}
 use Rattle.cell_models.specs.NamedSets.{NamedCells}
+use Rattle.cell_models.specs.declared.cell.Pin.{Pin as CellPin}
 use Rattle.edge_io.specs.Bytes.{slash}
 use Rattle.name_table.specs.SdfNames.{part}
 use Rattle.netlist_link.specs.FlatNetlist.{FlatNetlist, instance_at, port_at}
 use Rattle.netlist_link.specs.FlatPins.{pins_of}
 use Rattle.netlist_link.specs.declared.ends.End.{End}
 use Rattle.netlist_link.specs.declared.ends.End.TheVariants.{Port, Pin}
+
+-- the name of a pin as one part of a path
+abbrev pub pin_part : List CellPin → ℕ → List ℕ
+pin_part pins pin = part (option_map_or (λ p. p.name) (slice_get pins pin) [])
+
+-- the names of all pins of a cell, each as one part of a path
+abbrev pub spelled_pins : List TimedCell → List (List ℕ)
+spelled_pins cell = map (λ (p : CellPin). part p.name) (pins_at cell 0)
 
 module _ (cells : List NamedCells) (netlist : FlatNetlist) where
   -- how many pins the cell of an instance has

@@ -10,6 +10,7 @@ ghost use Rattle.annotation_rows.specs.PathRows.{timed_of};
 ghost use Rattle.annotation_rows.specs.RowLaws.{AreShaped};
 
 use crate::path_rows::add_all_paths;
+use crate::spelled_cells::SpelledCells;
 use crate::timed_netlist::TimedNetlist;
 use crate::wire_rows::add_wires;
 use cell_models::CellSets;
@@ -46,8 +47,9 @@ pub fn annotation_rows<C: CornerSet, L: Ledger>(
         * edges_in (source_of netlist.now cells.now C.COUNT nets.now slews.now.beyond slews.now.mode slews.now.slew)) }
 {
     let mut rows = Rows::new(alloc, Text::from_bytes(alloc, design.bytes())?);
-    add_wires(alloc, netlist, cells, nets, &mut rows)?;
-    let timed = TimedNetlist::new(netlist, cells, nets, slews);
+    let cells = SpelledCells::new(alloc, cells)?;
+    add_wires(alloc, netlist, &cells, nets, &mut rows)?;
+    let timed = TimedNetlist::new(netlist, &cells, nets, slews);
     add_all_paths(alloc, &timed, &mut rows, steps)?;
     Ok(rows)
 }

@@ -5,16 +5,14 @@ ghost use Rattle.netlist_link.specs.FlatNetlist.{instance_at};
 ghost use Rattle.sdf_writer.specs.Bounds.{AreWithin};
 ghost use Rattle.sdf_writer.specs.PathRows.{IsEdge, edge_times};
 ghost use Rattle.slew_order.specs.NetStates.{edges_in};
-ghost use Rattle.annotation_rows.specs.CellPaths.{ArePaths, HavePaths, arc_in, path_of};
+ghost use Rattle.annotation_rows.specs.CellPaths.{ArePaths, HavePaths, path_of};
 ghost use Rattle.annotation_rows.specs.PathRows.{cell_arcs, cell_name, edge_delays, if_delayed, instance_rows, path_row, path_rows, rows_at, with_paths};
 ghost use Rattle.annotation_rows.specs.PathTables.{AreBests, AreLargest, instance_edges};
 ghost use Rattle.annotation_rows.specs.RowLaws.{AreShaped};
-ghost use Rattle.annotation_rows.specs.SdfEnds.{pin_sdf};
 
 use crate::cell_paths::{ArcPaths, paths_of_all};
 use crate::path_delays::put_delays;
 use crate::put_times::put_times;
-use crate::sdf_ends::pin_sdf;
 use crate::timed_netlist::TimedNetlist;
 use cell_models::Edge;
 use corner_set::{CornerSet, Grid};
@@ -25,13 +23,6 @@ use slew_order::ArcAt;
 use std::alloc::Global;
 use std::sync::ledger::Ledger;
 
-// The names of a path's pins as SDF spells them. They serve all paths.
-#[derive(Drop)]
-struct PinNames {
-    from: Vec<u8>,
-    to: Vec<u8>,
-}
-
 // A grid for each edge.
 #[derive(Drop)]
 struct EdgeGrids<C: CornerSet, T: Copy> {
@@ -39,12 +30,11 @@ struct EdgeGrids<C: CornerSet, T: Copy> {
     fall: Grid<C, T>,
 }
 
-// What serves the rows of all instances: the values and the times of the edges of one, and the names of a path's pins.
+// What serves the rows of all instances: the values and the times of the edges of one.
 #[derive(Drop)]
 struct PathDraft<C: CornerSet> {
     values: EdgeGrids<C, Option<i128>>,
     times: EdgeGrids<C, Femto>,
-    names: PinNames,
 }
 
 impl<C: CornerSet, T: Copy> EdgeGrids<C, T> {
@@ -68,36 +58,8 @@ impl<C: CornerSet> PathDraft<C> {
     {
         let values = EdgeGrids::with_rows(alloc, 0, None)?;
         let times = EdgeGrids::with_rows(alloc, 1, Femto(0))?;
-        let names = PinNames {
-            from: Vec::new(alloc),
-            to: Vec::new(alloc),
-        };
-        Ok(PathDraft {
-            values,
-            times,
-            names,
-        })
+        Ok(PathDraft { values, times })
     }
-}
-
-// Makes the names those of the path of an arc of an instance.
-fn put_names<C: CornerSet>(
-    design: &TimedNetlist<'_, C>,
-    at: ArcAt,
-    names: &mut PinNames,
-) -> Result<(), OutOfMemory>
-    requires instance { at.instance < length design.now.source.netlist.instances }
-    requires arc { at.arc < length (cell_arcs design.now at.instance) }
-    ensures from { OnOk result (names.new.from.items ≡ pin_sdf design.now.source.cells design.now.source.netlist at.instance
-        (arc_in (cell_arcs design.now at.instance) at.arc).from) }
-    ensures to { OnOk result (names.new.to.items ≡ pin_sdf design.now.source.cells design.now.source.netlist at.instance
-        (arc_in (cell_arcs design.now at.instance) at.arc).to) }
-{
-    let pins = design.pins_of(at);
-    let netlist = design.netlist();
-    let cells = design.cells();
-    pin_sdf(netlist, cells, at.instance, pins.from, &mut names.from)?;
-    pin_sdf(netlist, cells, at.instance, pins.to, &mut names.to)
 }
 
 // Puts the delays of the path that begins with an arc of an instance at an edge into a grid of one row, if there are such. The values
@@ -140,7 +102,6 @@ fn add_row<C: CornerSet>(
     at: ArcAt,
     rise: Option<&Grid<C, Femto>>,
     fall: Option<&Grid<C, Femto>>,
-    names: &mut PinNames,
     rows: &mut Rows<C>,
 ) -> Result<(), OutOfMemory>
     requires instance { at.instance < length design.now.source.netlist.instances }
@@ -151,12 +112,12 @@ fn add_row<C: CornerSet>(
     requires fall { edge_times fall ≡ edge_delays design.now at.instance at.arc Fall }
     ensures { OnOk result (rows.new ≡ with_paths rows.old (path_row design.now at.instance at.arc ∷ [])) }
 {
-    put_names(design, at, names)?;
+    let pins = design.pins_of(at);
     let path = PathNames {
         cell: design.cell_name(at.instance).bytes(),
         instance: design.netlist().instance_sdf(at.instance),
-        from: &names.from,
-        to: &names.to,
+        from: design.pin_sdf(at.instance, pins.from),
+        to: design.pin_sdf(at.instance, pins.to),
     };
     rows.put_path(path, rise, fall)
 }
@@ -169,7 +130,6 @@ fn add_path<C: CornerSet>(
     at: ArcAt,
     values: &EdgeGrids<C, Option<i128>>,
     times: &mut EdgeGrids<C, Femto>,
-    names: &mut PinNames,
     rows: &mut Rows<C>,
 ) -> Result<(), OutOfMemory>
     requires instance { at.instance < length design.now.source.netlist.instances }
@@ -203,7 +163,7 @@ fn add_path<C: CornerSet>(
     }
     let rise = if_has(rise, &times.rise);
     let fall = if_has(fall, &times.fall);
-    add_row(design, at, rise, fall, names, rows)
+    add_row(design, at, rise, fall, rows)
 }
 
 // Adds the row of the path that begins with an arc of an instance, if one does. The arcs have these paths.
@@ -214,7 +174,6 @@ fn add_first<C: CornerSet>(
     paths: &[usize],
     values: &EdgeGrids<C, Option<i128>>,
     times: &mut EdgeGrids<C, Femto>,
-    names: &mut PinNames,
     rows: &mut Rows<C>,
 ) -> Result<(), OutOfMemory>
     requires instance { at.instance < length design.now.source.netlist.instances }
@@ -230,7 +189,7 @@ fn add_first<C: CornerSet>(
     if paths[at.arc] != at.arc {
         return Ok(());
     }
-    add_path(design, at, values, times, names, rows)
+    add_path(design, at, values, times, rows)
 }
 
 // Adds the rows of the paths of an instance, in order of their first arcs.
@@ -240,7 +199,6 @@ fn add_paths<C: CornerSet>(
     paths: &[usize],
     values: &EdgeGrids<C, Option<i128>>,
     times: &mut EdgeGrids<C, Femto>,
-    names: &mut PinNames,
     rows: &mut Rows<C>,
 ) -> Result<(), OutOfMemory>
     requires instance { instance < length design.now.source.netlist.instances }
@@ -254,7 +212,7 @@ fn add_paths<C: CornerSet>(
 {
     for arc in 0..design.arc_count(instance) {
         let at = ArcAt { instance, arc };
-        add_first(design, at, paths, values, times, names, rows)?;
+        add_first(design, at, paths, values, times, rows)?;
     }
     Ok(())
 }
@@ -268,7 +226,6 @@ fn add_instance<C: CornerSet, L: Ledger>(
     paths: &[usize],
     values: &mut EdgeGrids<C, Option<i128>>,
     times: &mut EdgeGrids<C, Femto>,
-    names: &mut PinNames,
     rows: &mut Rows<C>,
     steps: &mut Steps<L>,
 ) -> Result<(), OutOfMemory>
@@ -299,7 +256,7 @@ fn add_instance<C: CornerSet, L: Ledger>(
         &mut values.fall,
         steps,
     )?;
-    add_paths(design, instance, paths, values, times, names, rows)
+    add_paths(design, instance, paths, values, times, rows)
 }
 
 // Adds the rows of all instances, in order. The arcs of the cells have these paths.
@@ -327,7 +284,6 @@ fn add_instances<C: CornerSet, L: Ledger>(
             own,
             &mut draft.values,
             &mut draft.times,
-            &mut draft.names,
             rows,
             steps,
         )?;

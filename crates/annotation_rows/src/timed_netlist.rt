@@ -9,9 +9,11 @@ ghost use Rattle.slew_order.specs.NetTimes.{Fits};
 ghost use Rattle.slew_order.specs.Slews.{AreTablesOf};
 ghost use Rattle.annotation_rows.specs.CellPaths.{arc_in};
 ghost use Rattle.annotation_rows.specs.PathRows.{IsTimed, arc_delay, arc_has, cell_arcs, cell_name, timed_of};
-ghost use Rattle.annotation_rows.specs.SdfEnds.{pin_count};
+ghost use Rattle.annotation_rows.specs.SdfEnds.{pin_count, pin_sdf};
 
 use crate::cell_paths::PinPair;
+use crate::sdf_ends::pin_sdf;
+use crate::spelled_cells::SpelledCells;
 use cell_models::{Arc, CellSet, CellSets, Edge};
 use corner_set::{CornerSet, corner_at, first_corner};
 use edge_io::{Steps, Text};
@@ -25,7 +27,7 @@ use std::sync::ledger::Ledger;
 #[derive(Drop)]
 pub(crate) struct TimedNetlist<'a, C: CornerSet> {
     netlist: &'a Netlist,
-    cells: &'a CellSets<C>,
+    cells: &'a SpelledCells<'a, C>,
     nets: &'a NetDelays<C>,
     slews: &'a Slews<C>,
 }
@@ -53,7 +55,7 @@ fn has_edge(arc: &Arc, edge: Edge) -> bool
 impl<'a, C: CornerSet> TimedNetlist<'a, C> {
     pub(crate) fn new(
         netlist: &'a Netlist,
-        cells: &'a CellSets<C>,
+        cells: &'a SpelledCells<'a, C>,
         nets: &'a NetDelays<C>,
         slews: &'a Slews<C>,
     ) -> TimedNetlist<'a, C>
@@ -83,7 +85,7 @@ impl<'a, C: CornerSet> TimedNetlist<'a, C> {
         ensures cells { result.now ≡ self.now.source.cells }
         ensures timed { IsTimed self.now }
     {
-        self.cells
+        self.cells.cells()
     }
 
     /// How many corners there are.
@@ -112,7 +114,7 @@ impl<'a, C: CornerSet> TimedNetlist<'a, C> {
         ensures cell { slice_get (set_cells self.now.source.cells) (instance_at self.now.source.netlist instance).cell ≡ Some result.now }
         ensures whole { AreCornerCells C.COUNT result.now }
     {
-        let cell = self.cells.set(self.netlist.cell_of(instance));
+        let cell = self.cells.cells().set(self.netlist.cell_of(instance));
         // what it keeps
         let _ = cell.arc_count();
         cell
@@ -132,7 +134,7 @@ impl<'a, C: CornerSet> TimedNetlist<'a, C> {
         requires { instance < length self.now.source.netlist.instances }
         ensures { result.now ≡ cell_name self.now instance }
     {
-        self.cells.name(self.netlist.cell_of(instance))
+        self.cells.cells().name(self.netlist.cell_of(instance))
     }
 
     /// The pins that an arc of an instance leads from and to.
@@ -149,6 +151,15 @@ impl<'a, C: CornerSet> TimedNetlist<'a, C> {
             from: arc.from,
             to: arc.to,
         }
+    }
+
+    /// The name of a pin of an instance as SDF spells it.
+    pub(crate) fn pin_sdf(&self, instance: usize, pin: usize) -> &[u8]
+        requires instance { instance < length self.now.source.netlist.instances }
+        requires pin { pin < pin_count self.now.source.cells self.now.source.netlist instance }
+        ensures { result.now ≡ pin_sdf self.now.source.cells self.now.source.netlist instance pin }
+    {
+        pin_sdf(self.netlist, self.cells, instance, pin)
     }
 
     // Whether an arc of an instance has an edge.
@@ -178,7 +189,15 @@ impl<'a, C: CornerSet> TimedNetlist<'a, C> {
         ensures steps { steps.new ≤ steps.old + 32 }
     {
         let corner = self.corner(number);
-        match self.slews.delay(self.netlist, self.cells, self.nets, at, edge, corner, steps) {
+        match self.slews.delay(
+            self.netlist,
+            self.cells.cells(),
+            self.nets,
+            at,
+            edge,
+            corner,
+            steps,
+        ) {
             Some(delay) => Some(delay.0),
             None => None,
         }

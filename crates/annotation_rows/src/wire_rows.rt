@@ -3,18 +3,19 @@ ghost use Rattle.std.specs.Prelude.{◌≡◌, ◌<◌, [], ◌∷◌, length, O
 ghost use Rattle.netlist_link.specs.FlatNetlist.{net_at};
 ghost use Rattle.netlist_link.specs.Linked.{IsLinked};
 ghost use Rattle.sdf_writer.specs.Bounds.{AreWithin};
+ghost use Rattle.sdf_writer.specs.WireEnds.{end_name};
 ghost use Rattle.slew_order.specs.NetTimes.{Fits, HasSink};
 ghost use Rattle.annotation_rows.specs.SdfEnds.{IsEndThere, end_sdf};
 ghost use Rattle.annotation_rows.specs.WireRows.{driven_rows, net_rows, wire_delays, wire_row, wire_rows, with_wires};
 
 use crate::sdf_ends::end_sdf;
-use cell_models::CellSets;
+use crate::spelled_cells::SpelledCells;
 use corner_set::{CornerSet, Grid, corner_at};
 use delay_units::Femto;
 use edge_io::OutOfMemory;
 use elmore_pass::sink_femto;
 use netlist_link::{End, Netlist};
-use sdf_writer::Rows;
+use sdf_writer::{Rows, WireEnd};
 use slew_order::NetDelays;
 use std::alloc::Global;
 
@@ -39,63 +40,55 @@ fn put_delays<C: CornerSet>(
     }
 }
 
-// What serves all wires: the names of the ends of one as SDF spells them, and the delays in one row.
-#[derive(Drop)]
-struct WireDraft<C: CornerSet> {
-    from: Vec<u8>,
-    to: Vec<u8>,
-    delay: Grid<C, Femto>,
-}
-
-// Adds the row of the wire to a sink of a net, from the end that drives it, whose name the draft has.
+// Adds the row of the wire to a sink of a net, from the end that drives it, which has this name. The grid of one row is used anew.
 #[tactic(auto, using(crate::proofs::EndsThere::sink_there))]
 fn add_wire<C: CornerSet>(
     netlist: &Netlist,
-    cells: &CellSets<C>,
+    cells: &SpelledCells<'_, C>,
     nets: &NetDelays<C>,
     net: usize,
     driver: End,
+    from: WireEnd<'_>,
     sink: usize,
-    draft: &mut WireDraft<C>,
+    delay: &mut Grid<C, Femto>,
     rows: &mut Rows<C>,
 ) -> Result<(), OutOfMemory>
     requires linked { IsLinked cells.now netlist.now }
     requires fits { Fits netlist.now nets.now }
     requires net { net < length netlist.now.nets }
     requires sink { sink < length (net_at netlist.now net).sinks }
-    requires from { draft.old.from.items ≡ end_sdf cells.now netlist.now driver }
-    requires one_row { length draft.old.delay.values ≡ C.COUNT }
+    requires from { end_name from ≡ end_sdf cells.now netlist.now driver }
+    requires one_row { length delay.old.values ≡ C.COUNT }
     ensures row { OnOk result (rows.new ≡ with_wires rows.old (wire_row cells.now netlist.now C.COUNT nets.now driver net sink ∷ [])) }
-    ensures from { draft.new.from.items ≡ draft.old.from.items }
-    ensures one_row { length draft.new.delay.values ≡ C.COUNT }
+    ensures one_row { length delay.new.values ≡ C.COUNT }
 {
-    put_delays(nets, net, sink, &mut draft.delay);
-    end_sdf(netlist, cells, netlist.sink(net, sink), &mut draft.to)?;
-    rows.put_wire(&draft.from, &draft.to, &draft.delay)
+    put_delays(nets, net, sink, delay);
+    let to = end_sdf(netlist, cells, netlist.sink(net, sink));
+    rows.put_wire(from, to, delay)
 }
 
 // Adds the rows of the wires of a net from the end that drives it.
 fn add_driven<C: CornerSet>(
     netlist: &Netlist,
-    cells: &CellSets<C>,
+    cells: &SpelledCells<'_, C>,
     nets: &NetDelays<C>,
     net: usize,
     driver: End,
-    draft: &mut WireDraft<C>,
+    delay: &mut Grid<C, Femto>,
     rows: &mut Rows<C>,
 ) -> Result<(), OutOfMemory>
     requires linked { IsLinked cells.now netlist.now }
     requires fits { Fits netlist.now nets.now }
     requires net { net < length netlist.now.nets }
     requires driver { IsEndThere cells.now netlist.now driver }
-    requires one_row { length draft.old.delay.values ≡ C.COUNT }
+    requires one_row { length delay.old.values ≡ C.COUNT }
     ensures rows { OnOk result (rows.new ≡ with_wires rows.old
         (driven_rows cells.now netlist.now C.COUNT nets.now driver net (length (net_at netlist.now net).sinks))) }
-    ensures one_row { length draft.new.delay.values ≡ C.COUNT }
+    ensures one_row { length delay.new.values ≡ C.COUNT }
 {
-    end_sdf(netlist, cells, driver, &mut draft.from)?;
+    let from = end_sdf(netlist, cells, driver);
     for sink in 0..netlist.sink_count(net) {
-        add_wire(netlist, cells, nets, net, driver, sink, draft, rows)?;
+        add_wire(netlist, cells, nets, net, driver, from, sink, delay, rows)?;
     }
     Ok(())
 }
@@ -104,22 +97,22 @@ fn add_driven<C: CornerSet>(
 #[tactic(auto, using(crate::proofs::EndsThere::driver_there, crate::proofs::WireLists::with_no_wires))]
 fn add_net<C: CornerSet>(
     netlist: &Netlist,
-    cells: &CellSets<C>,
+    cells: &SpelledCells<'_, C>,
     nets: &NetDelays<C>,
     net: usize,
-    draft: &mut WireDraft<C>,
+    delay: &mut Grid<C, Femto>,
     rows: &mut Rows<C>,
 ) -> Result<(), OutOfMemory>
     requires linked { IsLinked cells.now netlist.now }
     requires fits { Fits netlist.now nets.now }
     requires net { net < length netlist.now.nets }
-    requires one_row { length draft.old.delay.values ≡ C.COUNT }
+    requires one_row { length delay.old.values ≡ C.COUNT }
     ensures rows { OnOk result (rows.new ≡ with_wires rows.old (net_rows cells.now netlist.now C.COUNT nets.now net)) }
-    ensures one_row { length draft.new.delay.values ≡ C.COUNT }
+    ensures one_row { length delay.new.values ≡ C.COUNT }
 {
     match netlist.driver(net) {
         None => Ok(()),
-        Some(driver) => add_driven(netlist, cells, nets, net, driver, draft, rows),
+        Some(driver) => add_driven(netlist, cells, nets, net, driver, delay, rows),
     }
 }
 
@@ -127,7 +120,7 @@ fn add_net<C: CornerSet>(
 pub(crate) fn add_wires<C: CornerSet>(
     alloc: Global,
     netlist: &Netlist,
-    cells: &CellSets<C>,
+    cells: &SpelledCells<'_, C>,
     nets: &NetDelays<C>,
     rows: &mut Rows<C>,
 ) -> Result<(), OutOfMemory>
@@ -135,13 +128,9 @@ pub(crate) fn add_wires<C: CornerSet>(
     requires fits { Fits netlist.now nets.now }
     ensures { OnOk result (rows.new ≡ with_wires rows.old (wire_rows cells.now netlist.now C.COUNT nets.now)) }
 {
-    let mut draft = WireDraft {
-        from: Vec::new(alloc),
-        to: Vec::new(alloc),
-        delay: Grid::with_rows(alloc, 1, Femto(0))?,
-    };
+    let mut delay = Grid::with_rows(alloc, 1, Femto(0))?;
     for net in 0..netlist.net_count() {
-        add_net(netlist, cells, nets, net, &mut draft, rows)?;
+        add_net(netlist, cells, nets, net, &mut delay, rows)?;
     }
     Ok(())
 }

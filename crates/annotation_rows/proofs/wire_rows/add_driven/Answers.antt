@@ -1,4 +1,4 @@
-use Rattle.std.proofs.Common.{[], ◌∷◌, ◌∙◌}
+use Rattle.std.proofs.Common.{[], ◌∷◌}
 use Rattle.annotation_rows.specs.WireRows.{wire_row}
 use Rattle.annotation_rows.proofs.WireLists.{wires_next}
 use Rattle.annotation_rows.proofs.wire_rows.add_driven.Goals as goal
@@ -8,6 +8,5 @@ pub loop-sink-preserved : goal.loop-sink-preserved
 loop-sink-preserved g c = (
   wires_next (λ sink. wire_row c.args.cells.now c.args.netlist.now g.C.CornerSet.COUNT c.args.nets.now c.args.driver c.args.net sink ∷ []) c.loop-sink.sink c.args.rows.now
       c.loop-sink.rows _ c.loop-sink.invariant.0 c.in_ok-add_wire.ensures.row,
-  c.add_wire.ensures.from ∙ c.loop-sink.invariant.1,
   c.add_wire.ensures.one_row,
 )

@@ -1,9 +1,7 @@
 use Rattle.std.proofs.Common.{◌≡◌, length}
-use Rattle.annotation_rows.specs.SdfEnds.{end_sdf}
 use Rattle.annotation_rows.specs.WireRows.{driven_rows, with_wires}
 use Rattle.annotation_rows.proofs.wire_rows.add_driven.Given as goal
 
 abbrev pub invariant-loop-sink : goal.invariant-loop-sink
 invariant-loop-sink g l = (l.rows ≡ with_wires l.fn.rows (driven_rows l.cells l.netlist g.C.CornerSet.COUNT l.nets l.driver l.net l.sink))
-    × (l.draft.from.items ≡ end_sdf l.cells l.netlist l.driver)
-    × (length l.draft.delay.values ≡ g.C.CornerSet.COUNT)
+    × (length l.delay.values ≡ g.C.CornerSet.COUNT)

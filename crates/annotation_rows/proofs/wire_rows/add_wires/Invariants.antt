@@ -4,4 +4,4 @@ use Rattle.annotation_rows.proofs.wire_rows.add_wires.Given as goal
 
 abbrev pub invariant-loop-net : goal.invariant-loop-net
 invariant-loop-net g l = (l.rows ≡ with_wires l.fn.rows (wire_rows_to l.cells l.netlist g.C.CornerSet.COUNT l.nets l.net))
-    × (length l.draft.delay.values ≡ g.C.CornerSet.COUNT)
+    × (length l.delay.values ≡ g.C.CornerSet.COUNT)
