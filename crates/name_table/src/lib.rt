@@ -15,6 +15,6 @@ pub use laws::{one_cut, one_reading, well_spelled_stays};
 pub use name_hash::{NameHash, NameHasher};
 pub use names::{NameId, Names};
 pub use node_keys::NodeKey;
-pub use sdf_names::{canonical_sdf, escape_sdf, push_escaped_sdf};
+pub use sdf_names::{canonical_sdf, escape_sdf};
 pub use spef_names::{NodeName, SpefMarks, cut_node, read_spef_node};
 pub use written_names::{WrittenName, written_halves, written_name, written_whole};

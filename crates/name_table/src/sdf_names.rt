@@ -38,7 +38,7 @@ pub(crate) fn push_spelled(bytes: &mut Vec<u8>, byte: u8) -> Result<(), OutOfMem
 }
 
 /// Puts the spelling of a name as one part of a path at the end.
-pub fn push_escaped_sdf(text: &mut Vec<u8>, name: &[u8]) -> Result<(), OutOfMemory>
+pub(crate) fn push_escaped_sdf(text: &mut Vec<u8>, name: &[u8]) -> Result<(), OutOfMemory>
     ensures ok { OnOk result (text.new.items ≡ text.old.items ++ part name.now) }
 {
     for &byte in name {

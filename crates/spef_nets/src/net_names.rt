@@ -96,9 +96,11 @@ fn add<'r>(
     names: &mut IndexSet<CowSlice<'r, u8>>,
     name: CowSlice<'r, u8>,
 ) -> Result<bool, OutOfMemory>
-    ensures new { IfOk result (λ new. new ≡ true → ¬ Contains (map (λ one. cow_slice_items one) names.old.keys) (cow_slice_items name.entry)) }
+    ensures new { IfOk result (λ new. new ≡ true
+        → ¬ Contains (map (λ one. cow_slice_items one) names.old.keys) (cow_slice_items name.entry)) }
     ensures added { IfOk result (λ new. new ≡ true
-        → map (λ one. cow_slice_items one) names.new.keys ≡ map (λ one. cow_slice_items one) names.old.keys ++ cow_slice_items name.entry ∷ []) }
+        → map (λ one. cow_slice_items one) names.new.keys
+        ≡ map (λ one. cow_slice_items one) names.old.keys ++ cow_slice_items name.entry ∷ []) }
     ensures held { IfOk result (λ new. new ≡ false
         → Contains (map (λ one. cow_slice_items one) names.old.keys) (cow_slice_items name.entry)) }
     ensures distinct { AreDistinct (map (λ one. cow_slice_items one) names.new.keys) }
