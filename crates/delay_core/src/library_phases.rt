@@ -7,24 +7,27 @@ ghost use Rattle.delay_core.specs.Refused.{OnRefusal};
 
 use crate::refusal::Refusal;
 use edge_io::Text;
-use liberty_groups::{GroupTree, ParseEnd, parse};
+use liberty_groups::{ParseEnd, parse};
 use std::alloc::Global;
-use timing_arcs::{Cell, CellFault, build_cell};
+use timing_arcs::{Cell, CellFault, Library};
 use verdict_phases::NoFileEnd;
 
-/// Reads the grammar of the Liberty file of a corner.
+/// Reads the grammar of the Liberty file of a corner, and makes the index of the library.
 #[tactic(auto, using(crate::specs::LibraryPhases::is_library, crate::specs::LibraryPhases::is_no_library))]
 pub fn parse_library(
     alloc: Global,
     corner: usize,
     bytes: &[u8],
-) -> Result<GroupTree, NoFileEnd<Refusal>>
+) -> Result<Library, NoFileEnd<Refusal>>
     requires { length bytes.now < 2 ^ 32 }
-    ensures ok { IfOk result (λ tree. ParsesLibrary corner bytes.now (Ok (tree_of tree))) }
+    ensures ok { IfOk result (λ library. ParsesLibrary corner bytes.now (Ok (tree_of library))) }
     ensures refused { OnRefusal result (λ refusal. ParsesLibrary corner bytes.now (Err refusal)) }
 {
     match parse(alloc, bytes) {
-        Ok(tree) => Ok(tree),
+        Ok(tree) => {
+            let library = Library::of(alloc, tree)?;
+            Ok(library)
+        }
         Err(ParseEnd::Syntax(fault)) => Err(NoFileEnd::Refused(Refusal::LibrarySyntax {
             corner,
             token: fault.token,
@@ -40,12 +43,12 @@ pub fn parse_library(
 pub fn model_cell(
     alloc: Global,
     corner: usize,
-    tree: &GroupTree,
+    library: &Library,
     name: &Text,
 ) -> Result<Cell, NoFileEnd<Refusal>>
-    ensures follows { FollowsNoFile (ModelsCell corner (tree_of tree.now) name.now) result }
+    ensures follows { FollowsNoFile (ModelsCell corner (tree_of library.now) name.now) result }
 {
-    match build_cell(alloc, tree, name) {
+    match library.build_cell(alloc, name) {
         Ok(cell) => Ok(cell),
         Err(CellFault::OutOfMemory) => Err(NoFileEnd::OutOfMemory),
         Err(CellFault::NoSuchCell) => {

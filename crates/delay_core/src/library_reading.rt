@@ -12,15 +12,15 @@ use crate::library_phases::parse_library;
 use crate::refusal::{FileKey, Refusal};
 use corner_set::CornerSet;
 use edge_io::{OutOfMemory, Shelf, Text, TextList};
-use liberty_groups::GroupTree;
 use std::alloc::Global;
 use std::marker::Model;
+use timing_arcs::Library;
 use verdict_phases::PhaseEnd;
 
 /// Libraries, one for each of the first corners. Contracts see the tables of each.
 #[derive(Drop)]
 pub struct Libraries {
-    trees: Vec<GroupTree>,
+    libraries: Vec<Library>,
 }
 
 impl Model for Libraries {
@@ -29,7 +29,7 @@ impl Model for Libraries {
 
     ghost Value = { List Tables };
 
-    ghost view = { λ libraries. libraries.trees.items };
+    ghost view = { λ kept. kept.libraries.items };
 }
 
 impl Libraries {
@@ -38,26 +38,26 @@ impl Libraries {
         ensures { result ≡ [] }
     {
         Libraries {
-            trees: Vec::new(alloc),
+            libraries: Vec::new(alloc),
         }
     }
 
     // Puts the library of the next corner at the end.
-    fn push(&mut self, tree: GroupTree) -> Result<(), OutOfMemory>
-        ensures { OnOk result (self.new ≡ self.old ++ tree ∷ []) }
+    fn push(&mut self, library: Library) -> Result<(), OutOfMemory>
+        ensures { OnOk result (self.new ≡ self.old ++ library ∷ []) }
     {
-        match self.trees.push(tree) {
+        match self.libraries.push(library) {
             Ok(()) => Ok(()),
             Err(_) => Err(OutOfMemory),
         }
     }
 
     /// The library of a corner.
-    pub fn get(&self, corner: usize) -> &GroupTree
+    pub fn get(&self, corner: usize) -> &Library
         requires { corner < length self.now }
         ensures { slice_get self.now corner ≡ Some result.now }
     {
-        &self.trees[corner]
+        &self.libraries[corner]
     }
 }
 
@@ -84,8 +84,8 @@ pub fn read_library<H: Shelf>(
     name: &Text,
     corners: usize,
     corner: usize,
-) -> Result<GroupTree, PhaseEnd<Refusal, FileKey>>
-    ensures ok { IfOk result (λ tree. ReadsLibrary (H.held shelf.old) corners corner name.now (Go (tree_of tree))) }
+) -> Result<Library, PhaseEnd<Refusal, FileKey>>
+    ensures ok { IfOk result (λ library. ReadsLibrary (H.held shelf.old) corners corner name.now (Go (tree_of library))) }
     ensures stops { OnStop result (λ why. ReadsLibrary (H.held shelf.old) corners corner name.now (Halt why)) }
     ensures fault { AtReadFault result (λ key. (key ≡ library_key corners corner)
         × (Rose (H.faults shelf.old) (H.faults shelf.new) ⊎ TellsMissing (H.held shelf.old) name.now)) }
@@ -95,8 +95,8 @@ pub fn read_library<H: Shelf>(
 {
     let key = library_key(corners, corner);
     let text = read_input(alloc, shelf, name, key)?;
-    let tree = parse_library(alloc, corner, text.bytes())?;
-    Ok(tree)
+    let library = parse_library(alloc, corner, text.bytes())?;
+    Ok(library)
 }
 
 /// Reads the libraries of all corners, in the order of the corners, and stops at the first that is not read.
@@ -117,8 +117,8 @@ pub fn read_libraries<C: CornerSet, H: Shelf>(
     let mut libraries = Libraries::new(alloc);
     for corner in 0..C::COUNT {
         let name = &names.as_slice()[corner];
-        let tree = read_library(alloc, shelf, name, C::COUNT, corner)?;
-        libraries.push(tree)?;
+        let library = read_library(alloc, shelf, name, C::COUNT, corner)?;
+        libraries.push(library)?;
     }
     Ok(libraries)
 }

@@ -1,8 +1,10 @@
 //! The command `lookup`: the arcs of a library's cell at one slew and one load.
-ghost use Rattle.std.specs.Prelude.{◌≡◌, ◌^◌, ◌<◌, ◌⊎◌, IsTrue, length, unsigned_abs};
+ghost use Rattle.std.specs.Prelude.{◌≡◌, ℕ, ◌^◌, ◌<◌, ◌⊎◌, List, Ok, IsTrue, length, unsigned_abs};
 ghost use Rattle.edge_io.specs.Counts.{Rose, RoseBy};
 ghost use Rattle.edge_io.specs.Holding.{TellsMissing};
 ghost use Rattle.verdict_phases.specs.Phases.{Follows, FollowsNoFile};
+ghost use Rattle.liberty_groups.specs.Tables.{tree_of};
+ghost use Rattle.delay_core.specs.LibraryPhases.{ParsesLibrary};
 ghost use Rattle.delay_core.specs.Refused.{AtReadFault, OnRefusal, WithoutFile};
 ghost use Rattle.delay_core.specs.declared.refusal.FileKey.TheVariants.{Lib};
 ghost use Rattle.gdc_run.specs.Verdict.{ReadsArcs, LookupGives};
@@ -14,13 +16,33 @@ use delay_core::{FileKey, Refusal, model_cell, parse_library, read_input};
 use edge_io::{Shelf, Steps, Text};
 use std::alloc::Global;
 use std::sync::ledger::Ledger;
+use timing_arcs::Library;
 use verdict_phases::{NoFileEnd, PhaseEnd};
 
 // The number of the corner of a run with one library.
 const SOLE_CORNER: usize = 0;
 
-/// The rows of the cell of that name in the text of a library, at a point.
-#[tactic(auto, using(crate::specs::Verdict::at_library, crate::specs::Verdict::at_cell, crate::specs::Verdict::of_cell, crate::proofs::Work::no_cell_work, crate::proofs::Work::cell_work, crate::proofs::ArcLemmas::rows_late))]
+// The rows of the cell of that name in a library, at a point.
+#[tactic(auto, using(crate::specs::Verdict::at_cell, crate::specs::Verdict::of_cell, crate::proofs::Work::no_cell_work, crate::proofs::Work::cell_work, crate::proofs::ArcLemmas::rows_late))]
+fn arc_rows_of_cell<L: Ledger>(
+    alloc: Global,
+    library: &Library,
+    cell: &Text,
+    at: Point,
+    steps: &mut Steps<L>,
+) -> Result<ArcRows, NoFileEnd<Refusal>>
+    ensures follows { (bytes : List ℕ) → ParsesLibrary 0 bytes (Ok (tree_of library.now))
+        → FollowsNoFile (ReadsArcs 0 cell.now (unsigned_abs at.slew.0) at.load.0 at.beyond bytes) result }
+    ensures steps { (bytes : List ℕ) → ParsesLibrary 0 bytes (Ok (tree_of library.now))
+        → IsWithin (CellWork 0 cell.now bytes) steps.old steps.new }
+    ensures no_steps { OnRefusal result (λ refusal. IsTrue (is_early refusal) → steps.new ≡ steps.old) }
+{
+    let model = model_cell(alloc, SOLE_CORNER, library, cell)?;
+    arc_rows(alloc, cell, &model, SOLE_CORNER, at, steps)
+}
+
+// The rows of the cell of that name in the text of a library, at a point.
+#[tactic(auto, using(crate::specs::Verdict::at_library, crate::proofs::Work::no_cell_work))]
 fn arc_rows_of_library<L: Ledger>(
     alloc: Global,
     text: Text,
@@ -33,9 +55,8 @@ fn arc_rows_of_library<L: Ledger>(
     ensures steps { IsWithin (CellWork 0 cell.now text) steps.old steps.new }
     ensures no_steps { OnRefusal result (λ refusal. IsTrue (is_early refusal) → steps.new ≡ steps.old) }
 {
-    let tree = parse_library(alloc, SOLE_CORNER, text.bytes())?;
-    let model = model_cell(alloc, SOLE_CORNER, &tree, cell)?;
-    arc_rows(alloc, cell, &model, SOLE_CORNER, at, steps)
+    let library = parse_library(alloc, SOLE_CORNER, text.bytes())?;
+    arc_rows_of_cell(alloc, &library, cell, at, steps)
 }
 
 // The rows of the cell of that name in a library's text, at a point. No file is read here, so no end is a read fault.

@@ -4,8 +4,8 @@ pub mod CellModel
 pub mod CopiedArcs
 pub mod DelayGroups
 pub mod DelayTables
+pub mod IndexedLibrary
 pub mod LibraryBasis
-pub mod LibraryIndex
 pub mod OneAnswer
 pub mod PinModel
 pub mod PinReadings

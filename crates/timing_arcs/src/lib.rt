@@ -7,8 +7,8 @@ mod capacitances;
 mod copied_arcs;
 mod delay_groups;
 mod laws;
+mod library;
 mod library_basis;
-mod library_index;
 mod pins;
 mod related_pins;
 mod units;
@@ -19,4 +19,4 @@ pub use cell_models::{
 };
 pub use laws::one_cell_answer;
 pub use liberty_tables::{CellFault, one_table};
-pub use library_index::{LibraryIndex, build_cell};
+pub use library::Library;

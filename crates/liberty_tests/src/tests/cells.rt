@@ -2,7 +2,7 @@
 use super::cell_faults;
 use super::cell_tables::{CELLS, OUTPUTS, WantedArc, WantedPin};
 use super::library::{LIBRARY, LIBRARY_CELLS};
-use super::models::{built, built_by_index, built_in, built_with};
+use super::models::{built, built_both, built_in, built_with};
 use std::test::Fail;
 use timing_arcs::{Arc, Cell, CellFault, Direction, Pin};
 
@@ -83,7 +83,7 @@ fn one_index_serves_all_cells(rt: HostRuntime) -> Result<(), Fail> {
     let alloc = rt.alloc();
     let (cell, pins, arcs) = LIBRARY_CELLS[0];
     let (other, other_pins, other_arcs) = LIBRARY_CELLS[1];
-    let (one, two) = match built_by_index(alloc, LIBRARY, cell, other) {
+    let (one, two) = match built_both(alloc, LIBRARY, cell, other) {
         Some((one, two)) => (Some(one), Some(two)),
         None => (None, None),
     };

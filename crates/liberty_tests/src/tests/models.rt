@@ -1,8 +1,8 @@
 //! Models of cells that stand in small libraries.
 use edge_io::Text;
-use liberty_groups::{GroupTree, parse};
+use liberty_groups::parse;
 use std::alloc::{AllocError, Global};
-use timing_arcs::{Cell, CellFault, LibraryIndex, build_cell};
+use timing_arcs::{Cell, CellFault, Library};
 
 /// What is built for a cell of a library, or nothing where that is no library, or there is no memory.
 pub fn built(alloc: Global, library: &[u8], cell: &[u8]) -> Option<Result<Cell, CellFault>> {
@@ -11,26 +11,12 @@ pub fn built(alloc: Global, library: &[u8], cell: &[u8]) -> Option<Result<Cell, 
     }
     let tree = parse(alloc, library).ok()?;
     let name = Text::from_bytes(alloc, cell).ok()?;
-    Some(build_cell(alloc, &tree, &name))
+    let library = Library::of(alloc, tree).ok()?;
+    Some(library.build_cell(alloc, &name))
 }
 
-// What is built for two cells of the library of a tree by one index of it.
-fn built_both(
-    alloc: Global,
-    tree: &GroupTree,
-    one: &Text,
-    other: &Text,
-) -> Option<(Result<Cell, CellFault>, Result<Cell, CellFault>)> {
-    let Ok(index) = LibraryIndex::new(alloc, tree) else {
-        return None;
-    };
-    let first = index.build_cell(alloc, tree, one);
-    let second = index.build_cell(alloc, tree, other);
-    Some((first, second))
-}
-
-/// What is built for two cells of a library by one index of it.
-pub fn built_by_index(
+/// What is built for two cells of one library.
+pub fn built_both(
     alloc: Global,
     library: &[u8],
     one: &[u8],
@@ -42,7 +28,10 @@ pub fn built_by_index(
     let one = Text::from_bytes(alloc, one).ok()?;
     let other = Text::from_bytes(alloc, other).ok()?;
     let tree = parse(alloc, library).ok()?;
-    built_both(alloc, &tree, &one, &other)
+    let library = Library::of(alloc, tree).ok()?;
+    let first = library.build_cell(alloc, &one);
+    let second = library.build_cell(alloc, &other);
+    Some((first, second))
 }
 
 /// Texts one behind another.
