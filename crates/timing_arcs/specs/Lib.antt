@@ -1,6 +1,7 @@
 pub mod BuiltParts
 pub mod CellFaults
 pub mod CellModel
+pub mod CellReading
 pub mod CopiedArcs
 pub mod DelayGroups
 pub mod DelayTables

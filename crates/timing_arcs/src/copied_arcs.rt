@@ -1,20 +1,16 @@
 //! The arcs to pins, of which those of one `pin` group have the same.
 ghost use Rattle.std.specs.Prelude.{◌≡◌, ◌<◌, ◌++◌, ◌-◌, length, All, Some, IfOk, OnOk, IfErr, slice_get, flat_map, map, drop};
-ghost use Rattle.std.specs.List.{AllZip};
-ghost use Rattle.liberty_groups.specs.Tables.{tree_of, IsGroup};
-ghost use Rattle.timing_arcs.specs.PinModel.{PinEntry, IsPin};
-ghost use Rattle.timing_arcs.specs.PinTable.{entries_in};
+ghost use Rattle.timing_arcs.specs.PinModel.{PinEntry};
 ghost use Rattle.timing_arcs.specs.DelayGroups.{delays_in, arcs_in};
-ghost use Rattle.timing_arcs.specs.LibraryBasis.{IsBasis, AreAdded, IsNoMemory};
+ghost use Rattle.timing_arcs.specs.LibraryBasis.{AreAdded, IsNoMemory};
 ghost use Rattle.timing_arcs.specs.CopiedArcs.{led_to, AreArcsTo};
+ghost use Rattle.timing_arcs.specs.CellReading.{entries_of, library_of};
 ghost use Rattle.timing_arcs.specs.CellFaults.{delay_questions, IsRefusal};
 
+use crate::cell_reading::CellReading;
 use crate::delay_groups::{add_pin_arcs, copied};
-use crate::library_basis::LibraryBasis;
-use crate::pins::PinTable;
-use cell_models::{Arc, Pin};
+use cell_models::Arc;
 use edge_io::OutOfMemory;
-use liberty_groups::GroupTree;
 use liberty_tables::CellFault;
 use std::alloc::Global;
 
@@ -50,35 +46,28 @@ fn copy_arcs(start: usize, to: usize, arcs: &mut Vec<Arc>) -> Result<(), CellFau
 /// arcs: the group is read once for all of its names.
 pub(crate) fn add_next_arcs(
     alloc: Global,
-    tree: &GroupTree,
-    basis: &LibraryBasis,
-    table: &PinTable,
-    pins: &[Pin],
+    cell: &CellReading<'_>,
     to: usize,
     start: usize,
     arcs: &mut Vec<Arc>,
 ) -> Result<(), CellFault>
-    requires basis { IsBasis tree.now basis.now }
-    requires even { length table.now.names ≡ length table.now.groups.items }
-    requires within { All (λ id. IsGroup tree.now id.0) table.now.groups.items }
-    requires pins { AllZip (IsPin (tree_of tree.now)) (entries_in tree.now table.now.names table.now.groups.items) pins.now }
-    requires to { to < length pins.now }
+    requires to { to < length cell.now.pins }
     requires before { 0 < to → (entry : PinEntry)
-        → slice_get (entries_in tree.now table.now.names table.now.groups.items) (to - 1) ≡ Some entry
-        → AreArcsTo (tree_of tree.now) table.now.names (entries_in tree.now table.now.names table.now.groups.items) entry
+        → slice_get (entries_of cell.now) (to - 1) ≡ Some entry
+        → AreArcsTo (library_of cell.now) cell.now.names (entries_of cell.now) entry
         (drop start arcs.old.items) }
-    ensures ok { (entry : PinEntry) → slice_get (entries_in tree.now table.now.names table.now.groups.items) to ≡ Some entry
-        → OnOk result (AreAdded (tree_of tree.now) table.now.names
-        (flat_map (arcs_in (entries_in tree.now table.now.names table.now.groups.items)) (delays_in entry))
-        (flat_map (delay_questions (entries_in tree.now table.now.names table.now.groups.items)) (delays_in entry))
+    ensures ok { (entry : PinEntry) → slice_get (entries_of cell.now) to ≡ Some entry
+        → OnOk result (AreAdded (library_of cell.now) cell.now.names
+        (flat_map (arcs_in (entries_of cell.now)) (delays_in entry))
+        (flat_map (delay_questions (entries_of cell.now)) (delays_in entry))
         arcs.old.items arcs.new.items) }
-    ensures refused { (entry : PinEntry) → slice_get (entries_in tree.now table.now.names table.now.groups.items) to ≡ Some entry
-        → IfErr result (IsRefusal (tree_of tree.now)
-        (flat_map (delay_questions (entries_in tree.now table.now.names table.now.groups.items)) (delays_in entry))) }
+    ensures refused { (entry : PinEntry) → slice_get (entries_of cell.now) to ≡ Some entry
+        → IfErr result (IsRefusal (library_of cell.now)
+        (flat_map (delay_questions (entries_of cell.now)) (delays_in entry))) }
 {
-    if table.repeats(to) {
+    if cell.repeats(to) {
         copy_arcs(start, to, arcs)
     } else {
-        add_pin_arcs(alloc, tree, basis, table, pins, to, arcs)
+        add_pin_arcs(alloc, cell, to, arcs)
     }
 }

@@ -1,20 +1,18 @@
 //! The delay groups of a cell and their arcs (Liberty, `timing`).
 ghost use Rattle.std.specs.Prelude.{◌≡◌, ℕ, ◌<◌, ◌++◌, ◌∷◌, [], length, List, All, Some, IfOk, OnOk, IfErr, IfSome, IfNone, slice_get, flat_map, filter, map, codes, is_some, unwrap_or};
 ghost use Rattle.std.specs.Option.{option_map};
-ghost use Rattle.std.specs.List.{AllZip};
 ghost use Rattle.liberty_groups.specs.Groups.{Group, groups_of};
 ghost use Rattle.liberty_groups.specs.Tables.{tree_of, group_at, IsGroup};
 ghost use Rattle.liberty_tables.specs.Library.{value_in, first_group};
-ghost use Rattle.timing_arcs.specs.PinModel.{PinEntry, is_output, IsPin};
-ghost use Rattle.timing_arcs.specs.PinTable.{entry_at, entries_in};
+ghost use Rattle.timing_arcs.specs.PinModel.{PinEntry, is_output};
 ghost use Rattle.timing_arcs.specs.DelayGroups.{is_delay_type, is_delay_group, delays_in, kind_by, kind_of, ArcEntry, arcs_in, AreEdgeTables, IsRise, IsFall, IsArc};
-ghost use Rattle.timing_arcs.specs.LibraryBasis.{IsBasis, IsTiming, AddsArcs, AreAdded, arcs_from, questions_from, IsNoMemory};
+ghost use Rattle.timing_arcs.specs.LibraryBasis.{IsTiming, AddsArcs, AreAdded, arcs_from, questions_from, IsNoMemory};
+ghost use Rattle.timing_arcs.specs.CellReading.{entries_of, library_of, delay_at};
 ghost use Rattle.timing_arcs.specs.CellFaults.{edge_questions, rise_questions, fall_questions, delay_questions, IsSound, IsRefusal};
 
-use crate::library_basis::{LibraryBasis, delay_table, transition_table};
-use crate::pins::PinTable;
+use crate::cell_reading::CellReading;
 use crate::related_pins::related_places;
-use cell_models::{Arc, ArcKind, Direction, EdgeTables, Pin};
+use cell_models::{Arc, ArcKind, Direction, EdgeTables};
 use edge_io::OutOfMemory;
 use liberty_groups::{GroupId, GroupTree};
 use liberty_tables::{CellFault, first_group, is_named, value_in};
@@ -102,31 +100,29 @@ fn kind_of(tree: &GroupTree, group: GroupId) -> ArcKind
 #[tactic(auto, using(crate::proofs::EdgeLemmas::edge_ok, crate::proofs::EdgeLemmas::edge_sound, crate::proofs::EdgeLemmas::delay_refused, crate::proofs::EdgeLemmas::transition_missing, crate::proofs::EdgeLemmas::slew_refused))]
 fn read_tables(
     alloc: Global,
-    tree: &GroupTree,
-    basis: &LibraryBasis,
+    cell: &CellReading<'_>,
     delay: GroupId,
     slew: Option<GroupId>,
 ) -> Result<EdgeTables, CellFault>
-    requires basis { IsBasis tree.now basis.now }
-    requires delay { IsGroup tree.now delay.0 }
-    requires slew { IfSome slew (λ slew. IsGroup tree.now slew.0) }
-    ensures ok { IfOk result (λ tables. AreEdgeTables (tree_of tree.now) (Some (group_at tree.now delay.0))
-        (option_map (λ slew. group_at tree.now slew.0) slew) (Some tables)) }
+    requires delay { IsGroup cell.now.tree delay.0 }
+    requires slew { IfSome slew (λ slew. IsGroup cell.now.tree slew.0) }
+    ensures ok { IfOk result (λ tables. AreEdgeTables (library_of cell.now) (Some (group_at cell.now.tree delay.0))
+        (option_map (λ slew. group_at cell.now.tree slew.0) slew) (Some tables)) }
     ensures sound { OnOk result
-        (All (IsSound (tree_of tree.now))
-        (edge_questions (Some (group_at tree.now delay.0)) (option_map (λ slew. group_at tree.now slew.0) slew))) }
+        (All (IsSound (library_of cell.now))
+        (edge_questions (Some (group_at cell.now.tree delay.0)) (option_map (λ slew. group_at cell.now.tree slew.0) slew))) }
     ensures refused { IfErr result
-        (IsRefusal (tree_of tree.now)
-        (edge_questions (Some (group_at tree.now delay.0)) (option_map (λ slew. group_at tree.now slew.0) slew))) }
+        (IsRefusal (library_of cell.now)
+        (edge_questions (Some (group_at cell.now.tree delay.0)) (option_map (λ slew. group_at cell.now.tree slew.0) slew))) }
 {
-    let table = match delay_table(alloc, tree, basis, delay) {
+    let table = match cell.delay_table(alloc, delay) {
         Ok(table) => table,
         Err(fault) => return Err(fault),
     };
     let Some(slew) = slew else {
         return Err(CellFault::NoTransition);
     };
-    match transition_table(alloc, tree, basis, slew) {
+    match cell.transition_table(alloc, slew) {
         Ok(slew) => Ok(EdgeTables { delay: table, slew }),
         Err(fault) => Err(fault),
     }
@@ -136,26 +132,26 @@ fn read_tables(
 #[tactic(auto, using(crate::specs::DelayGroups::no_edge, crate::proofs::EdgeLemmas::none_sound))]
 fn read_edge(
     alloc: Global,
-    tree: &GroupTree,
-    basis: &LibraryBasis,
+    cell: &CellReading<'_>,
     delay: Option<GroupId>,
     slew: Option<GroupId>,
 ) -> Result<Option<EdgeTables>, CellFault>
-    requires basis { IsBasis tree.now basis.now }
-    requires delay { IfSome delay (λ delay. IsGroup tree.now delay.0) }
-    requires slew { IfSome slew (λ slew. IsGroup tree.now slew.0) }
-    ensures ok { IfOk result (AreEdgeTables (tree_of tree.now) (option_map (λ delay. group_at tree.now delay.0) delay)
-        (option_map (λ slew. group_at tree.now slew.0) slew)) }
+    requires delay { IfSome delay (λ delay. IsGroup cell.now.tree delay.0) }
+    requires slew { IfSome slew (λ slew. IsGroup cell.now.tree slew.0) }
+    ensures ok { IfOk result (AreEdgeTables (library_of cell.now) (option_map (λ delay. group_at cell.now.tree delay.0) delay)
+        (option_map (λ slew. group_at cell.now.tree slew.0) slew)) }
     ensures sound { OnOk result
-        (All (IsSound (tree_of tree.now))
-        (edge_questions (option_map (λ delay. group_at tree.now delay.0) delay) (option_map (λ slew. group_at tree.now slew.0) slew))) }
+        (All (IsSound (library_of cell.now))
+        (edge_questions (option_map (λ delay. group_at cell.now.tree delay.0) delay)
+        (option_map (λ slew. group_at cell.now.tree slew.0) slew))) }
     ensures refused { IfErr result
-        (IsRefusal (tree_of tree.now)
-        (edge_questions (option_map (λ delay. group_at tree.now delay.0) delay) (option_map (λ slew. group_at tree.now slew.0) slew))) }
+        (IsRefusal (library_of cell.now)
+        (edge_questions (option_map (λ delay. group_at cell.now.tree delay.0) delay)
+        (option_map (λ slew. group_at cell.now.tree slew.0) slew))) }
 {
     match delay {
         None => Ok(None),
-        Some(delay) => match read_tables(alloc, tree, basis, delay, slew) {
+        Some(delay) => match read_tables(alloc, cell, delay, slew) {
             Ok(tables) => Ok(Some(tables)),
             Err(fault) => Err(fault),
         },
@@ -165,37 +161,33 @@ fn read_edge(
 /// The tables of the rise of a delay group.
 fn read_rise(
     alloc: Global,
-    tree: &GroupTree,
-    basis: &LibraryBasis,
+    cell: &CellReading<'_>,
     group: GroupId,
 ) -> Result<Option<EdgeTables>, CellFault>
-    requires basis { IsBasis tree.now basis.now }
-    requires group { IsGroup tree.now group.0 }
-    ensures ok { IfOk result (IsRise (tree_of tree.now) (group_at tree.now group.0)) }
-    ensures sound { OnOk result (All (IsSound (tree_of tree.now)) (rise_questions (group_at tree.now group.0))) }
-    ensures refused { IfErr result (IsRefusal (tree_of tree.now) (rise_questions (group_at tree.now group.0))) }
+    requires group { IsGroup cell.now.tree group.0 }
+    ensures ok { IfOk result (IsRise (library_of cell.now) (group_at cell.now.tree group.0)) }
+    ensures sound { OnOk result (All (IsSound (library_of cell.now)) (rise_questions (group_at cell.now.tree group.0))) }
+    ensures refused { IfErr result (IsRefusal (library_of cell.now) (rise_questions (group_at cell.now.tree group.0))) }
 {
-    let delay = first_group(tree, group, b"cell_rise");
-    let slew = first_group(tree, group, b"rise_transition");
-    read_edge(alloc, tree, basis, delay, slew)
+    let delay = cell.first_group(group, b"cell_rise");
+    let slew = cell.first_group(group, b"rise_transition");
+    read_edge(alloc, cell, delay, slew)
 }
 
 /// The tables of its fall.
 fn read_fall(
     alloc: Global,
-    tree: &GroupTree,
-    basis: &LibraryBasis,
+    cell: &CellReading<'_>,
     group: GroupId,
 ) -> Result<Option<EdgeTables>, CellFault>
-    requires basis { IsBasis tree.now basis.now }
-    requires group { IsGroup tree.now group.0 }
-    ensures ok { IfOk result (IsFall (tree_of tree.now) (group_at tree.now group.0)) }
-    ensures sound { OnOk result (All (IsSound (tree_of tree.now)) (fall_questions (group_at tree.now group.0))) }
-    ensures refused { IfErr result (IsRefusal (tree_of tree.now) (fall_questions (group_at tree.now group.0))) }
+    requires group { IsGroup cell.now.tree group.0 }
+    ensures ok { IfOk result (IsFall (library_of cell.now) (group_at cell.now.tree group.0)) }
+    ensures sound { OnOk result (All (IsSound (library_of cell.now)) (fall_questions (group_at cell.now.tree group.0))) }
+    ensures refused { IfErr result (IsRefusal (library_of cell.now) (fall_questions (group_at cell.now.tree group.0))) }
 {
-    let delay = first_group(tree, group, b"cell_fall");
-    let slew = first_group(tree, group, b"fall_transition");
-    read_edge(alloc, tree, basis, delay, slew)
+    let delay = cell.first_group(group, b"cell_fall");
+    let slew = cell.first_group(group, b"fall_transition");
+    read_edge(alloc, cell, delay, slew)
 }
 
 pub(crate) fn copied(tables: &Option<EdgeTables>) -> Result<Option<EdgeTables>, OutOfMemory>
@@ -216,27 +208,24 @@ struct Timing {
 }
 
 // What the arcs of a delay group have in common: the rise is read before the fall.
-fn read_timing(
-    alloc: Global,
-    tree: &GroupTree,
-    basis: &LibraryBasis,
-    group: GroupId,
-) -> Result<Timing, CellFault>
-    requires basis { IsBasis tree.now basis.now }
-    requires group { IsGroup tree.now group.0 }
-    ensures ok { IfOk result (λ timing. IsTiming (tree_of tree.now) (group_at tree.now group.0) timing.kind timing.rise timing.fall) }
+fn read_timing(alloc: Global, cell: &CellReading<'_>, group: GroupId) -> Result<Timing, CellFault>
+    requires group { IsGroup cell.now.tree group.0 }
+    ensures ok { IfOk result (λ timing. IsTiming (library_of cell.now) (group_at cell.now.tree group.0)
+        timing.kind timing.rise timing.fall) }
     ensures sound { OnOk result
-        (All (IsSound (tree_of tree.now)) (rise_questions (group_at tree.now group.0) ++ fall_questions (group_at tree.now group.0))) }
+        (All (IsSound (library_of cell.now))
+        (rise_questions (group_at cell.now.tree group.0) ++ fall_questions (group_at cell.now.tree group.0))) }
     ensures refused { IfErr result
-        (IsRefusal (tree_of tree.now) (rise_questions (group_at tree.now group.0) ++ fall_questions (group_at tree.now group.0))) }
+        (IsRefusal (library_of cell.now)
+        (rise_questions (group_at cell.now.tree group.0) ++ fall_questions (group_at cell.now.tree group.0))) }
 {
-    let rise = match read_rise(alloc, tree, basis, group) {
+    let rise = match read_rise(alloc, cell, group) {
         Ok(rise) => rise,
         Err(fault) => return Err(fault),
     };
-    match read_fall(alloc, tree, basis, group) {
+    match read_fall(alloc, cell, group) {
         Ok(fall) => Ok(Timing {
-            kind: kind_of(tree, group),
+            kind: kind_of(cell.tree(), group),
             rise,
             fall,
         }),
@@ -272,32 +261,27 @@ fn push_arcs(
 // The arcs of a delay group of the pin at a place.
 fn add_arcs(
     alloc: Global,
-    tree: &GroupTree,
-    basis: &LibraryBasis,
-    table: &PinTable,
-    pins: &[Pin],
+    cell: &CellReading<'_>,
     to: usize,
     group: GroupId,
     arcs: &mut Vec<Arc>,
 ) -> Result<(), CellFault>
-    requires basis { IsBasis tree.now basis.now }
-    requires group { IsGroup tree.now group.0 }
-    requires even { length table.now.names ≡ length table.now.groups.items }
-    requires pins { AllZip (IsPin (tree_of tree.now)) (entries_in tree.now table.now.names table.now.groups.items) pins.now }
-    ensures ok { (name : List ℕ) → slice_get table.now.names to ≡ Some name → OnOk result (AreAdded (tree_of tree.now) table.now.names
-        (arcs_in (entries_in tree.now table.now.names table.now.groups.items) (record { to = name; group = group_at tree.now group.0 }))
-        (delay_questions (entries_in tree.now table.now.names table.now.groups.items)
-        (record { to = name; group = group_at tree.now group.0 })) arcs.old.items arcs.new.items) }
+    requires group { IsGroup cell.now.tree group.0 }
+    ensures ok { (name : List ℕ) → slice_get cell.now.names to ≡ Some name
+        → OnOk result (AreAdded (library_of cell.now) cell.now.names
+        (arcs_in (entries_of cell.now) (delay_at cell.now name group))
+        (delay_questions (entries_of cell.now)
+        (delay_at cell.now name group)) arcs.old.items arcs.new.items) }
     ensures refused { (name : List ℕ) → IfErr result
-        (IsRefusal (tree_of tree.now)
-        (delay_questions (entries_in tree.now table.now.names table.now.groups.items)
-        (record { to = name; group = group_at tree.now group.0 }))) }
+        (IsRefusal (library_of cell.now)
+        (delay_questions (entries_of cell.now)
+        (delay_at cell.now name group))) }
 {
-    let places = match related_places(alloc, tree, table, pins, group) {
+    let places = match related_places(alloc, cell, group) {
         Ok(places) => places,
         Err(fault) => return Err(fault),
     };
-    let timing = match read_timing(alloc, tree, basis, group) {
+    let timing = match read_timing(alloc, cell, group) {
         Ok(timing) => timing,
         Err(fault) => return Err(fault),
     };
@@ -307,28 +291,23 @@ fn add_arcs(
 // The arcs of a group in the pin at a place, if it is a delay group.
 fn add_group(
     alloc: Global,
-    tree: &GroupTree,
-    basis: &LibraryBasis,
-    table: &PinTable,
-    pins: &[Pin],
+    cell: &CellReading<'_>,
     to: usize,
     group: GroupId,
     arcs: &mut Vec<Arc>,
 ) -> Result<(), CellFault>
-    requires basis { IsBasis tree.now basis.now }
-    requires group { IsGroup tree.now group.0 }
-    requires even { length table.now.names ≡ length table.now.groups.items }
-    requires pins { AllZip (IsPin (tree_of tree.now)) (entries_in tree.now table.now.names table.now.groups.items) pins.now }
-    ensures ok { (name : List ℕ) → slice_get table.now.names to ≡ Some name → OnOk result (AreAdded (tree_of tree.now) table.now.names
-        (arcs_from (entries_in tree.now table.now.names table.now.groups.items) name (group_at tree.now group.0))
-        (questions_from (entries_in tree.now table.now.names table.now.groups.items) name (group_at tree.now group.0))
+    requires group { IsGroup cell.now.tree group.0 }
+    ensures ok { (name : List ℕ) → slice_get cell.now.names to ≡ Some name
+        → OnOk result (AreAdded (library_of cell.now) cell.now.names
+        (arcs_from (entries_of cell.now) name (group_at cell.now.tree group.0))
+        (questions_from (entries_of cell.now) name (group_at cell.now.tree group.0))
         arcs.old.items arcs.new.items) }
     ensures refused { (name : List ℕ) → IfErr result
-        (IsRefusal (tree_of tree.now)
-        (questions_from (entries_in tree.now table.now.names table.now.groups.items) name (group_at tree.now group.0))) }
+        (IsRefusal (library_of cell.now)
+        (questions_from (entries_of cell.now) name (group_at cell.now.tree group.0))) }
 {
-    if is_delay_group(tree, group) {
-        add_arcs(alloc, tree, basis, table, pins, to, group, arcs)
+    if is_delay_group(cell.tree(), group) {
+        add_arcs(alloc, cell, to, group, arcs)
     } else {
         Ok(())
     }
@@ -337,31 +316,25 @@ fn add_group(
 // The arcs of the groups in the pin at a place.
 fn add_groups(
     alloc: Global,
-    tree: &GroupTree,
-    basis: &LibraryBasis,
-    table: &PinTable,
-    pins: &[Pin],
+    cell: &CellReading<'_>,
     to: usize,
     arcs: &mut Vec<Arc>,
 ) -> Result<(), CellFault>
-    requires basis { IsBasis tree.now basis.now }
-    requires even { length table.now.names ≡ length table.now.groups.items }
-    requires within { All (λ id. IsGroup tree.now id.0) table.now.groups.items }
-    requires pins { AllZip (IsPin (tree_of tree.now)) (entries_in tree.now table.now.names table.now.groups.items) pins.now }
-    requires to { to < length table.now.groups.items }
-    ensures ok { (entry : PinEntry) → slice_get (entries_in tree.now table.now.names table.now.groups.items) to ≡ Some entry
-        → OnOk result (AreAdded (tree_of tree.now) table.now.names
-        (flat_map (arcs_from (entries_in tree.now table.now.names table.now.groups.items) entry.name) (groups_of entry.group))
-        (flat_map (questions_from (entries_in tree.now table.now.names table.now.groups.items) entry.name) (groups_of entry.group))
+    requires to { to < length cell.now.pins }
+    ensures ok { (entry : PinEntry) → slice_get (entries_of cell.now) to ≡ Some entry
+        → OnOk result (AreAdded (library_of cell.now) cell.now.names
+        (flat_map (arcs_from (entries_of cell.now) entry.name) (groups_of entry.group))
+        (flat_map (questions_from (entries_of cell.now) entry.name) (groups_of entry.group))
         arcs.old.items arcs.new.items) }
-    ensures refused { (entry : PinEntry) → slice_get (entries_in tree.now table.now.names table.now.groups.items) to ≡ Some entry
-        → IfErr result (IsRefusal (tree_of tree.now)
-        (flat_map (questions_from (entries_in tree.now table.now.names table.now.groups.items) entry.name) (groups_of entry.group))) }
+    ensures refused { (entry : PinEntry) → slice_get (entries_of cell.now) to ≡ Some entry
+        → IfErr result (IsRefusal (library_of cell.now)
+        (flat_map (questions_from (entries_of cell.now) entry.name) (groups_of entry.group))) }
 {
-    let pin = table.group(to);
+    let tree = cell.tree();
+    let pin = cell.group(to);
     for place in 0..tree.child_count(pin) {
         let group = tree.child(pin, place);
-        match add_group(alloc, tree, basis, table, pins, to, group, arcs) {
+        match add_group(alloc, cell, to, group, arcs) {
             Ok(_) => {}
             Err(fault) => return Err(fault),
         }
@@ -381,29 +354,22 @@ fn is_output(direction: Direction) -> bool
 /// The arcs to the pin at a place: an output pin alone has some.
 pub(crate) fn add_pin_arcs(
     alloc: Global,
-    tree: &GroupTree,
-    basis: &LibraryBasis,
-    table: &PinTable,
-    pins: &[Pin],
+    cell: &CellReading<'_>,
     to: usize,
     arcs: &mut Vec<Arc>,
 ) -> Result<(), CellFault>
-    requires basis { IsBasis tree.now basis.now }
-    requires even { length table.now.names ≡ length table.now.groups.items }
-    requires within { All (λ id. IsGroup tree.now id.0) table.now.groups.items }
-    requires pins { AllZip (IsPin (tree_of tree.now)) (entries_in tree.now table.now.names table.now.groups.items) pins.now }
-    requires to { to < length pins.now }
-    ensures ok { (entry : PinEntry) → slice_get (entries_in tree.now table.now.names table.now.groups.items) to ≡ Some entry
-        → OnOk result (AreAdded (tree_of tree.now) table.now.names
-        (flat_map (arcs_in (entries_in tree.now table.now.names table.now.groups.items)) (delays_in entry))
-        (flat_map (delay_questions (entries_in tree.now table.now.names table.now.groups.items)) (delays_in entry))
+    requires to { to < length cell.now.pins }
+    ensures ok { (entry : PinEntry) → slice_get (entries_of cell.now) to ≡ Some entry
+        → OnOk result (AreAdded (library_of cell.now) cell.now.names
+        (flat_map (arcs_in (entries_of cell.now)) (delays_in entry))
+        (flat_map (delay_questions (entries_of cell.now)) (delays_in entry))
         arcs.old.items arcs.new.items) }
-    ensures refused { (entry : PinEntry) → slice_get (entries_in tree.now table.now.names table.now.groups.items) to ≡ Some entry
-        → IfErr result (IsRefusal (tree_of tree.now)
-        (flat_map (delay_questions (entries_in tree.now table.now.names table.now.groups.items)) (delays_in entry))) }
+    ensures refused { (entry : PinEntry) → slice_get (entries_of cell.now) to ≡ Some entry
+        → IfErr result (IsRefusal (library_of cell.now)
+        (flat_map (delay_questions (entries_of cell.now)) (delays_in entry))) }
 {
-    if is_output(pins[to].direction) {
-        add_groups(alloc, tree, basis, table, pins, to, arcs)
+    if is_output(cell.pin(to).direction) {
+        add_groups(alloc, cell, to, arcs)
     } else {
         Ok(())
     }

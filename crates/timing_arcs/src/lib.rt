@@ -4,6 +4,7 @@
 
 mod building;
 mod capacitances;
+mod cell_reading;
 mod copied_arcs;
 mod delay_groups;
 mod laws;

@@ -1,8 +1,7 @@
 //! What the pins and the tables of all cells of a library stand on, read once.
 ghost use Rattle.std.specs.Prelude.{◌≡◌, IfOk, IfErr};
-ghost use Rattle.liberty_groups.specs.Tables.{tree_of, group_at, IsGroup};
+ghost use Rattle.liberty_groups.specs.Tables.{tree_of};
 ghost use Rattle.liberty_tables.specs.LibraryUnits.{AreUnits};
-ghost use Rattle.liberty_tables.specs.TableModel.{TableMeans, TransitionMeans};
 ghost use Rattle.timing_arcs.specs.CellFaults.{unit_questions, IsRefusal};
 ghost use Rattle.timing_arcs.specs.DelayTables.{delay_names};
 ghost use Rattle.timing_arcs.specs.LibraryBasis.{IsBasis};
@@ -10,11 +9,8 @@ ghost use Rattle.timing_arcs.specs.LibraryBasis.{IsBasis};
 use crate::capacitances::default_capacitance;
 use crate::units::library_units;
 use edge_io::{OutOfMemory, Text};
-use liberty_groups::{GroupId, GroupTree};
-use liberty_tables::{
-    CellFault, LibraryUnits, TableNames, Templates, build_table, build_transition,
-};
-use nldm_lookup::Table;
+use liberty_groups::GroupTree;
+use liberty_tables::{CellFault, LibraryUnits, TableNames, Templates};
 use std::alloc::Global;
 
 /// What the pins and the tables of all cells of a library stand on: its units, what the variables of its tables are called, its templates,
@@ -75,46 +71,4 @@ pub(crate) fn library_basis(
         }
         Err(fault) => Ok(Err(fault)),
     }
-}
-
-/// The table of delays of a group.
-pub(crate) fn delay_table(
-    alloc: Global,
-    tree: &GroupTree,
-    basis: &LibraryBasis,
-    group: GroupId,
-) -> Result<Table, CellFault>
-    requires basis { IsBasis tree.now basis.now }
-    requires group { IsGroup tree.now group.0 }
-    ensures means { TableMeans delay_names (tree_of tree.now) (group_at tree.now group.0) basis.now.units result }
-{
-    build_table(
-        alloc,
-        tree,
-        group,
-        &basis.called,
-        &basis.templates,
-        &basis.units,
-    )
-}
-
-/// The table of transitions of a group.
-pub(crate) fn transition_table(
-    alloc: Global,
-    tree: &GroupTree,
-    basis: &LibraryBasis,
-    group: GroupId,
-) -> Result<Table, CellFault>
-    requires basis { IsBasis tree.now basis.now }
-    requires group { IsGroup tree.now group.0 }
-    ensures means { TransitionMeans delay_names (tree_of tree.now) (group_at tree.now group.0) basis.now.units result }
-{
-    build_transition(
-        alloc,
-        tree,
-        group,
-        &basis.called,
-        &basis.templates,
-        &basis.units,
-    )
 }

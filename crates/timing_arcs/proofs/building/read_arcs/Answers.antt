@@ -17,29 +17,33 @@ use Rattle.timing_arcs.proofs.building.read_arcs.Goals as goal
 
 pub loop-to-init : goal.loop-to-init
 loop-to-init c = record {
-  added = subst (AreAdded (tree_of c.args.tree.now) c.args.table.now.names [] [] []) (sym c.new-arcs.ensures.items) (nothing_added (tree_of c.args.tree.now) c.args.table.now.names []);
+  added = subst (AreAdded (tree_of c.args.cell.now.tree) c.args.cell.now.names [] [] []) (sym c.new-arcs.ensures.items) (nothing_added (tree_of c.args.cell.now.tree) c.args.cell.now.names []);
   last = λ none. absurd (omega (arith, none));
 }
 
 pub returns-in-Err-clause-refused : goal.returns-in-Err-clause-refused
 returns-in-Err-clause-refused c =
-    let entries = entries_in c.args.tree.now c.args.table.now.names c.args.table.now.groups.items in
-    let long = zip_length (IsPin (tree_of c.args.tree.now)) entries c.args.pins.now c.requires.pins in
+    let entries = entries_in c.args.cell.now.tree c.args.cell.now.names c.args.cell.now.groups in
+    let its = c.pin_count-to-end.ensures.reading in
+    let count = c.pin_count-to-end.ensures.count in
+    let long = zip_length (IsPin (tree_of c.args.cell.now.tree)) entries c.args.cell.now.pins its.pins in
     let test = c.loop-to-test.true in
-    let below : c.loop-to.to < length entries = omega (arith, long, test) in
+    let below : c.loop-to.to < length entries = omega (arith, long, count, test) in
     let entry = got_below entries c.loop-to.to below in
     let asks = λ (x : PinEntry). flat_map (delay_questions entries) (delays_in x) in
-    subst (λ l. IsRefusal (tree_of c.args.tree.now) l c.in-Err.fault) (parts_in_parts (delay_questions entries) delays_in entries)
+    subst (λ l. IsRefusal (tree_of c.args.cell.now.tree) l c.in-Err.fault) (parts_in_parts (delay_questions entries) delays_in entries)
     (refused_part asks entries c.loop-to.to entry.0 entry.1 c.loop-to.invariant.added.sound (c.in-Err.ensures.refused entry.0 entry.1))
 
 pub loop-to-preserved : goal.loop-to-preserved
 loop-to-preserved c =
-    let library = tree_of c.args.tree.now in
-    let names = c.args.table.now.names in
-    let entries = entries_in c.args.tree.now names c.args.table.now.groups.items in
-    let long = zip_length (IsPin library) entries c.args.pins.now c.requires.pins in
+    let library = tree_of c.args.cell.now.tree in
+    let names = c.args.cell.now.names in
+    let entries = entries_in c.args.cell.now.tree names c.args.cell.now.groups in
+    let its = c.pin_count-to-end.ensures.reading in
+    let count = c.pin_count-to-end.ensures.count in
+    let long = zip_length (IsPin library) entries c.args.cell.now.pins its.pins in
     let test = c.loop-to-test.true in
-    let below : c.loop-to.to < length entries = omega (arith, long, test) in
+    let below : c.loop-to.to < length entries = omega (arith, long, count, test) in
     let entry = got_below entries c.loop-to.to below in
     let of = λ (x : PinEntry). flat_map (arcs_in entries) (delays_in x) in
     let added = c.in-Ok.ensures.ok entry.0 entry.1 in
@@ -57,9 +61,11 @@ loop-to-preserved c =
 
 pub returns-clause-ok : goal.returns-clause-ok
 returns-clause-ok c =
-    let entries = entries_in c.args.tree.now c.args.table.now.names c.args.table.now.groups.items in
-    let long = zip_length (IsPin (tree_of c.args.tree.now)) entries c.args.pins.now c.requires.pins in
+    let entries = entries_in c.args.cell.now.tree c.args.cell.now.names c.args.cell.now.groups in
+    let its = c.pin_count-to-end.ensures.reading in
+    let count = c.pin_count-to-end.ensures.count in
+    let long = zip_length (IsPin (tree_of c.args.cell.now.tree)) entries c.args.cell.now.pins its.pins in
     let ends = c.loop-to-test.false in
-    let past : length entries ≤ c.loop-to.to = omega (arith, long, ends) in
-    arcs_of_all (tree_of c.args.tree.now) c.args.table.now.names entries c.loop-to.arcs.items
-    (added_all (tree_of c.args.tree.now) c.args.table.now.names (λ (x : PinEntry). flat_map (arcs_in entries) (delays_in x)) (λ (x : PinEntry). flat_map (delay_questions entries) (delays_in x)) entries c.loop-to.to [] c.loop-to.arcs.items past c.loop-to.invariant.added)
+    let past : length entries ≤ c.loop-to.to = omega (arith, long, count, ends) in
+    arcs_of_all (tree_of c.args.cell.now.tree) c.args.cell.now.names entries c.loop-to.arcs.items
+    (added_all (tree_of c.args.cell.now.tree) c.args.cell.now.names (λ (x : PinEntry). flat_map (arcs_in entries) (delays_in x)) (λ (x : PinEntry). flat_map (delay_questions entries) (delays_in x)) entries c.loop-to.to [] c.loop-to.arcs.items past c.loop-to.invariant.added)

@@ -12,8 +12,8 @@ use Rattle.timing_arcs.proofs.building.read_arcs.Given as goal
 
 abbrev pub invariant-loop-to : goal.invariant-loop-to
 invariant-loop-to l = record {
-  added : AreAdded (tree_of l.tree) l.table.names (flat_map (λ entry. flat_map (arcs_in (entries_in l.tree l.table.names l.table.groups.items)) (delays_in entry)) (take l.to (entries_in l.tree l.table.names l.table.groups.items)))
-      (flat_map (λ entry. flat_map (delay_questions (entries_in l.tree l.table.names l.table.groups.items)) (delays_in entry)) (take l.to (entries_in l.tree l.table.names l.table.groups.items))) [] l.arcs.items;
-  last : 0 < l.to → (entry : PinEntry) → slice_get (entries_in l.tree l.table.names l.table.groups.items) (l.to - 1) ≡ Some entry
-      → AreArcsTo (tree_of l.tree) l.table.names (entries_in l.tree l.table.names l.table.groups.items) entry (drop l.start l.arcs.items);
+  added : AreAdded (tree_of l.cell.tree) l.cell.names (flat_map (λ entry. flat_map (arcs_in (entries_in l.cell.tree l.cell.names l.cell.groups)) (delays_in entry)) (take l.to (entries_in l.cell.tree l.cell.names l.cell.groups)))
+      (flat_map (λ entry. flat_map (delay_questions (entries_in l.cell.tree l.cell.names l.cell.groups)) (delays_in entry)) (take l.to (entries_in l.cell.tree l.cell.names l.cell.groups))) [] l.arcs.items;
+  last : 0 < l.to → (entry : PinEntry) → slice_get (entries_in l.cell.tree l.cell.names l.cell.groups) (l.to - 1) ≡ Some entry
+      → AreArcsTo (tree_of l.cell.tree) l.cell.names (entries_in l.cell.tree l.cell.names l.cell.groups) entry (drop l.start l.arcs.items);
 }

@@ -9,19 +9,19 @@ use Rattle.timing_arcs.proofs.delay_groups.add_arcs.Goals as goal
 
 pub returns-in-Err-clause-refused : goal.returns-in-Err-clause-refused
 returns-in-Err-clause-refused c = λ name.
-    refused_related (tree_of c.args.tree.now) (entries_in c.args.tree.now c.args.table.now.names c.args.table.now.groups.items) name (group_at c.args.tree.now c.args.group.0) c.in-Err.fault c.in-Err.ensures.err
+    refused_related (tree_of c.args.cell.now.tree) (entries_in c.args.cell.now.tree c.args.cell.now.names c.args.cell.now.groups) name (group_at c.args.cell.now.tree c.args.group.0) c.in-Err.fault c.in-Err.ensures.err
 
 pub returns-in-Err-read_timing-clause-refused : goal.returns-in-Err-read_timing-clause-refused
 returns-in-Err-read_timing-clause-refused c = λ name.
-    refused_timing (tree_of c.args.tree.now) (entries_in c.args.tree.now c.args.table.now.names c.args.table.now.groups.items) c.args.table.now.names name (group_at c.args.tree.now c.args.group.0) c.in-Ok.places.items c.in-Err-read_timing.fault c.in-Ok.ensures.ok c.in-Err-read_timing.ensures.refused
+    refused_timing (tree_of c.args.cell.now.tree) (entries_in c.args.cell.now.tree c.args.cell.now.names c.args.cell.now.groups) c.args.cell.now.names name (group_at c.args.cell.now.tree c.args.group.0) c.in-Ok.places.items c.in-Err-read_timing.fault c.in-Ok.ensures.ok c.in-Err-read_timing.ensures.refused
 
 pub returns-clause-ok : goal.returns-clause-ok
 returns-clause-ok c = λ name here.
-    let entries = entries_in c.args.tree.now c.args.table.now.names c.args.table.now.groups.items in
-    let timing = group_at c.args.tree.now c.args.group.0 in
-    added_group c.push_arcs.result (tree_of c.args.tree.now) entries c.args.table.now.names timing c.in-Ok-read_timing.timing.kind c.in-Ok-read_timing.timing.rise c.in-Ok-read_timing.timing.fall c.as_slice.result.now c.args.to name c.args.arcs.now.items c.push_arcs.new.arcs.items
-    (subst (ArePlaces entries c.args.table.now.names (related_names timing)) (sym c.as_slice.ensures.value) c.in-Ok.ensures.ok) c.in-Ok-read_timing.ensures.ok c.in-Ok-read_timing.ensures.sound c.push_arcs.ensures.arcs here
+    let entries = entries_in c.args.cell.now.tree c.args.cell.now.names c.args.cell.now.groups in
+    let timing = group_at c.args.cell.now.tree c.args.group.0 in
+    added_group c.push_arcs.result (tree_of c.args.cell.now.tree) entries c.args.cell.now.names timing c.in-Ok-read_timing.timing.kind c.in-Ok-read_timing.timing.rise c.in-Ok-read_timing.timing.fall c.as_slice.result.now c.args.to name c.args.arcs.now.items c.push_arcs.new.arcs.items
+    (subst (ArePlaces entries c.args.cell.now.names (related_names timing)) (sym c.as_slice.ensures.value) c.in-Ok.ensures.ok) c.in-Ok-read_timing.ensures.ok c.in-Ok-read_timing.ensures.sound c.push_arcs.ensures.arcs here
 
 pub returns-clause-refused : goal.returns-clause-refused
 returns-clause-refused c = λ name.
-    refused_pushing c.push_arcs.result (tree_of c.args.tree.now) (delay_questions (entries_in c.args.tree.now c.args.table.now.names c.args.table.now.groups.items) (record { to = name; group = group_at c.args.tree.now c.args.group.0 })) c.push_arcs.ensures.memory
+    refused_pushing c.push_arcs.result (tree_of c.args.cell.now.tree) (delay_questions (entries_in c.args.cell.now.tree c.args.cell.now.names c.args.cell.now.groups) (record { to = name; group = group_at c.args.cell.now.tree c.args.group.0 })) c.push_arcs.ensures.memory

@@ -9,6 +9,6 @@ use Rattle.timing_arcs.specs.LibraryBasis.{AreAdded, arcs_from, questions_from}
 use Rattle.timing_arcs.proofs.delay_groups.add_groups.Given as goal
 
 abbrev pub invariant-loop-place : goal.invariant-loop-place
-invariant-loop-place l = (entry : PinEntry) → slice_get (entries_in l.tree l.table.names l.table.groups.items) l.to ≡ Some entry
-    → AreAdded (tree_of l.tree) l.table.names (flat_map (arcs_from (entries_in l.tree l.table.names l.table.groups.items) entry.name) (take l.place (groups_of entry.group)))
-    (flat_map (questions_from (entries_in l.tree l.table.names l.table.groups.items) entry.name) (take l.place (groups_of entry.group))) l.initial.arcs.items l.arcs.items
+invariant-loop-place l = (entry : PinEntry) → slice_get (entries_in l.cell.tree l.cell.names l.cell.groups) l.to ≡ Some entry
+    → AreAdded (tree_of l.cell.tree) l.cell.names (flat_map (arcs_from (entries_in l.cell.tree l.cell.names l.cell.groups) entry.name) (take l.place (groups_of entry.group)))
+    (flat_map (questions_from (entries_in l.cell.tree l.cell.names l.cell.groups) entry.name) (take l.place (groups_of entry.group))) l.initial.arcs.items l.arcs.items
