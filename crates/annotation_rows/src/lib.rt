@@ -9,7 +9,7 @@ mod path_delays;
 mod path_rows;
 mod put_times;
 mod sdf_ends;
-mod spelled_cells;
+mod spelled_netlist;
 mod timed_netlist;
 mod wire_rows;
 

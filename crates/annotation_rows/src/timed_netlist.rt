@@ -3,9 +3,7 @@ ghost use Rattle.std.specs.Prelude.{◌≡◌, ◌+◌, ◌*◌, ◌<◌, ◌≤
 ghost use Rattle.cell_models.specs.CornerCells.{arcs_at, AreCornerCells};
 ghost use Rattle.cell_models.specs.NamedSets.{set_cells};
 ghost use Rattle.netlist_link.specs.FlatNetlist.{instance_at};
-ghost use Rattle.netlist_link.specs.Linked.{IsLinked};
 ghost use Rattle.slew_order.specs.FlatArcs.{IsArcAt};
-ghost use Rattle.slew_order.specs.NetTimes.{Fits};
 ghost use Rattle.slew_order.specs.Slews.{AreTablesOf};
 ghost use Rattle.annotation_rows.specs.CellPaths.{arc_in};
 ghost use Rattle.annotation_rows.specs.PathRows.{IsTimed, arc_delay, arc_has, cell_arcs, cell_name, timed_of};
@@ -13,12 +11,12 @@ ghost use Rattle.annotation_rows.specs.SdfEnds.{pin_count, pin_sdf};
 
 use crate::cell_paths::PinPair;
 use crate::sdf_ends::pin_sdf;
-use crate::spelled_cells::SpelledCells;
+use crate::spelled_netlist::SpelledNetlist;
 use cell_models::{Arc, CellSet, CellSets, Edge};
 use corner_set::{CornerSet, corner_at, first_corner};
 use edge_io::{Steps, Text};
 use netlist_link::Netlist;
-use slew_order::{ArcAt, NetDelays, Slews};
+use slew_order::{ArcAt, LoadedNetlist, Slews};
 use std::marker::Model;
 use std::sync::ledger::Ledger;
 
@@ -26,9 +24,7 @@ use std::sync::ledger::Ledger;
 /// from, and the states of the nets.
 #[derive(Drop)]
 pub(crate) struct TimedNetlist<'a, C: CornerSet> {
-    netlist: &'a Netlist,
-    cells: &'a SpelledCells<'a, C>,
-    nets: &'a NetDelays<C>,
+    spelled: &'a SpelledNetlist<'a, C>,
     slews: &'a Slews<C>,
 }
 
@@ -37,9 +33,10 @@ impl<'a, C: CornerSet> Model for TimedNetlist<'a, C> {
 
     ghost Value = { TimedDesign };
 
-    ghost view = { λ t. timed_of t.netlist.now t.cells.now C.COUNT t.nets.now t.slews.now };
+    ghost view = { λ t. timed_of t.spelled.now.linked.now.netlist t.spelled.now.linked.now.cells C.COUNT t.spelled.now.nets.now t.slews.now };
 
-    ghost invariant = { λ t. IsTimed (timed_of t.netlist.now t.cells.now C.COUNT t.nets.now t.slews.now) };
+    ghost invariant = { λ t. IsTimed (timed_of t.spelled.now.linked.now.netlist t.spelled.now.linked.now.cells C.COUNT
+        t.spelled.now.nets.now t.slews.now) };
 }
 
 // Whether an arc has an edge.
@@ -54,22 +51,13 @@ fn has_edge(arc: &Arc, edge: Edge) -> bool
 
 impl<'a, C: CornerSet> TimedNetlist<'a, C> {
     pub(crate) fn new(
-        netlist: &'a Netlist,
-        cells: &'a SpelledCells<'a, C>,
-        nets: &'a NetDelays<C>,
+        spelled: &'a SpelledNetlist<'a, C>,
         slews: &'a Slews<C>,
     ) -> TimedNetlist<'a, C>
-        requires linked { IsLinked cells.now netlist.now }
-        requires fits { Fits netlist.now nets.now }
-        requires tables { AreTablesOf netlist.now C.COUNT slews.now }
-        ensures { result ≡ timed_of netlist.now cells.now C.COUNT nets.now slews.now }
+        requires { AreTablesOf spelled.now.linked.now.netlist C.COUNT slews.now }
+        ensures { result ≡ timed_of spelled.now.linked.now.netlist spelled.now.linked.now.cells C.COUNT spelled.now.nets.now slews.now }
     {
-        TimedNetlist {
-            netlist,
-            cells,
-            nets,
-            slews,
-        }
+        TimedNetlist { spelled, slews }
     }
 
     /// The netlist.
@@ -77,7 +65,7 @@ impl<'a, C: CornerSet> TimedNetlist<'a, C> {
         ensures netlist { result.now ≡ self.now.source.netlist }
         ensures timed { IsTimed self.now }
     {
-        self.netlist
+        &self.spelled.linked.netlist
     }
 
     /// The cells.
@@ -85,7 +73,7 @@ impl<'a, C: CornerSet> TimedNetlist<'a, C> {
         ensures cells { result.now ≡ self.now.source.cells }
         ensures timed { IsTimed self.now }
     {
-        self.cells.cells()
+        &self.spelled.linked.cells
     }
 
     /// How many corners there are.
@@ -93,7 +81,7 @@ impl<'a, C: CornerSet> TimedNetlist<'a, C> {
         ensures count { result ≡ self.now.source.count }
         ensures corners { result ≡ C.COUNT }
     {
-        let _ = &self.netlist;
+        let _ = &self.spelled;
         C::COUNT
     }
 
@@ -102,7 +90,7 @@ impl<'a, C: CornerSet> TimedNetlist<'a, C> {
         requires { number < self.now.source.count }
         ensures { C.number_of result ≡ number }
     {
-        let _ = &self.netlist;
+        let _ = &self.spelled;
         corner_at::<C>(number)
     }
 
@@ -114,7 +102,11 @@ impl<'a, C: CornerSet> TimedNetlist<'a, C> {
         ensures cell { slice_get (set_cells self.now.source.cells) (instance_at self.now.source.netlist instance).cell ≡ Some result.now }
         ensures whole { AreCornerCells C.COUNT result.now }
     {
-        let cell = self.cells.cells().set(self.netlist.cell_of(instance));
+        let cell = self
+            .spelled
+            .linked
+            .cells
+            .set(self.spelled.linked.netlist.cell_of(instance));
         // what it keeps
         let _ = cell.arc_count();
         cell
@@ -134,7 +126,10 @@ impl<'a, C: CornerSet> TimedNetlist<'a, C> {
         requires { instance < length self.now.source.netlist.instances }
         ensures { result.now ≡ cell_name self.now instance }
     {
-        self.cells.cells().name(self.netlist.cell_of(instance))
+        self.spelled
+            .linked
+            .cells
+            .name(self.spelled.linked.netlist.cell_of(instance))
     }
 
     /// The pins that an arc of an instance leads from and to.
@@ -159,7 +154,7 @@ impl<'a, C: CornerSet> TimedNetlist<'a, C> {
         requires pin { pin < pin_count self.now.source.cells self.now.source.netlist instance }
         ensures { result.now ≡ pin_sdf self.now.source.cells self.now.source.netlist instance pin }
     {
-        pin_sdf(self.netlist, self.cells, instance, pin)
+        pin_sdf(self.spelled, instance, pin)
     }
 
     // Whether an arc of an instance has an edge.
@@ -189,15 +184,11 @@ impl<'a, C: CornerSet> TimedNetlist<'a, C> {
         ensures steps { steps.new ≤ steps.old + 32 }
     {
         let corner = self.corner(number);
-        match self.slews.delay(
-            self.netlist,
-            self.cells.cells(),
-            self.nets,
-            at,
-            edge,
-            corner,
-            steps,
-        ) {
+        let loaded = LoadedNetlist {
+            linked: self.spelled.linked,
+            nets: self.spelled.nets,
+        };
+        match self.slews.delay(&loaded, at, edge, corner, steps) {
             Some(delay) => Some(delay.0),
             None => None,
         }

@@ -1,20 +1,19 @@
 //! The rows of the wires of a design.
 ghost use Rattle.std.specs.Prelude.{◌≡◌, ◌<◌, [], ◌∷◌, length, OnOk};
 ghost use Rattle.netlist_link.specs.FlatNetlist.{net_at};
-ghost use Rattle.netlist_link.specs.Linked.{IsLinked};
 ghost use Rattle.sdf_writer.specs.Bounds.{AreWithin};
 ghost use Rattle.sdf_writer.specs.WireEnds.{end_name};
-ghost use Rattle.slew_order.specs.NetTimes.{Fits, HasSink};
+ghost use Rattle.slew_order.specs.NetTimes.{HasSink};
 ghost use Rattle.annotation_rows.specs.SdfEnds.{IsEndThere, end_sdf};
 ghost use Rattle.annotation_rows.specs.WireRows.{driven_rows, net_rows, wire_delays, wire_row, wire_rows, with_wires};
 
 use crate::sdf_ends::end_sdf;
-use crate::spelled_cells::SpelledCells;
+use crate::spelled_netlist::SpelledNetlist;
 use corner_set::{CornerSet, Grid, corner_at};
 use delay_units::Femto;
 use edge_io::OutOfMemory;
 use elmore_pass::sink_femto;
-use netlist_link::{End, Netlist};
+use netlist_link::End;
 use sdf_writer::{Rows, WireEnd};
 use slew_order::NetDelays;
 use std::alloc::Global;
@@ -43,9 +42,7 @@ fn put_delays<C: CornerSet>(
 // Adds the row of the wire to a sink of a net, from the end that drives it, which has this name. The grid of one row is used anew.
 #[tactic(auto, using(crate::proofs::EndsThere::sink_there))]
 fn add_wire<C: CornerSet>(
-    netlist: &Netlist,
-    cells: &SpelledCells<'_, C>,
-    nets: &NetDelays<C>,
+    spelled: &SpelledNetlist<'_, C>,
     net: usize,
     driver: End,
     from: WireEnd<'_>,
@@ -53,42 +50,38 @@ fn add_wire<C: CornerSet>(
     delay: &mut Grid<C, Femto>,
     rows: &mut Rows<C>,
 ) -> Result<(), OutOfMemory>
-    requires linked { IsLinked cells.now netlist.now }
-    requires fits { Fits netlist.now nets.now }
-    requires net { net < length netlist.now.nets }
-    requires sink { sink < length (net_at netlist.now net).sinks }
-    requires from { end_name from ≡ end_sdf cells.now netlist.now driver }
+    requires net { net < length spelled.now.linked.now.netlist.nets }
+    requires sink { sink < length (net_at spelled.now.linked.now.netlist net).sinks }
+    requires from { end_name from ≡ end_sdf spelled.now.linked.now.cells spelled.now.linked.now.netlist driver }
     requires one_row { length delay.old.values ≡ C.COUNT }
-    ensures row { OnOk result (rows.new ≡ with_wires rows.old (wire_row cells.now netlist.now C.COUNT nets.now driver net sink ∷ [])) }
+    ensures row { OnOk result (rows.new ≡ with_wires rows.old (wire_row spelled.now.linked.now.cells spelled.now.linked.now.netlist C.COUNT
+        spelled.now.nets.now driver net sink ∷ [])) }
     ensures one_row { length delay.new.values ≡ C.COUNT }
 {
-    put_delays(nets, net, sink, delay);
-    let to = end_sdf(netlist, cells, netlist.sink(net, sink));
+    put_delays(spelled.nets, net, sink, delay);
+    let to = end_sdf(spelled, spelled.linked.netlist.sink(net, sink));
     rows.put_wire(from, to, delay)
 }
 
 // Adds the rows of the wires of a net from the end that drives it.
 fn add_driven<C: CornerSet>(
-    netlist: &Netlist,
-    cells: &SpelledCells<'_, C>,
-    nets: &NetDelays<C>,
+    spelled: &SpelledNetlist<'_, C>,
     net: usize,
     driver: End,
     delay: &mut Grid<C, Femto>,
     rows: &mut Rows<C>,
 ) -> Result<(), OutOfMemory>
-    requires linked { IsLinked cells.now netlist.now }
-    requires fits { Fits netlist.now nets.now }
-    requires net { net < length netlist.now.nets }
-    requires driver { IsEndThere cells.now netlist.now driver }
+    requires net { net < length spelled.now.linked.now.netlist.nets }
+    requires driver { IsEndThere spelled.now.linked.now.cells spelled.now.linked.now.netlist driver }
     requires one_row { length delay.old.values ≡ C.COUNT }
     ensures rows { OnOk result (rows.new ≡ with_wires rows.old
-        (driven_rows cells.now netlist.now C.COUNT nets.now driver net (length (net_at netlist.now net).sinks))) }
+        (driven_rows spelled.now.linked.now.cells spelled.now.linked.now.netlist C.COUNT spelled.now.nets.now driver net
+        (length (net_at spelled.now.linked.now.netlist net).sinks))) }
     ensures one_row { length delay.new.values ≡ C.COUNT }
 {
-    let from = end_sdf(netlist, cells, driver);
-    for sink in 0..netlist.sink_count(net) {
-        add_wire(netlist, cells, nets, net, driver, from, sink, delay, rows)?;
+    let from = end_sdf(spelled, driver);
+    for sink in 0..spelled.linked.netlist.sink_count(net) {
+        add_wire(spelled, net, driver, from, sink, delay, rows)?;
     }
     Ok(())
 }
@@ -96,41 +89,35 @@ fn add_driven<C: CornerSet>(
 // Adds the rows of the wires of a net: none where nothing drives it.
 #[tactic(auto, using(crate::proofs::EndsThere::driver_there, crate::proofs::WireLists::with_no_wires))]
 fn add_net<C: CornerSet>(
-    netlist: &Netlist,
-    cells: &SpelledCells<'_, C>,
-    nets: &NetDelays<C>,
+    spelled: &SpelledNetlist<'_, C>,
     net: usize,
     delay: &mut Grid<C, Femto>,
     rows: &mut Rows<C>,
 ) -> Result<(), OutOfMemory>
-    requires linked { IsLinked cells.now netlist.now }
-    requires fits { Fits netlist.now nets.now }
-    requires net { net < length netlist.now.nets }
+    requires net { net < length spelled.now.linked.now.netlist.nets }
     requires one_row { length delay.old.values ≡ C.COUNT }
-    ensures rows { OnOk result (rows.new ≡ with_wires rows.old (net_rows cells.now netlist.now C.COUNT nets.now net)) }
+    ensures rows { OnOk result (rows.new ≡ with_wires rows.old (net_rows spelled.now.linked.now.cells spelled.now.linked.now.netlist C.COUNT
+        spelled.now.nets.now net)) }
     ensures one_row { length delay.new.values ≡ C.COUNT }
 {
-    match netlist.driver(net) {
+    match spelled.linked.netlist.driver(net) {
         None => Ok(()),
-        Some(driver) => add_driven(netlist, cells, nets, net, driver, delay, rows),
+        Some(driver) => add_driven(spelled, net, driver, delay, rows),
     }
 }
 
 /// Adds the rows of the wires of all nets, in order.
 pub(crate) fn add_wires<C: CornerSet>(
     alloc: Global,
-    netlist: &Netlist,
-    cells: &SpelledCells<'_, C>,
-    nets: &NetDelays<C>,
+    spelled: &SpelledNetlist<'_, C>,
     rows: &mut Rows<C>,
 ) -> Result<(), OutOfMemory>
-    requires linked { IsLinked cells.now netlist.now }
-    requires fits { Fits netlist.now nets.now }
-    ensures { OnOk result (rows.new ≡ with_wires rows.old (wire_rows cells.now netlist.now C.COUNT nets.now)) }
+    ensures { OnOk result (rows.new ≡ with_wires rows.old (wire_rows spelled.now.linked.now.cells spelled.now.linked.now.netlist C.COUNT
+        spelled.now.nets.now)) }
 {
     let mut delay = Grid::with_rows(alloc, 1, Femto(0))?;
-    for net in 0..netlist.net_count() {
-        add_net(netlist, cells, nets, net, &mut delay, rows)?;
+    for net in 0..spelled.linked.netlist.net_count() {
+        add_net(spelled, net, &mut delay, rows)?;
     }
     Ok(())
 }

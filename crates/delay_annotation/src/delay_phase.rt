@@ -1,7 +1,6 @@
 //! The phases that find the loads and the Elmore sums of a design's nets.
 ghost use Rattle.std.specs.Prelude.{◌≡◌, ◌<◌, ◌≤◌, length, IfOk, IsTrue};
 ghost use Rattle.delay_units.specs.Bounds.{most_farads};
-ghost use Rattle.netlist_link.specs.Linked.{IsLinked};
 ghost use Rattle.net_parasitics.specs.Inputs.{AreNamedApart, HaveSmallPins, inputs_of};
 ghost use Rattle.net_parasitics.specs.WorkCounts.{IsWithin};
 ghost use Rattle.verdict_phases.specs.Phases.{FollowsNoFile};
@@ -10,12 +9,11 @@ ghost use Rattle.delay_core.specs.SpefWork.{is_early};
 ghost use Rattle.delay_annotation.specs.DelayPhase.{net_text, IsTreeRefusal, FindsDelays};
 
 use crate::settings::Settings;
-use cell_models::CellSets;
 use corner_set::CornerSet;
 use delay_core::{LimitKind, Refusal};
 use edge_io::{OutOfMemory, Steps, Text};
 use net_parasitics::{ParasiticsEnd, net_delays};
-use netlist_link::Netlist;
+use netlist_link::LinkedNetlist;
 use rc_tree::TreeEnd;
 use slew_order::NetDelays;
 use spef_nets::Sections;
@@ -42,26 +40,24 @@ fn tree_refusal(net: Text, end: TreeEnd) -> Result<Refusal, OutOfMemory>
 #[tactic(auto, using(crate::specs::DelayPhase::are_delays, crate::specs::DelayPhase::missing_net, crate::specs::DelayPhase::no_tree, crate::proofs::NetEnds::missing_there, crate::proofs::NetEnds::tree_there, crate::proofs::NetEnds::is_late))]
 pub fn find_delays<C: CornerSet, L: Ledger>(
     alloc: Global,
-    netlist: &Netlist,
-    cells: &CellSets<C>,
+    linked: &LinkedNetlist<C>,
     sections: &Sections<'_, '_, C>,
     settings: &Settings,
     steps: &mut Steps<L>,
 ) -> Result<NetDelays<C>, NoFileEnd<Refusal>>
-    requires linked { IsLinked cells.now netlist.now }
-    requires apart { AreNamedApart netlist.now }
-    requires small_pins { HaveSmallPins cells.now }
+    requires apart { AreNamedApart linked.now.netlist }
+    requires small_pins { HaveSmallPins linked.now.cells }
     requires small_ports { settings.now.port_load.0 ≤ most_farads }
-    ensures follows { FollowsNoFile (FindsDelays (inputs_of C.COUNT netlist.now cells.now sections.now settings.now.port_load)
+    ensures follows { FollowsNoFile (FindsDelays (inputs_of C.COUNT linked.now.netlist linked.now.cells sections.now settings.now.port_load)
         settings.now.missing) result }
-    ensures work { IsWithin (inputs_of C.COUNT netlist.now cells.now sections.now settings.now.port_load) (length netlist.now.nets)
+    ensures work { IsWithin (inputs_of C.COUNT linked.now.netlist linked.now.cells sections.now settings.now.port_load)
+        (length linked.now.netlist.nets)
         steps.old steps.new }
     ensures no_steps { OnRefusal result (λ refusal. IsTrue (is_early refusal) → steps.new ≡ steps.old) }
 {
     match net_delays(
         alloc,
-        netlist,
-        cells,
+        linked,
         sections,
         settings.port_load,
         settings.missing,
@@ -69,11 +65,11 @@ pub fn find_delays<C: CornerSet, L: Ledger>(
     ) {
         Ok(nets) => Ok(nets),
         Err(ParasiticsEnd::MissingNet { net }) => {
-            let net = Text::from_bytes(alloc, netlist.net_text(net))?;
+            let net = Text::from_bytes(alloc, linked.netlist.net_text(net))?;
             Err(NoFileEnd::Refused(Refusal::MissingNet { net }))
         }
         Err(ParasiticsEnd::Tree { net, end }) => {
-            let name = Text::from_bytes(alloc, netlist.net_text(net))?;
+            let name = Text::from_bytes(alloc, linked.netlist.net_text(net))?;
             let refusal = tree_refusal(name, end)?;
             Err(NoFileEnd::Refused(refusal))
         }

@@ -1,6 +1,5 @@
 //! The delays of a linked design, from a SPEF file.
 ghost use Rattle.std.specs.Prelude.{◌≡◌, ◌^◌, ◌<◌, ◌≤◌, ◌+◌, length, IfOk, OnOk, IsTrue};
-ghost use Rattle.netlist_link.specs.Linked.{IsLinked};
 ghost use Rattle.slew_order.specs.NetTimes.{Fits};
 ghost use Rattle.net_parasitics.specs.Inputs.{AreNamedApart, HaveSmallPins};
 ghost use Rattle.net_parasitics.specs.WorkCounts.{IsWithin as IsNetsWithin};
@@ -19,13 +18,12 @@ use crate::delay_phase::find_delays;
 use crate::settings::Settings;
 use crate::slew_phase::find_slews;
 use annotation_rows::annotation_rows;
-use cell_models::CellSets;
 use corner_set::CornerSet;
 use delay_core::{Design, Refusal, head_of, nets_of, parse_spef};
 use edge_io::Steps;
-use netlist_link::Netlist;
+use netlist_link::LinkedNetlist;
 use sdf_writer::Rows;
-use slew_order::{NetDelays, Slews};
+use slew_order::{LoadedNetlist, NetDelays, Slews};
 use spef_nets::Sections;
 use spef_text::{Head, SpefFile};
 use std::alloc::Global;
@@ -65,14 +63,7 @@ fn find_design_delays<C: CornerSet, L: Ledger>(
         steps.old steps.new }
     ensures no_steps { OnRefusal result (λ refusal. IsTrue (is_early refusal) → steps.new ≡ steps.old) }
 {
-    find_delays(
-        alloc,
-        design.netlist(),
-        design.cells(),
-        sections,
-        settings,
-        steps,
-    )
+    find_delays(alloc, design.linked(), sections, settings, steps)
 }
 
 // The loads and the Elmore sums of a design's nets, from a SPEF file whose grammar and head are read: all its sections are read, and then
@@ -134,21 +125,24 @@ pub fn nets_from_text<C: CornerSet, L: Ledger>(
 #[tactic(auto, using(crate::specs::TimingHalves::stops_at_slews, crate::specs::TimingHalves::gets_rows, crate::proofs::Agreeing::tables_fit))]
 fn time_netlist<C: CornerSet, L: Ledger>(
     alloc: Global,
-    netlist: &Netlist,
-    cells: &CellSets<C>,
+    linked: &LinkedNetlist<C>,
     nets: NetDelays<C>,
     settings: &Settings,
     steps: &mut Steps<L>,
 ) -> Result<Delays<C>, NoFileEnd<Refusal>>
-    requires linked { IsLinked cells.now netlist.now }
-    requires fits { Fits netlist.now nets }
+    requires fits { Fits linked.now.netlist nets }
     requires settings { AreInRange settings.now }
-    ensures follows { FollowsNoFile (TimesNets C.COUNT (record { netlist = netlist.now; cells = cells.now }) nets settings.now) result }
-    ensures steps { steps.new ≤ steps.old + slews_work C.COUNT (record { netlist = netlist.now; cells = cells.now }) }
-    ensures sound { IfOk result (AreSound C.COUNT cells.now) }
+    ensures follows { FollowsNoFile (TimesNets C.COUNT (record { netlist = linked.now.netlist; cells = linked.now.cells }) nets
+        settings.now) result }
+    ensures steps { steps.new ≤ steps.old + slews_work C.COUNT (record { netlist = linked.now.netlist; cells = linked.now.cells }) }
+    ensures sound { IfOk result (AreSound C.COUNT linked.now.cells) }
 {
-    let slews = find_slews(alloc, netlist, cells, &nets, settings, steps)?;
-    let rows = annotation_rows(alloc, &settings.top, netlist, cells, &nets, &slews, steps)?;
+    let loaded = LoadedNetlist {
+        linked,
+        nets: &nets,
+    };
+    let slews = find_slews(alloc, &loaded, settings, steps)?;
+    let rows = annotation_rows(alloc, &settings.top, &loaded, &slews, steps)?;
     Ok(Delays { rows, nets, slews })
 }
 
@@ -166,12 +160,5 @@ pub fn time_design<C: CornerSet, L: Ledger>(
     ensures steps { steps.new ≤ steps.old + slews_work C.COUNT design.now }
     ensures sound { IfOk result (AreSound C.COUNT design.now.cells) }
 {
-    time_netlist(
-        alloc,
-        design.netlist(),
-        design.cells(),
-        nets,
-        settings,
-        steps,
-    )
+    time_netlist(alloc, design.linked(), nets, settings, steps)
 }

@@ -1,10 +1,8 @@
 //! The phases that find the slews of a design's pins.
 ghost use Rattle.std.specs.Prelude.{◌≡◌, ◌+◌, ◌*◌, ◌<◌, ◌≤◌, length, map, unsigned_abs, IfOk, All};
-ghost use Rattle.netlist_link.specs.Linked.{IsLinked};
 ghost use Rattle.netlist_link.specs.declared.ends.End.TheVariants as end;
 ghost use Rattle.slew_states.specs.Settled.{arc_edges};
 ghost use Rattle.slew_order.specs.FlatArcs.{IsArcAt, flat_arcs};
-ghost use Rattle.slew_order.specs.NetTimes.{Fits};
 ghost use Rattle.slew_order.specs.Timings.{source_of};
 ghost use Rattle.slew_order.specs.declared.ends.SlewEnd.TheVariants as slew_end;
 ghost use Rattle.net_parasitics.specs.NetPins.{IsEnd};
@@ -14,13 +12,13 @@ ghost use Rattle.delay_annotation.specs.EndsThere.{IsPinSink, IsEndThere};
 ghost use Rattle.delay_annotation.specs.SlewPhase.{instance_text, pin_text, from_text, to_text, related_text, IsSlewRefusal, FindsSlews};
 
 use crate::settings::Settings;
-use cell_models::{CellSets, Edge};
+use cell_models::Edge;
 use corner_set::{CornerSet, first_corner};
 use delay_core::Refusal;
 use delay_units::Atto;
 use edge_io::{OutOfMemory, Steps, Text, TextList};
-use netlist_link::{End, Netlist};
-use slew_order::{ArcAt, ArcList, NetDelays, SlewEnd, Slews, cell_arc, propagate};
+use netlist_link::{End, LinkedNetlist};
+use slew_order::{ArcAt, ArcList, LoadedNetlist, SlewEnd, Slews, cell_arc, propagate};
 use std::alloc::Global;
 use std::sync::ledger::Ledger;
 use verdict_phases::NoFileEnd;
@@ -28,16 +26,14 @@ use verdict_phases::NoFileEnd;
 // The name of a pin of an instance.
 fn pin_name<C: CornerSet>(
     alloc: Global,
-    netlist: &Netlist,
-    cells: &CellSets<C>,
+    linked: &LinkedNetlist<C>,
     instance: usize,
     pin: usize,
 ) -> Result<Text, OutOfMemory>
-    requires linked { IsLinked cells.now netlist.now }
-    requires end { IsEnd netlist.now cells.now (end.Pin instance pin) }
-    ensures { IfOk result (λ name. name ≡ pin_text netlist.now cells.now instance pin) }
+    requires { IsEnd linked.now.netlist linked.now.cells (end.Pin instance pin) }
+    ensures { IfOk result (λ name. name ≡ pin_text linked.now.netlist linked.now.cells instance pin) }
 {
-    let models = cells.set(netlist.cell_of(instance));
+    let models = linked.cells.set(linked.netlist.cell_of(instance));
     let pin = models.pin(pin, first_corner::<C>());
     Text::from_bytes(alloc, pin.name.bytes())
 }
@@ -53,38 +49,34 @@ struct ArcNames {
 // The names of an arc.
 fn arc_names<C: CornerSet>(
     alloc: Global,
-    netlist: &Netlist,
-    cells: &CellSets<C>,
+    linked: &LinkedNetlist<C>,
     at: ArcAt,
 ) -> Result<ArcNames, OutOfMemory>
-    requires linked { IsLinked cells.now netlist.now }
-    requires at { IsArcAt netlist.now cells.now at }
-    ensures instance { IfOk result (λ names. names.instance ≡ instance_text netlist.now at.instance) }
-    ensures from { IfOk result (λ names. names.from ≡ from_text netlist.now cells.now at) }
-    ensures to { IfOk result (λ names. names.to ≡ to_text netlist.now cells.now at) }
+    requires { IsArcAt linked.now.netlist linked.now.cells at }
+    ensures instance { IfOk result (λ names. names.instance ≡ instance_text linked.now.netlist at.instance) }
+    ensures from { IfOk result (λ names. names.from ≡ from_text linked.now.netlist linked.now.cells at) }
+    ensures to { IfOk result (λ names. names.to ≡ to_text linked.now.netlist linked.now.cells at) }
 {
-    let arc = cell_arc(netlist, cells, at, first_corner::<C>());
+    let arc = cell_arc(linked, at, first_corner::<C>());
     Ok(ArcNames {
-        instance: Text::from_bytes(alloc, netlist.instance_text(at.instance))?,
-        from: pin_name(alloc, netlist, cells, at.instance, arc.from)?,
-        to: pin_name(alloc, netlist, cells, at.instance, arc.to)?,
+        instance: Text::from_bytes(alloc, linked.netlist.instance_text(at.instance))?,
+        from: pin_name(alloc, linked, at.instance, arc.from)?,
+        to: pin_name(alloc, linked, at.instance, arc.to)?,
     })
 }
 
 // The name of the net that the related pin of an arc is on.
 fn related_name<C: CornerSet>(
     alloc: Global,
-    netlist: &Netlist,
-    cells: &CellSets<C>,
+    linked: &LinkedNetlist<C>,
     at: ArcAt,
 ) -> Result<Text, OutOfMemory>
-    requires linked { IsLinked cells.now netlist.now }
-    requires at { IsArcAt netlist.now cells.now at }
-    ensures { IfOk result (λ name. name ≡ related_text netlist.now cells.now at) }
+    requires { IsArcAt linked.now.netlist linked.now.cells at }
+    ensures { IfOk result (λ name. name ≡ related_text linked.now.netlist linked.now.cells at) }
 {
-    let arc = cell_arc(netlist, cells, at, first_corner::<C>());
-    match netlist.net_of(at.instance, arc.from) {
-        Some(net) => Text::from_bytes(alloc, netlist.net_text(net)),
+    let arc = cell_arc(linked, at, first_corner::<C>());
+    match linked.netlist.net_of(at.instance, arc.from) {
+        Some(net) => Text::from_bytes(alloc, linked.netlist.net_text(net)),
         None => Ok(Text::new(alloc)),
     }
 }
@@ -92,17 +84,15 @@ fn related_name<C: CornerSet>(
 // The nets of a loop, one for each arc.
 fn loop_nets<C: CornerSet>(
     alloc: Global,
-    netlist: &Netlist,
-    cells: &CellSets<C>,
+    linked: &LinkedNetlist<C>,
     cycle: &ArcList,
 ) -> Result<TextList, OutOfMemory>
-    requires linked { IsLinked cells.now netlist.now }
-    requires cycle { All (IsArcAt netlist.now cells.now) cycle.now }
-    ensures { IfOk result (λ nets. nets ≡ map (related_text netlist.now cells.now) cycle.now) }
+    requires { All (IsArcAt linked.now.netlist linked.now.cells) cycle.now }
+    ensures { IfOk result (λ nets. nets ≡ map (related_text linked.now.netlist linked.now.cells) cycle.now) }
 {
     let mut nets = TextList::new(alloc);
     for place in 0..cycle.len() {
-        let net = related_name(alloc, netlist, cells, cycle.get(place))?;
+        let net = related_name(alloc, linked, cycle.get(place))?;
         nets.push(net)?;
     }
     Ok(nets)
@@ -112,8 +102,7 @@ fn loop_nets<C: CornerSet>(
 #[tactic(auto, using(crate::specs::SlewPhase::is_slew_limit))]
 fn limit_refusal<C: CornerSet>(
     alloc: Global,
-    netlist: &Netlist,
-    cells: &CellSets<C>,
+    linked: &LinkedNetlist<C>,
     net: usize,
     sink: usize,
     edge: Edge,
@@ -121,15 +110,14 @@ fn limit_refusal<C: CornerSet>(
     slew: Atto,
     elmore: u128,
 ) -> Result<Refusal, OutOfMemory>
-    requires linked { IsLinked cells.now netlist.now }
-    requires sink { IsPinSink netlist.now net sink }
-    ensures { IfOk result (IsSlewRefusal netlist.now cells.now (slew_end.SlewLimit net sink edge corner slew elmore)) }
+    requires { IsPinSink linked.now.netlist net sink }
+    ensures { IfOk result (IsSlewRefusal linked.now.netlist linked.now.cells (slew_end.SlewLimit net sink edge corner slew elmore)) }
 {
-    match netlist.sink(net, sink) {
+    match linked.netlist.sink(net, sink) {
         End::Pin { instance, pin } => Ok(Refusal::SlewLimit {
-            net: Text::from_bytes(alloc, netlist.net_text(net))?,
-            instance: Text::from_bytes(alloc, netlist.instance_text(instance))?,
-            pin: pin_name(alloc, netlist, cells, instance, pin)?,
+            net: Text::from_bytes(alloc, linked.netlist.net_text(net))?,
+            instance: Text::from_bytes(alloc, linked.netlist.instance_text(instance))?,
+            pin: pin_name(alloc, linked, instance, pin)?,
             edge,
             corner,
             slew,
@@ -143,17 +131,15 @@ fn limit_refusal<C: CornerSet>(
 #[tactic(auto, using(crate::specs::SlewPhase::is_loop, crate::specs::SlewPhase::is_outside, crate::specs::SlewPhase::is_past_time))]
 fn slew_refusal<C: CornerSet>(
     alloc: Global,
-    netlist: &Netlist,
-    cells: &CellSets<C>,
+    linked: &LinkedNetlist<C>,
     end: SlewEnd,
 ) -> Result<Refusal, OutOfMemory>
-    requires linked { IsLinked cells.now netlist.now }
-    requires there { IsEndThere netlist.now cells.now end }
-    ensures { IfOk result (IsSlewRefusal netlist.now cells.now end) }
+    requires { IsEndThere linked.now.netlist linked.now.cells end }
+    ensures { IfOk result (IsSlewRefusal linked.now.netlist linked.now.cells end) }
 {
     match end {
         SlewEnd::Loop(cycle) => {
-            let nets = loop_nets(alloc, netlist, cells, &cycle)?;
+            let nets = loop_nets(alloc, linked, &cycle)?;
             Ok(Refusal::Loop { nets })
         }
         SlewEnd::Outside {
@@ -163,7 +149,7 @@ fn slew_refusal<C: CornerSet>(
             part,
             outside,
         } => {
-            let names = arc_names(alloc, netlist, cells, at)?;
+            let names = arc_names(alloc, linked, at)?;
             Ok(Refusal::Outside {
                 instance: names.instance,
                 from: names.from,
@@ -181,7 +167,7 @@ fn slew_refusal<C: CornerSet>(
             corner,
             part,
         } => {
-            let names = arc_names(alloc, netlist, cells, at)?;
+            let names = arc_names(alloc, linked, at)?;
             Ok(Refusal::PastTime {
                 instance: names.instance,
                 from: names.from,
@@ -198,7 +184,7 @@ fn slew_refusal<C: CornerSet>(
             corner,
             slew,
             elmore,
-        } => limit_refusal(alloc, netlist, cells, net, sink, edge, corner, slew, elmore),
+        } => limit_refusal(alloc, linked, net, sink, edge, corner, slew, elmore),
         SlewEnd::OutOfMemory => Err(OutOfMemory),
     }
 }
@@ -207,24 +193,20 @@ fn slew_refusal<C: CornerSet>(
 #[tactic(auto, using(crate::specs::SlewPhase::are_slews, crate::specs::SlewPhase::no_slews, crate::proofs::SlewEnds::end_there))]
 pub fn find_slews<C: CornerSet, L: Ledger>(
     alloc: Global,
-    netlist: &Netlist,
-    cells: &CellSets<C>,
-    nets: &NetDelays<C>,
+    loaded: &LoadedNetlist<'_, C>,
     settings: &Settings,
     steps: &mut Steps<L>,
 ) -> Result<Slews<C>, NoFileEnd<Refusal>>
-    requires linked { IsLinked cells.now netlist.now }
-    requires fits { Fits netlist.now nets.now }
     requires settings { AreInRange settings.now }
-    ensures follows { FollowsNoFile (FindsSlews (source_of netlist.now cells.now C.COUNT nets.now settings.now.beyond
+    ensures follows { FollowsNoFile (FindsSlews (source_of loaded.now.linked.now.netlist loaded.now.linked.now.cells C.COUNT
+        loaded.now.nets.now settings.now.beyond
         settings.now.wire_slew (unsigned_abs settings.now.input_slew.0))) result }
-    ensures steps { steps.new ≤ steps.old + 128 * (C.COUNT * arc_edges (flat_arcs netlist.now cells.now)) }
+    ensures steps { steps.new ≤ steps.old + 128 * (C.COUNT * arc_edges (flat_arcs loaded.now.linked.now.netlist
+        loaded.now.linked.now.cells)) }
 {
     match propagate(
         alloc,
-        netlist,
-        cells,
-        nets,
+        loaded,
         settings.input_slew,
         settings.beyond,
         settings.wire_slew,
@@ -232,7 +214,7 @@ pub fn find_slews<C: CornerSet, L: Ledger>(
     ) {
         Ok(slews) => Ok(slews),
         Err(end) => {
-            let refusal = slew_refusal(alloc, netlist, cells, end)?;
+            let refusal = slew_refusal(alloc, loaded.linked, end)?;
             Err(NoFileEnd::Refused(refusal))
         }
     }

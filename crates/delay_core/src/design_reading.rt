@@ -18,7 +18,7 @@ use crate::use_phase::use_cells;
 use cell_models::CellSets;
 use corner_set::CornerSet;
 use edge_io::{Shelf, Text, TextList};
-use netlist_link::Netlist;
+use netlist_link::{LinkedNetlist, Netlist};
 use std::alloc::Global;
 use std::marker::Model;
 use verdict_phases::{NoFileEnd, PhaseEnd};
@@ -35,35 +35,39 @@ pub struct Inputs<'a> {
 /// A flat netlist, and the cells with which it is linked.
 #[derive(Drop)]
 pub struct Design<C: CornerSet> {
-    netlist: Netlist,
-    cells: CellSets<C>,
+    linked: LinkedNetlist<C>,
 }
 
 impl<C: CornerSet> Model for Design<C> {
-    ghost use Rattle.netlist_link.specs.Linked.{IsLinked};
     ghost use Rattle.delay_core.specs.DesignReading.{LinkedDesign};
 
     ghost Value = { LinkedDesign };
 
-    ghost view = { λ design. record { netlist = design.netlist; cells = design.cells } };
-
-    ghost invariant = { λ design. IsLinked design.cells design.netlist };
+    ghost view = { λ design. record { netlist = design.linked.netlist; cells = design.linked.cells } };
 }
 
 impl<C: CornerSet> Design<C> {
+    /// The netlist with its cells.
+    pub fn linked(&self) -> &LinkedNetlist<C>
+        ensures netlist { result.now.netlist ≡ self.now.netlist }
+        ensures cells { result.now.cells ≡ self.now.cells }
+    {
+        &self.linked
+    }
+
     /// The netlist.
     pub fn netlist(&self) -> &Netlist
         ensures netlist { result.now ≡ self.now.netlist }
         ensures linked { IsLinked self.now.cells self.now.netlist }
     {
-        &self.netlist
+        &self.linked.netlist
     }
 
     /// The cells.
     pub fn cells(&self) -> &CellSets<C>
         ensures { result.now ≡ self.now.cells }
     {
-        &self.cells
+        &self.linked.cells
     }
 
     /// Takes the design apart into its netlist and its cells.
@@ -72,8 +76,8 @@ impl<C: CornerSet> Design<C> {
         ensures cells { result.1 ≡ self.cells }
         ensures linked { IsLinked result.1 result.0 }
     {
-        let Design { netlist, cells } = self;
-        (netlist, cells)
+        let Design { linked } = self;
+        (linked.netlist, linked.cells)
     }
 }
 
@@ -121,7 +125,9 @@ pub fn link_inputs<C: CornerSet>(
 {
     let cells = model_cells::<C>(alloc, &inputs.libraries, &inputs.used)?;
     let netlist = link_design(alloc, &inputs.modules, top, &cells)?;
-    Ok(Design { netlist, cells })
+    Ok(Design {
+        linked: LinkedNetlist { netlist, cells },
+    })
 }
 
 // The design of the bytes of a netlist: its inputs are read, and then they are linked.

@@ -4,18 +4,16 @@ ghost use Rattle.netlist_link.specs.FlatNetlist.{net_at};
 ghost use Rattle.net_parasitics.specs.Inputs.{AreSound};
 ghost use Rattle.net_parasitics.specs.NetPins.{IsEnd};
 
-use cell_models::CellSets;
 use corner_set::CornerSet;
 use delay_units::Farads;
-use netlist_link::{End, Netlist};
+use netlist_link::{End, LinkedNetlist};
 use spef_nets::Sections;
 use std::marker::Model;
 
 /// A flat netlist with its cells, the nets of the sections of a SPEF file, and the load of each output port. Contracts see these.
 #[derive(Drop)]
 pub struct NetInputs<'a, 'r, 'f, C: CornerSet> {
-    pub netlist: &'a Netlist,
-    pub cells: &'a CellSets<C>,
+    pub linked: &'a LinkedNetlist<C>,
     pub sections: &'a Sections<'r, 'f, C>,
     pub port_load: Farads,
 }
@@ -27,16 +25,16 @@ impl<'a, 'r, 'f, C: CornerSet> Model for NetInputs<'a, 'r, 'f, C> {
 
     ghost view = { λ i. record {
       count = C.COUNT;
-      netlist = i.netlist.now;
-      cells = i.cells.now;
+      netlist = i.linked.now.netlist;
+      cells = i.linked.now.cells;
       sections = i.sections.now;
       port_load = i.port_load;
     } };
 
     ghost invariant = { λ i. AreSound (record {
       count = C.COUNT;
-      netlist = i.netlist.now;
-      cells = i.cells.now;
+      netlist = i.linked.now.netlist;
+      cells = i.linked.now.cells;
       sections = i.sections.now;
       port_load = i.port_load;
     }) };
@@ -49,7 +47,7 @@ impl<'a, 'r, 'f, C: CornerSet> NetInputs<'a, 'r, 'f, C> {
         ensures sound { AreSound self.now }
         ensures count { self.now.count ≡ C.COUNT }
     {
-        let _ = &self.netlist;
+        let _ = &self.linked;
     }
 
     /// A sink of a net.
@@ -59,6 +57,6 @@ impl<'a, 'r, 'f, C: CornerSet> NetInputs<'a, 'r, 'f, C> {
         ensures sink { slice_get (net_at self.now.netlist net).sinks sink ≡ Some result }
         ensures end { IsEnd self.now.netlist self.now.cells result }
     {
-        self.netlist.sink(net, sink)
+        self.linked.netlist.sink(net, sink)
     }
 }

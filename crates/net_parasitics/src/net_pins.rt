@@ -28,7 +28,7 @@ impl<'a, 'r, 'f, C: CornerSet> NetInputs<'a, 'r, 'f, C> {
     {
         self.sound();
         pins.restart(self.end_name(driver));
-        for sink in 0..self.netlist.sink_count(net) {
+        for sink in 0..self.linked.netlist.sink_count(net) {
             self.add_sink(net, driver, sink, row, pins)?;
         }
         Ok(())

@@ -2,7 +2,6 @@
 ghost use Rattle.std.specs.Prelude.{◌≡◌, ◌≤◌, ◌<◌, ◌↔◌, ℕ, length, slice_get, Contains, Some, IsTrue, IfOk, IfErr, IfSome, IfNone, OnOk};
 ghost use Rattle.delay_units.specs.Bounds.{most_farads};
 ghost use Rattle.netlist_link.specs.FlatNetlist.{net_at};
-ghost use Rattle.netlist_link.specs.Linked.{IsLinked};
 ghost use Rattle.spef_nets.specs.NetElements.{net_names};
 ghost use Rattle.slew_order.specs.NetTimes.{Fits};
 ghost use Rattle.net_parasitics.specs.Inputs.{AreNamedApart, HaveSmallPins, inputs_of};
@@ -17,11 +16,10 @@ use crate::ends::{Missing, ParasiticsEnd, end_of_net};
 use crate::inputs::NetInputs;
 use crate::net_times::put_times;
 use crate::net_trees::TreeWork;
-use cell_models::CellSets;
 use corner_set::CornerSet;
 use delay_units::Farads;
 use edge_io::Steps;
-use netlist_link::{End, Netlist};
+use netlist_link::{End, LinkedNetlist};
 use rc_tree::TreeEnd;
 use slew_order::NetDelays;
 use spef_nets::{Net, Sections};
@@ -38,10 +36,10 @@ impl<'a, 'r, 'f, C: CornerSet> NetInputs<'a, 'r, 'f, C> {
         ensures wired { IfSome result (IsWired self.now.netlist net) }
         ensures unwired { IfNone result (IsUnwired self.now.netlist net) }
     {
-        if self.netlist.sink_count(net) == 0 {
+        if self.linked.netlist.sink_count(net) == 0 {
             return None;
         }
-        self.netlist.driver(net)
+        self.linked.netlist.driver(net)
     }
 
     // The place of the section of a net, if it has one. It is looked for first where it is likely to stand: behind the one that was
@@ -52,7 +50,9 @@ impl<'a, 'r, 'f, C: CornerSet> NetInputs<'a, 'r, 'f, C> {
         ensures within { IfSome result (λ place. place < length self.now.sections) }
         ensures absent { IfNone result (¬ Contains (net_names self.now.sections) (net_at self.now.netlist net).text) }
     {
-        let place = self.sections.find_near(self.netlist.net_text(net), *near)?;
+        let place = self
+            .sections
+            .find_near(self.linked.netlist.net_text(net), *near)?;
         *near = place.saturating_add(1);
         Some(place)
     }
@@ -74,7 +74,7 @@ impl<'a, 'r, 'f, C: CornerSet> NetInputs<'a, 'r, 'f, C> {
         ensures refused { IfErr result (IsFirstMissing self.now) }
     {
         let mut near = 0;
-        for net in 0..self.netlist.net_count() {
+        for net in 0..self.linked.netlist.net_count() {
             if self.is_missing(net, &mut near) {
                 return Err(ParasiticsEnd::MissingNet { net });
             }
@@ -136,7 +136,7 @@ impl<'a, 'r, 'f, C: CornerSet> NetInputs<'a, 'r, 'f, C> {
         ensures refused { IfErr result (IsNetEnd self.now net) }
     {
         self.sound();
-        if self.netlist.sink_count(net) >= MOST {
+        if self.linked.netlist.sink_count(net) >= MOST {
             return Err(ParasiticsEnd::Tree {
                 net,
                 end: TreeEnd::TooLarge,
@@ -210,7 +210,7 @@ impl<'a, 'r, 'f, C: CornerSet> NetInputs<'a, 'r, 'f, C> {
     {
         self.sound();
         let mut work = TreeWork::new(alloc)?;
-        for net in 0..self.netlist.net_count() {
+        for net in 0..self.linked.netlist.net_count() {
             self.put_net(alloc, net, &mut work, delays, steps)?;
         }
         Ok(())
@@ -219,7 +219,7 @@ impl<'a, 'r, 'f, C: CornerSet> NetInputs<'a, 'r, 'f, C> {
 
 /// The load of each net of a netlist and the Elmore sum of each of its sinks, at each corner.
 ///
-/// The netlist is linked with the cells. A net with a driver and a sink has the elements of its section, and each sink has its load: an
+/// A net with a driver and a sink has the elements of its section, and each sink has its load: an
 /// input pin the capacitance of its cell at the corner, an output port `port_load`, which is at most a nanofarad. The load of the net is
 /// the sum of its capacitances, and a sink's Elmore sum is that of the tree of the net, in 10^-27 s and not rounded. For any other net
 /// both are 0. Sections of nets that the netlist lacks are read over. Where `missing` says so, a net without a section has the elements of
@@ -230,32 +230,30 @@ impl<'a, 'r, 'f, C: CornerSet> NetInputs<'a, 'r, 'f, C> {
 /// sink.
 pub fn net_delays<C: CornerSet, L: Ledger>(
     alloc: Global,
-    netlist: &Netlist,
-    cells: &CellSets<C>,
+    linked: &LinkedNetlist<C>,
     sections: &Sections<'_, '_, C>,
     port_load: Farads,
     missing: Missing,
     steps: &mut Steps<L>,
 ) -> Result<NetDelays<C>, ParasiticsEnd>
-    requires linked { IsLinked cells.now netlist.now }
     // as the netlist of a design has it
-    requires apart { AreNamedApart netlist.now }
+    requires apart { AreNamedApart linked.now.netlist }
     // as the models of cells have it that a library gives
-    requires small_pins { HaveSmallPins cells.now }
+    requires small_pins { HaveSmallPins linked.now.cells }
     requires small_ports { port_load.0 ≤ most_farads }
-    ensures delays { IfOk result (AreNetDelays (inputs_of C.COUNT netlist.now cells.now sections.now port_load) missing) }
-    ensures refused { IfErr result (IsParasiticsEnd (inputs_of C.COUNT netlist.now cells.now sections.now port_load) missing) }
-    ensures work { IsWithin (inputs_of C.COUNT netlist.now cells.now sections.now port_load) (length netlist.now.nets) steps.old steps.new }
+    ensures delays { IfOk result (AreNetDelays (inputs_of C.COUNT linked.now.netlist linked.now.cells sections.now port_load) missing) }
+    ensures refused { IfErr result (IsParasiticsEnd (inputs_of C.COUNT linked.now.netlist linked.now.cells sections.now port_load) missing) }
+    ensures work { IsWithin (inputs_of C.COUNT linked.now.netlist linked.now.cells sections.now port_load) (length linked.now.netlist.nets)
+        steps.old steps.new }
     ensures no_steps { IfErr result (λ end. IsTrue (is_early end) → steps.new ≡ steps.old) }
 {
     let inputs = NetInputs {
-        netlist,
-        cells,
+        linked,
         sections,
         port_load,
     };
     inputs.check_missing(missing)?;
-    let mut delays = NetDelays::new(alloc, netlist)?;
+    let mut delays = NetDelays::new(alloc, &linked.netlist)?;
     inputs.put_nets(alloc, &mut delays, steps)?;
     delays.whole();
     Ok(delays)

@@ -20,7 +20,7 @@ impl<'a, 'r, 'f, C: CornerSet> NetInputs<'a, 'r, 'f, C> {
         ensures name { result.now.name ≡ (pin_at self.now.netlist self.now.cells 0 instance pin).name }
         ensures apart { PinsDiffer self.now.netlist self.now.cells (end.Pin instance pin) }
     {
-        let models = self.cells.set(self.netlist.cell_of(instance));
+        let models = self.linked.cells.set(self.linked.netlist.cell_of(instance));
         // what it keeps
         let _ = models.pin_count();
         models.pin(pin, corner)
@@ -53,9 +53,9 @@ impl<'a, 'r, 'f, C: CornerSet> NetInputs<'a, 'r, 'f, C> {
         ensures { pin_name result ≡ end_name self.now.netlist self.now.cells (end.Port port) }
     {
         PinName {
-            head: self.netlist.port_text(port).bytes(),
+            head: self.linked.netlist.port_text(port).bytes(),
             tail: None,
-            head_sdf: self.netlist.port_sdf(port).bytes(),
+            head_sdf: self.linked.netlist.port_sdf(port).bytes(),
         }
     }
 
@@ -66,9 +66,9 @@ impl<'a, 'r, 'f, C: CornerSet> NetInputs<'a, 'r, 'f, C> {
     {
         let tail = self.pin(instance, pin, first_corner::<C>()).name.bytes();
         PinName {
-            head: self.netlist.instance_text(instance),
+            head: self.linked.netlist.instance_text(instance),
             tail: Some(tail),
-            head_sdf: self.netlist.instance_sdf(instance),
+            head_sdf: self.linked.netlist.instance_sdf(instance),
         }
     }
 }

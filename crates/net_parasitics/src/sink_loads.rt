@@ -44,7 +44,7 @@ impl<'a, 'r, 'f, C: CornerSet> NetInputs<'a, 'r, 'f, C> {
             (net_at self.now.netlist net).sinks }
     {
         let mut sum = 0;
-        for sink in 0..self.netlist.sink_count(net) {
+        for sink in 0..self.linked.netlist.sink_count(net) {
             sum += self.end_load(self.sink(net, sink), corner).0;
         }
         Farads(sum)

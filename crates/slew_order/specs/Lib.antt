@@ -14,3 +14,4 @@ pub mod PinSlews
 pub mod LivePaths
 pub mod SlewLaws
 pub mod OneTimes
+pub mod Loaded

@@ -3,29 +3,26 @@ ghost use Rattle.std.specs.Prelude.{◌≡◌, ◌+◌, ◌<◌, ◌≤◌, [], 
 ghost use Rattle.std.specs.Option.{option_map};
 ghost use Rattle.cell_models.specs.declared.edge.Edge.TheVariants.{Rise, Fall};
 ghost use Rattle.netlist_link.specs.FlatNetlist.{instance_at};
-ghost use Rattle.netlist_link.specs.Linked.{IsLinked};
 ghost use Rattle.slew_states.specs.InputEdges.{input_edges};
 ghost use Rattle.slew_states.specs.PinState.{IsSmall, joined};
 ghost use Rattle.slew_states.specs.Settled.{states_in};
 ghost use Rattle.slew_order.specs.FlatArcs.{IsArcAt};
 ghost use Rattle.slew_order.specs.LivePaths.{delay_at};
+ghost use Rattle.slew_order.specs.Loaded.{source_in};
 ghost use Rattle.slew_order.specs.NetStates.{states_at};
-ghost use Rattle.slew_order.specs.NetTimes.{Fits};
 ghost use Rattle.slew_order.specs.PinSlews.{state_of_pin};
 ghost use Rattle.slew_order.specs.Slews.{AreTablesOf};
-ghost use Rattle.slew_order.specs.Timings.{source_of};
 
 use crate::arcs::ArcAt;
 use crate::design::tables_of;
 use crate::flattening::{cell_arc, if_loaded};
+use crate::loaded::LoadedNetlist;
 use crate::lookups::look_up;
-use crate::net_delays::NetDelays;
 use crate::slews::Slews;
-use cell_models::{ArcKind, CellSets, Edge};
+use cell_models::{ArcKind, Edge};
 use corner_set::CornerSet;
 use delay_units::Femto;
 use edge_io::Steps;
-use netlist_link::Netlist;
 use nldm_lookup::Grain;
 use slew_states::PinState;
 use std::sync::ledger::Ledger;
@@ -50,27 +47,26 @@ impl<C: CornerSet> Slews<C> {
     // Known with the worst slew of a pin for an edge of the output of an arc from it.
     fn worst_slew(
         &self,
-        netlist: &Netlist,
-        nets: &NetDelays<C>,
+        loaded: &LoadedNetlist<'_, C>,
         instance: usize,
         pin: usize,
         kind: ArcKind,
         edge: Edge,
         corner: C::Index,
     ) -> PinState
-        requires tables { AreTablesOf netlist.now C.COUNT self.now }
-        requires fits { Fits netlist.now nets.now }
-        requires instance { instance < length netlist.now.instances }
-        requires pin { pin < length (instance_at netlist.now instance).nets }
-        ensures value { result ≡ joined (map (state_of_pin netlist.now C.COUNT nets.now self.now.mode (C.number_of corner)
+        requires tables { AreTablesOf loaded.now.linked.now.netlist C.COUNT self.now }
+        requires instance { instance < length loaded.now.linked.now.netlist.instances }
+        requires pin { pin < length (instance_at loaded.now.linked.now.netlist instance).nets }
+        ensures value { result ≡ joined (map (state_of_pin loaded.now.linked.now.netlist C.COUNT loaded.now.nets.now self.now.mode
+            (C.number_of corner)
             (states_in (states_at self.now.corners (C.number_of corner))) instance pin) (input_edges kind edge)) }
         ensures small { IsSmall result }
     {
         match sole_edge(kind, edge) {
-            Some(at) => self.state(netlist, nets, instance, pin, at, corner),
+            Some(at) => self.state(loaded, instance, pin, at, corner),
             None => {
-                let rise = self.state(netlist, nets, instance, pin, Edge::Rise, corner);
-                let fall = self.state(netlist, nets, instance, pin, Edge::Fall, corner);
+                let rise = self.state(loaded, instance, pin, Edge::Rise, corner);
+                let fall = self.state(loaded, instance, pin, Edge::Fall, corner);
                 rise.join(fall)
             }
         }
@@ -81,31 +77,30 @@ impl<C: CornerSet> Slews<C> {
     /// pin. The netlist, its cells and the loads and Elmore sums are those that the slews are of. It is one look-up, of at most 32 steps.
     pub fn delay<L: Ledger>(
         &self,
-        netlist: &Netlist,
-        cells: &CellSets<C>,
-        nets: &NetDelays<C>,
+        loaded: &LoadedNetlist<'_, C>,
         at: ArcAt,
         edge: Edge,
         corner: C::Index,
         steps: &mut Steps<L>,
     ) -> Option<Femto>
-        requires linked { IsLinked cells.now netlist.now }
-        requires tables { AreTablesOf netlist.now C.COUNT self.now }
-        requires fits { Fits netlist.now nets.now }
-        requires at { IsArcAt netlist.now cells.now at }
+        requires tables { AreTablesOf loaded.now.linked.now.netlist C.COUNT self.now }
+        requires at { IsArcAt loaded.now.linked.now.netlist loaded.now.linked.now.cells at }
         ensures delay { option_map (λ femto. femto.0) result
-            ≡ delay_at (source_of netlist.now cells.now C.COUNT nets.now self.now.beyond self.now.mode self.now.slew) (C.number_of corner)
+            ≡ delay_at (source_in loaded.now C.COUNT self.now.beyond self.now.mode self.now.slew) (C.number_of corner)
             (states_in (states_at self.now.corners (C.number_of corner))) at edge }
         ensures steps { steps.new ≤ steps.old + 32 }
     {
-        let arc = cell_arc(netlist, cells, at, corner);
-        let net = if_loaded(netlist, netlist.net_of(at.instance, arc.to))?;
+        let arc = cell_arc(loaded.linked, at, corner);
+        let net = if_loaded(
+            &loaded.linked.netlist,
+            loaded.linked.netlist.net_of(at.instance, arc.to),
+        )?;
         let tables = tables_of(arc, edge)?;
-        let worst = self.worst_slew(netlist, nets, at.instance, arc.from, arc.kind, edge, corner);
+        let worst = self.worst_slew(loaded, at.instance, arc.from, arc.kind, edge, corner);
         let PinState::Known(slew) = worst else {
             return None;
         };
-        let load = nets.load(net, corner);
+        let load = loaded.nets.load(net, corner);
         match look_up(
             &tables.delay,
             slew,

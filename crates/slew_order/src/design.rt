@@ -1,23 +1,23 @@
 //! A design whose slews are asked for.
 ghost use Rattle.std.specs.Prelude.{◌≡◌, ◌+◌, ◌<◌, ◌≤◌, length, unsigned_abs, IfOk, IfSome, IfNone, Some, None, All};
 ghost use Rattle.netlist_link.specs.FlatNetlist.{net_at};
-ghost use Rattle.netlist_link.specs.Linked.{IsLinked};
 ghost use Rattle.slew_states.specs.Arcs.{HaveNets};
 ghost use Rattle.slew_states.specs.PinState.{most};
 ghost use Rattle.slew_order.specs.Designs.{IsSource};
 ghost use Rattle.slew_order.specs.FlatArcs.{IsArcAt, flat_at};
-ghost use Rattle.slew_order.specs.NetTimes.{Fits, elmore_at, elmore_limit};
+ghost use Rattle.slew_order.specs.Loaded.{source_in};
+ghost use Rattle.slew_order.specs.NetTimes.{elmore_at, elmore_limit};
 ghost use Rattle.slew_order.specs.Sinks.{ArePinStarts, IsSunk, related_sink};
 ghost use Rattle.slew_order.specs.SinkPlaces.{ArePlaces};
-ghost use Rattle.slew_order.specs.Timings.{source_of, arcs_in, flat_in, arc_number, behind_wire, look_at, lookups_at, tables_of, wire_at};
+ghost use Rattle.slew_order.specs.Timings.{arcs_in, flat_in, arc_number, behind_wire, look_at, lookups_at, tables_of, wire_at};
 
 use crate::arcs::ArcAt;
 use crate::flattening::{all_arcs, cell_arc, flat_arcs};
+use crate::loaded::LoadedNetlist;
 use crate::lookups::{EdgeLookups, look_up_both, transition_of};
-use crate::net_delays::NetDelays;
 use crate::sinks::{PinSinks, related_sinks};
 use crate::wires::slew_behind;
-use cell_models::{Arc, CellSets, Edge, EdgeTables};
+use cell_models::{Arc, Edge, EdgeTables};
 use corner_set::{CornerSet, corner_at, first_corner};
 use edge_io::{OutOfMemory, Steps};
 use netlist_link::Netlist;
@@ -31,9 +31,7 @@ use wire_slews::WireSlew;
 /// A design whose slews are asked for, with its arcs. Contracts see what its slews come from.
 #[derive(Drop)]
 pub(crate) struct Design<'a, C: CornerSet> {
-    netlist: &'a Netlist,
-    cells: &'a CellSets<C>,
-    nets: &'a NetDelays<C>,
+    loaded: &'a LoadedNetlist<'a, C>,
     beyond: Beyond,
     mode: WireSlew,
     slew: u64,
@@ -44,14 +42,15 @@ pub(crate) struct Design<'a, C: CornerSet> {
 }
 
 impl<'a, C: CornerSet> Model for Design<'a, C> {
-    ghost use Rattle.slew_order.specs.Timings.{SlewSource, source_of};
+    ghost use Rattle.slew_order.specs.Loaded.{source_in};
+    ghost use Rattle.slew_order.specs.Timings.{SlewSource};
     ghost use Rattle.slew_order.specs.Designs.{AreArcsIn};
 
     ghost Value = { SlewSource };
 
-    ghost view = { λ d. source_of d.netlist.now d.cells.now C.COUNT d.nets.now d.beyond d.mode d.slew };
+    ghost view = { λ d. source_in d.loaded.now C.COUNT d.beyond d.mode d.slew };
 
-    ghost invariant = { λ d. AreArcsIn (source_of d.netlist.now d.cells.now C.COUNT d.nets.now d.beyond d.mode d.slew)
+    ghost invariant = { λ d. AreArcsIn (source_in d.loaded.now C.COUNT d.beyond d.mode d.slew)
         d.arcs.items d.flat.items d.sinks.items };
 }
 
@@ -71,29 +70,23 @@ impl<'a, C: CornerSet> Design<'a, C> {
     /// input ports in attoseconds.
     pub(crate) fn new(
         alloc: Global,
-        netlist: &'a Netlist,
-        cells: &'a CellSets<C>,
-        nets: &'a NetDelays<C>,
+        loaded: &'a LoadedNetlist<'a, C>,
         pins: &PinSinks,
         beyond: Beyond,
         mode: WireSlew,
         slew: u64,
     ) -> Result<Design<'a, C>, OutOfMemory>
-        requires linked { IsLinked cells.now netlist.now }
-        requires fits { Fits netlist.now nets.now }
-        requires starts { ArePinStarts netlist.now pins.now.starts.items }
-        requires places { ArePlaces netlist.now pins.now.starts.items pins.now.places.items }
+        requires starts { ArePinStarts loaded.now.linked.now.netlist pins.now.starts.items }
+        requires places { ArePlaces loaded.now.linked.now.netlist pins.now.starts.items pins.now.places.items }
         requires slew { slew ≤ most }
-        ensures { IfOk result (λ design. design ≡ source_of netlist.now cells.now C.COUNT nets.now beyond mode slew) }
+        ensures { IfOk result (λ design. design ≡ source_in loaded.now C.COUNT beyond mode slew) }
     {
         let first = first_corner::<C>();
-        let arcs = all_arcs(alloc, netlist, cells)?;
-        let flat = flat_arcs(alloc, netlist, cells, &arcs, first)?;
-        let sinks = related_sinks(alloc, netlist, cells, &arcs, first, pins)?;
+        let arcs = all_arcs(alloc, loaded.linked)?;
+        let flat = flat_arcs(alloc, loaded.linked, &arcs, first)?;
+        let sinks = related_sinks(alloc, loaded.linked, &arcs, first, pins)?;
         Ok(Design {
-            netlist,
-            cells,
-            nets,
+            loaded,
             beyond,
             mode,
             slew,
@@ -108,7 +101,7 @@ impl<'a, C: CornerSet> Design<'a, C> {
         ensures netlist { result.now ≡ self.now.netlist }
         ensures source { IsSource self.now }
     {
-        self.netlist
+        &self.loaded.linked.netlist
     }
 
     /// The slew of the input ports, in attoseconds.
@@ -207,9 +200,9 @@ impl<'a, C: CornerSet> Design<'a, C> {
         ensures steps { steps.new ≤ steps.old + 64 }
     {
         let net = self.flat[arc].target?;
-        let arc = cell_arc(self.netlist, self.cells, self.arcs[arc], corner);
+        let arc = cell_arc(self.loaded.linked, self.arcs[arc], corner);
         let tables = tables_of(arc, edge)?;
-        let load = self.nets.load(net, corner);
+        let load = self.loaded.nets.load(net, corner);
         Some(look_up_both(tables, slew, load, self.beyond, steps))
     }
 
@@ -230,9 +223,9 @@ impl<'a, C: CornerSet> Design<'a, C> {
         ensures steps { steps.new ≤ steps.old + 64 }
     {
         let net = self.flat[arc].target?;
-        let arc = cell_arc(self.netlist, self.cells, self.arcs[arc], corner);
+        let arc = cell_arc(self.loaded.linked, self.arcs[arc], corner);
         let tables = tables_of(arc, edge)?;
-        let load = self.nets.load(net, corner);
+        let load = self.loaded.nets.load(net, corner);
         transition_of(tables, slew, load, self.beyond, steps)
     }
 
@@ -243,7 +236,7 @@ impl<'a, C: CornerSet> Design<'a, C> {
         ensures value { result ≡ elmore_at self.now.count self.now.times net sink (C.number_of corner) }
         ensures small { result < elmore_limit }
     {
-        self.nets.elmore(net, sink, corner)
+        self.loaded.nets.elmore(net, sink, corner)
     }
 
     /// The slew of a sink of a net at a corner, for a slew of the driver of the net, both in attoseconds. None past 10^12.

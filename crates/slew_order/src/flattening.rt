@@ -5,43 +5,42 @@ ghost use Rattle.cell_models.specs.Shapes.{arc_entry};
 ghost use Rattle.cell_models.specs.declared.cell.Direction.TheVariants.{Input};
 ghost use Rattle.netlist_link.specs.FlatNetlist.{instance_at};
 ghost use Rattle.netlist_link.specs.FlatPins.{pins_of};
-ghost use Rattle.netlist_link.specs.Linked.{IsLinked};
 ghost use Rattle.slew_states.specs.Arcs.{HaveNets};
 ghost use Rattle.slew_order.specs.FlatArcs.{IsArcAt, all_arcs, arc_count, cell_arc, driver_of, drivers_of, flat_arc, flat_at, if_loaded, instance_arcs, net_on};
 
 use crate::arcs::ArcAt;
-use cell_models::{Arc, CellSets};
+use cell_models::Arc;
 use corner_set::CornerSet;
 use edge_io::OutOfMemory;
 use edge_io::lists::push;
-use netlist_link::{End, Netlist};
+use netlist_link::{End, LinkedNetlist, Netlist};
 use slew_states::{Driver, FlatArc};
 use std::alloc::Global;
 
 /// The arcs of all instances, in order of the instances and of the arcs of their cells.
 pub(crate) fn all_arcs<C: CornerSet>(
     alloc: Global,
-    netlist: &Netlist,
-    cells: &CellSets<C>,
+    linked: &LinkedNetlist<C>,
 ) -> Result<Vec<ArcAt>, OutOfMemory>
-    requires { IsLinked cells.now netlist.now }
-    ensures arcs { IfOk result (λ arcs. arcs.items ≡ all_arcs netlist.now cells.now) }
-    ensures there { IfOk result (λ arcs. All (IsArcAt netlist.now cells.now) arcs.items) }
+    ensures arcs { IfOk result (λ arcs. arcs.items ≡ all_arcs linked.now.netlist linked.now.cells) }
+    ensures there { IfOk result (λ arcs. All (IsArcAt linked.now.netlist linked.now.cells) arcs.items) }
 {
     let mut arcs = Vec::new(alloc);
-    for instance in 0..netlist.instance_count() {
-        add_arcs(&mut arcs, instance, arc_count(netlist, cells, instance))?;
+    for instance in 0..linked.netlist.instance_count() {
+        add_arcs(&mut arcs, instance, arc_count(linked, instance))?;
     }
     Ok(arcs)
 }
 
 // How many arcs an instance has.
-fn arc_count<C: CornerSet>(netlist: &Netlist, cells: &CellSets<C>, instance: usize) -> usize
-    requires linked { IsLinked cells.now netlist.now }
-    requires within { instance < length netlist.now.instances }
-    ensures { result ≡ arc_count netlist.now cells.now instance }
+fn arc_count<C: CornerSet>(linked: &LinkedNetlist<C>, instance: usize) -> usize
+    requires within { instance < length linked.now.netlist.instances }
+    ensures { result ≡ arc_count linked.now.netlist linked.now.cells instance }
 {
-    cells.set(netlist.cell_of(instance)).arc_count()
+    linked
+        .cells
+        .set(linked.netlist.cell_of(instance))
+        .arc_count()
 }
 
 // Puts so many arcs of an instance at the end.
@@ -57,58 +56,48 @@ fn add_arcs(arcs: &mut Vec<ArcAt>, instance: usize, count: usize) -> Result<(), 
 /// Arcs of instances as arcs between nets, in their order. The shapes of cells are read at a corner, and are the same at each.
 pub(crate) fn flat_arcs<C: CornerSet>(
     alloc: Global,
-    netlist: &Netlist,
-    cells: &CellSets<C>,
+    linked: &LinkedNetlist<C>,
     arcs: &[ArcAt],
     corner: C::Index,
 ) -> Result<Vec<FlatArc>, OutOfMemory>
-    requires linked { IsLinked cells.now netlist.now }
-    requires arcs { All (IsArcAt netlist.now cells.now) arcs.now }
-    ensures flat { IfOk result (λ flat. flat.items ≡ map (flat_at netlist.now cells.now) arcs.now) }
-    ensures nets { IfOk result (λ flat. HaveNets (length netlist.now.nets) flat.items) }
+    requires arcs { All (IsArcAt linked.now.netlist linked.now.cells) arcs.now }
+    ensures flat { IfOk result (λ flat. flat.items ≡ map (flat_at linked.now.netlist linked.now.cells) arcs.now) }
+    ensures nets { IfOk result (λ flat. HaveNets (length linked.now.netlist.nets) flat.items) }
 {
     let mut flat = Vec::with_capacity(alloc, arcs.len())?;
     for place in 0..arcs.len() {
-        push(&mut flat, flat_at(netlist, cells, arcs[place], corner))?;
+        push(&mut flat, flat_at(linked, arcs[place], corner))?;
     }
     Ok(flat)
 }
 
 // An arc of an instance as an arc between nets.
 #[tactic(auto, using(crate::proofs::Links::same_flat, crate::proofs::Links::net_in))]
-fn flat_at<C: CornerSet>(
-    netlist: &Netlist,
-    cells: &CellSets<C>,
-    at: ArcAt,
-    corner: C::Index,
-) -> FlatArc
-    requires linked { IsLinked cells.now netlist.now }
-    requires at { IsArcAt netlist.now cells.now at }
-    ensures { result ≡ flat_at netlist.now cells.now at }
+fn flat_at<C: CornerSet>(linked: &LinkedNetlist<C>, at: ArcAt, corner: C::Index) -> FlatArc
+    requires at { IsArcAt linked.now.netlist linked.now.cells at }
+    ensures { result ≡ flat_at linked.now.netlist linked.now.cells at }
 {
-    flat_arc(netlist, at.instance, cell_arc(netlist, cells, at, corner))
+    flat_arc(&linked.netlist, at.instance, cell_arc(linked, at, corner))
 }
 
 /// An arc of an instance as it is at a corner.
 #[tactic(auto, using(crate::proofs::Links::same_entry, crate::proofs::Links::input_at, crate::proofs::Links::pins_there, crate::proofs::Links::cell_there))]
 pub fn cell_arc<'a, C: CornerSet>(
-    netlist: &Netlist,
-    cells: &'a CellSets<C>,
+    linked: &'a LinkedNetlist<C>,
     at: ArcAt,
     corner: C::Index,
 ) -> &'a Arc
-    requires linked { IsLinked cells.now netlist.now }
-    requires at { IsArcAt netlist.now cells.now at }
-    ensures arc { result.now ≡ cell_arc netlist.now cells.now at (C.number_of corner) }
-    ensures shape { arc_entry result.now ≡ arc_entry (cell_arc netlist.now cells.now at 0) }
-    ensures from { result.now.from < length (instance_at netlist.now at.instance).nets }
-    ensures to { result.now.to < length (instance_at netlist.now at.instance).nets }
-    ensures input { HasDirection (pins_of cells.now (instance_at netlist.now at.instance).cell)
-        (cell_arc netlist.now cells.now at 0).from Input }
+    requires at { IsArcAt linked.now.netlist linked.now.cells at }
+    ensures arc { result.now ≡ cell_arc linked.now.netlist linked.now.cells at (C.number_of corner) }
+    ensures shape { arc_entry result.now ≡ arc_entry (cell_arc linked.now.netlist linked.now.cells at 0) }
+    ensures from { result.now.from < length (instance_at linked.now.netlist at.instance).nets }
+    ensures to { result.now.to < length (instance_at linked.now.netlist at.instance).nets }
+    ensures input { HasDirection (pins_of linked.now.cells (instance_at linked.now.netlist at.instance).cell)
+        (cell_arc linked.now.netlist linked.now.cells at 0).from Input }
     ensures rise { IfSome result.now.rise IsSettled }
     ensures fall { IfSome result.now.fall IsSettled }
 {
-    let models = cells.set(netlist.cell_of(at.instance));
+    let models = linked.cells.set(linked.netlist.cell_of(at.instance));
     // what it keeps
     let _ = models.arc_count();
     models.arc(at.arc, corner)

@@ -9,6 +9,7 @@ mod ends;
 mod flattening;
 mod laws;
 mod limits;
+mod loaded;
 mod lookups;
 mod net_delays;
 mod net_order;
@@ -26,6 +27,7 @@ pub use laws::{
     corners_agree, deep_slews_are_the_same, live_arcs_have_delays, lookups_are_a_function,
     slews_are_one, times_are_one, worst_at_pins,
 };
+pub use loaded::LoadedNetlist;
 pub use lookups::{EdgeLookups, PartEnd};
 pub use net_delays::NetDelays;
 pub use propagation::propagate;

@@ -1,10 +1,9 @@
 //! The slews of a design, or why it has none.
 ghost use Rattle.std.specs.Prelude.{◌≡◌, ◌+◌, ◌*◌, ◌<◌, ◌≤◌, pos, ◌≤ℤ◌, unsigned_abs, length, IfOk, IfErr, OnOk};
-ghost use Rattle.netlist_link.specs.Linked.{IsLinked};
 ghost use Rattle.slew_states.specs.PinState.{most};
 ghost use Rattle.slew_order.specs.Cycles.{HasNoCycle};
+ghost use Rattle.slew_order.specs.Loaded.{source_in};
 ghost use Rattle.slew_order.specs.NetStates.{AreNetStates, edges_in};
-ghost use Rattle.slew_order.specs.NetTimes.{Fits};
 ghost use Rattle.slew_order.specs.SinkPlaces.{ArePlaces};
 ghost use Rattle.slew_order.specs.Sinks.{ArePinStarts};
 ghost use Rattle.slew_order.specs.SlewEnds.{IsSlewEnd, NoRefusals, NoLimits};
@@ -15,17 +14,15 @@ use crate::design::Design;
 use crate::ends::SlewEnd;
 use crate::flattening::drivers_of;
 use crate::limits::{first_limit, limit_end};
-use crate::net_delays::NetDelays;
+use crate::loaded::LoadedNetlist;
 use crate::net_order::net_order;
 use crate::net_states::{NetStates, settle_corners};
 use crate::refusals::{first_refusal, refused_end};
 use crate::sinks::{PinSinks, pin_sinks};
 use crate::slews::Slews;
-use cell_models::CellSets;
 use corner_set::CornerSet;
 use delay_units::Atto;
 use edge_io::Steps;
-use netlist_link::Netlist;
 use nldm_lookup::Beyond;
 use std::alloc::Global;
 use std::sync::ledger::Ledger;
@@ -106,25 +103,21 @@ fn slews_of<C: CornerSet, L: Ledger>(
 /// instance and an edge that it has, and each corner, whatever it answers.
 pub fn propagate<C: CornerSet, L: Ledger>(
     alloc: Global,
-    netlist: &Netlist,
-    cells: &CellSets<C>,
-    nets: &NetDelays<C>,
+    loaded: &LoadedNetlist<'_, C>,
     input_slew: Atto,
     beyond: Beyond,
     mode: WireSlew,
     steps: &mut Steps<L>,
 ) -> Result<Slews<C>, SlewEnd>
-    requires linked { IsLinked cells.now netlist.now }
-    requires fits { Fits netlist.now nets.now }
     requires not_negative { pos 0 ≤ℤ input_slew.0 }
     requires small { input_slew.0 ≤ℤ pos most }
-    ensures slews { IfOk result (AreSlews (source_of netlist.now cells.now C.COUNT nets.now beyond mode (unsigned_abs input_slew.0))) }
-    ensures end { IfErr result (IsSlewEnd (source_of netlist.now cells.now C.COUNT nets.now beyond mode (unsigned_abs input_slew.0))) }
+    ensures slews { IfOk result (AreSlews (source_in loaded.now C.COUNT beyond mode (unsigned_abs input_slew.0))) }
+    ensures end { IfErr result (IsSlewEnd (source_in loaded.now C.COUNT beyond mode (unsigned_abs input_slew.0))) }
     ensures steps { steps.new ≤ steps.old
-        + 128 * (C.COUNT * edges_in (source_of netlist.now cells.now C.COUNT nets.now beyond mode (unsigned_abs input_slew.0))) }
+        + 128 * (C.COUNT * edges_in (source_in loaded.now C.COUNT beyond mode (unsigned_abs input_slew.0))) }
 {
-    let pins = pin_sinks(alloc, netlist)?;
+    let pins = pin_sinks(alloc, &loaded.linked.netlist)?;
     let slew = input_slew.0.unsigned_abs();
-    let design = Design::new(alloc, netlist, cells, nets, &pins, beyond, mode, slew)?;
+    let design = Design::new(alloc, loaded, &pins, beyond, mode, slew)?;
     slews_of(alloc, &design, pins, steps)
 }

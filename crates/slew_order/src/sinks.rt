@@ -1,7 +1,6 @@
 //! Which sink of its net each pin is.
 ghost use Rattle.std.specs.Prelude.{◌≡◌, ◌+◌, ◌<◌, ◌↔◌, length, map, Some, All, IfOk, IfSome, OnOk, IsTrue};
 ghost use Rattle.netlist_link.specs.FlatNetlist.{instance_at, net_at};
-ghost use Rattle.netlist_link.specs.Linked.{IsLinked};
 ghost use Rattle.slew_order.specs.FlatArcs.{IsArcAt, net_on};
 ghost use Rattle.slew_order.specs.NetTimes.{start_in};
 ghost use Rattle.slew_order.specs.Sinks.{ArePinStarts, IsSunk, is_pin, pin_place, related_sink};
@@ -10,11 +9,10 @@ ghost use Rattle.slew_order.specs.SinkPlaces.{ArePlaces, ArePlacedTo};
 
 use crate::arcs::ArcAt;
 use crate::flattening::cell_arc;
-use cell_models::CellSets;
 use corner_set::CornerSet;
 use edge_io::OutOfMemory;
 use edge_io::lists::push;
-use netlist_link::{End, Netlist};
+use netlist_link::{End, LinkedNetlist, Netlist};
 use std::alloc::Global;
 
 /// Which sink of its net each pin is: the pins of an instance begin where it starts.
@@ -120,29 +118,20 @@ pub(crate) fn pin_sinks(alloc: Global, netlist: &Netlist) -> Result<PinSinks, Ou
 /// For each arc which sink of its net its related pin is; 0 where that pin is on no net.
 pub(crate) fn related_sinks<C: CornerSet>(
     alloc: Global,
-    netlist: &Netlist,
-    cells: &CellSets<C>,
+    linked: &LinkedNetlist<C>,
     arcs: &[ArcAt],
     corner: C::Index,
     pins: &PinSinks,
 ) -> Result<Vec<usize>, OutOfMemory>
-    requires linked { IsLinked cells.now netlist.now }
-    requires arcs { All (IsArcAt netlist.now cells.now) arcs.now }
-    requires starts { ArePinStarts netlist.now pins.now.starts.items }
-    requires places { ArePlaces netlist.now pins.now.starts.items pins.now.places.items }
-    ensures sinks { IfOk result (λ sinks. sinks.items ≡ map (related_sink netlist.now cells.now) arcs.now) }
-    ensures sunk { OnOk result (All (IsSunk netlist.now cells.now) arcs.now) }
+    requires arcs { All (IsArcAt linked.now.netlist linked.now.cells) arcs.now }
+    requires starts { ArePinStarts linked.now.netlist pins.now.starts.items }
+    requires places { ArePlaces linked.now.netlist pins.now.starts.items pins.now.places.items }
+    ensures sinks { IfOk result (λ sinks. sinks.items ≡ map (related_sink linked.now.netlist linked.now.cells) arcs.now) }
+    ensures sunk { OnOk result (All (IsSunk linked.now.netlist linked.now.cells) arcs.now) }
 {
     let mut sinks = Vec::with_capacity(alloc, arcs.len())?;
     for place in 0..arcs.len() {
-        let sink = related_sink(
-            netlist,
-            cells,
-            arcs[place],
-            corner,
-            &pins.starts,
-            &pins.places,
-        );
+        let sink = related_sink(linked, arcs[place], corner, &pins.starts, &pins.places);
         push(&mut sinks, sink)?;
     }
     Ok(sinks)
@@ -227,22 +216,20 @@ fn is_on(netlist: &Netlist, instance: usize, pin: usize, net: usize) -> bool
 // Which sink of its net the related pin of an arc is.
 #[tactic(auto, using(crate::proofs::Sinking::arc_sunk, crate::proofs::Sinking::pin_sunk, crate::proofs::Links::net_in, crate::proofs::Placing::place_below))]
 fn related_sink<C: CornerSet>(
-    netlist: &Netlist,
-    cells: &CellSets<C>,
+    linked: &LinkedNetlist<C>,
     at: ArcAt,
     corner: C::Index,
     starts: &[usize],
     places: &[usize],
 ) -> usize
-    requires linked { IsLinked cells.now netlist.now }
-    requires at { IsArcAt netlist.now cells.now at }
-    requires starts { ArePinStarts netlist.now starts.now }
-    requires places { ArePlaces netlist.now starts.now places.now }
-    ensures sink { result ≡ related_sink netlist.now cells.now at }
-    ensures sunk { IsSunk netlist.now cells.now at }
+    requires at { IsArcAt linked.now.netlist linked.now.cells at }
+    requires starts { ArePinStarts linked.now.netlist starts.now }
+    requires places { ArePlaces linked.now.netlist starts.now places.now }
+    ensures sink { result ≡ related_sink linked.now.netlist linked.now.cells at }
+    ensures sunk { IsSunk linked.now.netlist linked.now.cells at }
 {
-    let from = cell_arc(netlist, cells, at, corner).from;
-    match netlist.net_of(at.instance, from) {
+    let from = cell_arc(linked, at, corner).from;
+    match linked.netlist.net_of(at.instance, from) {
         Some(_) => places[starts[at.instance] + from],
         None => 0,
     }

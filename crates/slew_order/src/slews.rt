@@ -6,11 +6,10 @@ ghost use Rattle.slew_states.specs.PinState.{IsSmall};
 ghost use Rattle.slew_states.specs.Settled.{states_in};
 ghost use Rattle.slew_order.specs.FlatArcs.{net_on};
 ghost use Rattle.slew_order.specs.NetStates.{states_at};
-ghost use Rattle.slew_order.specs.NetTimes.{Fits};
 ghost use Rattle.slew_order.specs.PinSlews.{IsSlewOf, state_of_pin};
 ghost use Rattle.slew_order.specs.Slews.{AreTablesOf, tables_of};
 
-use crate::net_delays::NetDelays;
+use crate::loaded::LoadedNetlist;
 use crate::net_states::NetStates;
 use crate::sinks::{PinSinks, is_driver};
 use crate::wires::state_behind;
@@ -74,30 +73,31 @@ impl<C: CornerSet> Slews<C> {
     /// The state of a pin of an instance, at an edge and a corner.
     pub(crate) fn state(
         &self,
-        netlist: &Netlist,
-        nets: &NetDelays<C>,
+        loaded: &LoadedNetlist<'_, C>,
         instance: usize,
         pin: usize,
         edge: Edge,
         corner: C::Index,
     ) -> PinState
-        requires tables { AreTablesOf netlist.now C.COUNT self.now }
-        requires fits { Fits netlist.now nets.now }
-        requires instance { instance < length netlist.now.instances }
-        requires pin { pin < length (instance_at netlist.now instance).nets }
-        ensures value { result ≡ state_of_pin netlist.now C.COUNT nets.now self.now.mode (C.number_of corner)
+        requires tables { AreTablesOf loaded.now.linked.now.netlist C.COUNT self.now }
+        requires instance { instance < length loaded.now.linked.now.netlist.instances }
+        requires pin { pin < length (instance_at loaded.now.linked.now.netlist instance).nets }
+        ensures value { result ≡ state_of_pin loaded.now.linked.now.netlist C.COUNT loaded.now.nets.now self.now.mode (C.number_of corner)
             (states_in (states_at self.now.corners (C.number_of corner))) instance pin edge }
         ensures small { IsSmall result }
     {
-        let Some(net) = netlist.net_of(instance, pin) else {
+        let Some(net) = loaded.linked.netlist.net_of(instance, pin) else {
             return PinState::Absent;
         };
-        let state = self.net_state(netlist, net, edge, corner);
-        if is_driver(netlist.driver(net), instance, pin) {
+        let state = self.net_state(&loaded.linked.netlist, net, edge, corner);
+        if is_driver(loaded.linked.netlist.driver(net), instance, pin) {
             return state;
         }
-        match self.pins.sink_of(netlist, instance, pin, net) {
-            Some(sink) => state_behind(self.mode, nets.elmore(net, sink, corner), state),
+        match self
+            .pins
+            .sink_of(&loaded.linked.netlist, instance, pin, net)
+        {
+            Some(sink) => state_behind(self.mode, loaded.nets.elmore(net, sink, corner), state),
             None => PinState::Absent,
         }
     }
@@ -117,21 +117,19 @@ impl<C: CornerSet> Slews<C> {
     /// slews are of. None where no edge comes to the pin.
     pub fn at(
         &self,
-        netlist: &Netlist,
-        nets: &NetDelays<C>,
+        loaded: &LoadedNetlist<'_, C>,
         instance: usize,
         pin: usize,
         edge: Edge,
         corner: C::Index,
     ) -> Option<Atto>
-        requires tables { AreTablesOf netlist.now C.COUNT self.now }
-        requires fits { Fits netlist.now nets.now }
-        requires instance { instance < length netlist.now.instances }
-        requires pin { pin < length (instance_at netlist.now instance).nets }
-        ensures { IsSlewOf (state_of_pin netlist.now C.COUNT nets.now self.now.mode (C.number_of corner)
+        requires tables { AreTablesOf loaded.now.linked.now.netlist C.COUNT self.now }
+        requires instance { instance < length loaded.now.linked.now.netlist.instances }
+        requires pin { pin < length (instance_at loaded.now.linked.now.netlist instance).nets }
+        ensures { IsSlewOf (state_of_pin loaded.now.linked.now.netlist C.COUNT loaded.now.nets.now self.now.mode (C.number_of corner)
             (states_in (states_at self.now.corners (C.number_of corner))) instance pin edge) result }
     {
-        match self.state(netlist, nets, instance, pin, edge, corner) {
+        match self.state(loaded, instance, pin, edge, corner) {
             PinState::Known(slew) => Some(Atto(slew as i64)),
             _ => None,
         }

@@ -11,7 +11,7 @@ use delay_units::{Atto, Farads};
 use edge_io::{MemShelf, OutOfMemory, Steps, Text, TextList};
 use netlist_link::Netlist;
 use nldm_lookup::{Beyond, Outside};
-use slew_order::{ArcAt, ArcList, NetDelays, SlewEnd, Slews, propagate};
+use slew_order::{ArcAt, ArcList, LoadedNetlist, NetDelays, SlewEnd, Slews, propagate};
 use std::alloc::Global;
 use std::marker::Brand;
 use std::sync::ledger::{Blank, Ledger};
@@ -88,16 +88,11 @@ fn slews_by<L: Ledger>(
     ensures { IfOk result (AreTablesOf design.now.netlist 1) }
 {
     let mut steps = Steps::<L>::new(blank);
-    propagate(
-        alloc,
-        design.netlist(),
-        design.cells(),
+    let with_loads = LoadedNetlist {
+        linked: design.linked(),
         nets,
-        Atto(slew),
-        beyond,
-        mode,
-        &mut steps,
-    )
+    };
+    propagate(alloc, &with_loads, Atto(slew), beyond, mode, &mut steps)
 }
 
 /// The slews of a design at a slew of its input ports in attoseconds, or why there are none.
@@ -133,7 +128,11 @@ pub fn slew_at(
     if instance >= netlist.instance_count() || pin >= netlist.pin_count(instance) {
         return None;
     }
-    let slew = slews.at(netlist, nets, instance, pin, edge, ())?;
+    let with_loads = LoadedNetlist {
+        linked: design.linked(),
+        nets,
+    };
+    let slew = slews.at(&with_loads, instance, pin, edge, ())?;
     Some(slew.0)
 }
 
@@ -160,7 +159,11 @@ fn delay_by<L: Ledger>(
     if at.arc >= cells.set(netlist.cell_of(at.instance)).arc_count() {
         return None;
     }
-    let delay = slews.delay(netlist, cells, nets, at, edge, (), &mut steps)?;
+    let with_loads = LoadedNetlist {
+        linked: design.linked(),
+        nets,
+    };
+    let delay = slews.delay(&with_loads, at, edge, (), &mut steps)?;
     Some(delay.0)
 }
 

@@ -13,7 +13,7 @@ use Rattle.delay_annotation.proofs.design_timing.time_netlist.Goals as goal
 
 pub returns-in_err-slews-clause-follows : goal.returns-in_err-slews-clause-follows
 returns-in_err-slews-clause-follows g c =
-    let design : LinkedDesign = record { netlist = c.args.netlist.now; cells = c.args.cells.now } in
+    let design : LinkedDesign = record { netlist = c.args.linked.now.netlist; cells = c.args.linked.now.cells } in
     refused_on SlewTables DesignDelays c.from_residual.result c.in_err-slews.field-0.0
     (FindsSlews (slew_source g.C.CornerSet.COUNT design c.args.nets c.args.settings.now))
     (TimesNets g.C.CornerSet.COUNT design c.args.nets c.args.settings.now)
@@ -25,10 +25,10 @@ returns-in_err-slews-clause-steps g c =
     let slews = c.find_slews.ensures.steps in
     omega (arith, slews)
 
-pub annotation_rows-requires-clause-tables : goal.annotation_rows-requires-clause-tables
-annotation_rows-requires-clause-tables g c =
-    let design : LinkedDesign = record { netlist = c.args.netlist.now; cells = c.args.cells.now } in
-    tables_fit (slew_source g.C.CornerSet.COUNT design c.args.nets c.args.settings.now) c.in_ok-slews.slews c.in_ok-slews.ensures.follows
+pub annotation_rows-requires : goal.annotation_rows-requires
+annotation_rows-requires g c =
+    let design : LinkedDesign = record { netlist = c.args.linked.now.netlist; cells = c.args.linked.now.cells } in
+    record { tables = tables_fit (slew_source g.C.CornerSet.COUNT design c.args.nets c.args.settings.now) c.in_ok-slews.slews c.in_ok-slews.ensures.follows }
 
 pub returns-in_err-rows-clause-steps : goal.returns-in_err-rows-clause-steps
 returns-in_err-rows-clause-steps g c =
@@ -38,7 +38,7 @@ returns-in_err-rows-clause-steps g c =
 
 pub returns-clause-follows : goal.returns-clause-follows
 returns-clause-follows g c =
-    let design : LinkedDesign = record { netlist = c.args.netlist.now; cells = c.args.cells.now } in
+    let design : LinkedDesign = record { netlist = c.args.linked.now.netlist; cells = c.args.linked.now.cells } in
     timed_by g.C.CornerSet.COUNT design c.args.settings.now c.args.nets c.in_ok-slews.slews c.in_ok-rows.rows
     c.in_ok-slews.ensures.follows c.in_ok-rows.ensures.rows
 

@@ -5,10 +5,10 @@ use Rattle.delay_annotation.specs.SlewPhase.{no_slews}
 use Rattle.delay_annotation.proofs.SlewEnds.{end_there}
 use Rattle.delay_annotation.proofs.slew_phase.find_slews.Goals as goal
 
-pub slew_refusal-requires-clause-there : goal.slew_refusal-requires-clause-there
-slew_refusal-requires-clause-there g c =
-    let source : SlewSource = source_of c.args.netlist.now c.args.cells.now g.C.CornerSet.COUNT c.args.nets.now c.args.settings.now.beyond c.args.settings.now.wire_slew (unsigned_abs c.args.settings.now.input_slew.0) in
-    end_there source c.in-Err.end c.requires.linked c.in-Err.ensures.end
+pub slew_refusal-requires : goal.slew_refusal-requires
+slew_refusal-requires g c =
+    let source : SlewSource = source_of c.args.loaded.now.linked.now.netlist c.args.loaded.now.linked.now.cells g.C.CornerSet.COUNT c.args.loaded.now.nets.now c.args.settings.now.beyond c.args.settings.now.wire_slew (unsigned_abs c.args.settings.now.input_slew.0) in
+    end_there source c.in-Err.end c.args.loaded.now.linked.now.linked c.in-Err.ensures.end
 
 pub returns-in_ok-refusal-in-Err-clause-follows : goal.returns-in_ok-refusal-in-Err-clause-follows
 returns-in_ok-refusal-in-Err-clause-follows g c = no_slews c.in-Err.end c.in_ok-refusal-in-Err.refusal c.in-Err.ensures.end c.in_ok-refusal-in-Err.ensures

@@ -3,7 +3,7 @@ use Rattle.delay_annotation.proofs.SinkEnds.{pin_there}
 use Rattle.delay_annotation.proofs.slew_phase.limit_refusal.Goals as goal
 
 pub instance_text-requires : goal.instance_text-requires
-instance_text-requires g c = (pin_there c.args.cells.now c.args.netlist.now c.args.net c.args.sink c.in-Pin.instance c.in-Pin.pin c.sink.result c.requires.linked c.requires.sink c.sink.ensures c.in-Pin.is).0
+instance_text-requires g c = (pin_there c.args.linked.now.cells c.args.linked.now.netlist c.args.net c.args.sink c.in-Pin.instance c.in-Pin.pin c.sink.result c.args.linked.now.linked c.requires c.sink.ensures c.in-Pin.is).0
 
-pub pin_name-requires-clause-end : goal.pin_name-requires-clause-end
-pin_name-requires-clause-end g c = pin_there c.args.cells.now c.args.netlist.now c.args.net c.args.sink c.in-Pin.instance c.in-Pin.pin c.sink.result c.requires.linked c.requires.sink c.sink.ensures c.in-Pin.is
+pub pin_name-requires : goal.pin_name-requires
+pin_name-requires g c = pin_there c.args.linked.now.cells c.args.linked.now.netlist c.args.net c.args.sink c.in-Pin.instance c.in-Pin.pin c.sink.result c.args.linked.now.linked c.requires c.sink.ensures c.in-Pin.is

@@ -6,10 +6,10 @@ use Rattle.delay_annotation.proofs.slew_phase.loop_nets.Goals as goal
 
 -- src/slew_phase.rt
 pub loop-place-preserved : goal.loop-place-preserved
-loop-place-preserved g c = mapped_more (related_text c.args.netlist.now c.args.cells.now) c.args.cycle.now c.loop-place.place c.get.result
+loop-place-preserved g c = mapped_more (related_text c.args.linked.now.netlist c.args.linked.now.cells) c.args.cycle.now c.loop-place.place c.get.result
     c.loop-place.nets c.push.new.self c.in_ok-net.net c.get.ensures c.loop-place.invariant c.in_ok-net.ensures c.in_ok-push.ensures.ok
 
 pub returns : goal.returns
 returns g c =
     c.loop-place.invariant
-    ∙ ap (map (related_text c.args.netlist.now c.args.cells.now)) (take_all c.loop-place.place c.args.cycle.now (omega (arith, c.len-place-end.ensures, c.loop-place-test.false)))
+    ∙ ap (map (related_text c.args.linked.now.netlist c.args.linked.now.cells)) (take_all c.loop-place.place c.args.cycle.now (omega (arith, c.len-place-end.ensures, c.loop-place-test.false)))

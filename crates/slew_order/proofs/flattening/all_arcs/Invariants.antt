@@ -4,4 +4,4 @@ use Rattle.slew_order.specs.FlatArcs.{instance_arcs, arc_count}
 use Rattle.slew_order.proofs.flattening.all_arcs.Given as goal
 
 abbrev pub invariant-loop-instance : goal.invariant-loop-instance
-invariant-loop-instance g l = l.arcs.items ≡ joined_from (λ i. instance_arcs i (arc_count l.netlist l.cells i)) 0 l.instance
+invariant-loop-instance g l = l.arcs.items ≡ joined_from (λ i. instance_arcs i (arc_count l.linked.netlist l.linked.cells i)) 0 l.instance

@@ -5,6 +5,6 @@ use Rattle.slew_order.proofs.sinks.related_sinks.Given as goal
 
 abbrev pub invariant-loop-place : goal.invariant-loop-place
 invariant-loop-place g l = record {
-  sinks : l.sinks.items ≡ map (related_sink l.netlist l.cells) (take l.place l.arcs);
-  sunk : All (IsSunk l.netlist l.cells) (take l.place l.arcs);
+  sinks : l.sinks.items ≡ map (related_sink l.linked.netlist l.linked.cells) (take l.place l.arcs);
+  sunk : All (IsSunk l.linked.netlist l.linked.cells) (take l.place l.arcs);
 }

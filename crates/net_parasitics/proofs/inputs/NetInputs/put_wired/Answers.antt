@@ -15,7 +15,7 @@ get-section-requires g c = subst (λ (i : Inputs). c.in-Some.place < length i.se
 pub put_written-requires-clause-written : goal.put_written-requires-clause-written
 put_written-requires-clause-written g c =
     subst (λ (i : Inputs). IsSectionOf i.sections (net_at i.netlist c.args.net).text c.get-section.result) c.self.view_is
-    (written_there c.self.inside.sections.now (net_at c.self.inside.netlist.now c.args.net).text (net_at c.self.inside.netlist.now c.args.net).text c.in-Some.place c.get-section.result refl
+    (written_there c.self.inside.sections.now (net_at c.self.inside.linked.now.netlist c.args.net).text (net_at c.self.inside.linked.now.netlist c.args.net).text c.in-Some.place c.get-section.result refl
     (subst (λ (i : Inputs). slice_get (net_names i.sections) c.in-Some.place ≡ Some (net_at i.netlist c.args.net).text) (sym c.self.view_is) c.in-Some.ensures.found)
     c.get-section.ensures.net)
 

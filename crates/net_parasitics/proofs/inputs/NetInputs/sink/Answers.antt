@@ -13,5 +13,5 @@ returns-clause-end g c =
     let net = subst (λ (i : Inputs). c.args.net < length i.netlist.nets) back c.requires.net in
     let within = subst (λ (i : Inputs). c.args.sink < length (net_at i.netlist c.args.net).sinks) back c.requires.within in
     subst (λ (i : Inputs). IsEnd i.netlist i.cells c.sink.result) c.self.view_is
-    (subst (IsEnd c.self.inside.netlist.now c.self.inside.cells.now) (sym c.sink.ensures)
-    (sink_is_end c.self.inside.cells.now c.self.inside.netlist.now c.args.net c.args.sink (Port 0) c.self.invariant.linked net within))
+    (subst (IsEnd c.self.inside.linked.now.netlist c.self.inside.linked.now.cells) (sym c.sink.ensures)
+    (sink_is_end c.self.inside.linked.now.cells c.self.inside.linked.now.netlist c.args.net c.args.sink (Port 0) c.self.invariant.linked net within))

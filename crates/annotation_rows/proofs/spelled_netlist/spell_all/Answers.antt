@@ -3,9 +3,9 @@ use Rattle.std.proofs.lemmas.List.{length-map}
 use Rattle.cell_models.specs.NamedSets.{NamedCells, set_cells}
 use Rattle.annotation_rows.specs.SdfEnds.{spelled_pins}
 use Rattle.annotation_rows.proofs.SpelledPins.{more_made, all_made}
-use Rattle.annotation_rows.proofs.spelled_cells.spell_all.Goals as goal
+use Rattle.annotation_rows.proofs.spelled_netlist.spell_all.Goals as goal
 
--- src/spelled_cells.rt
+-- src/spelled_netlist.rt
 pub loop-cell-preserved : goal.loop-cell-preserved
 loop-cell-preserved g c =
     more_made spelled_pins (set_cells c.args.cells.now) c.loop-cell.cell c.set.result.now c.loop-cell.pins.items _ c.loop-cell.invariant c.set.ensures

@@ -4,9 +4,9 @@ use Rattle.cell_models.specs.CornerCells.{pins_at}
 use Rattle.cell_models.specs.declared.cell.Pin.{Pin}
 use Rattle.name_table.specs.SdfNames.{part}
 use Rattle.annotation_rows.proofs.SpelledPins.{more_made, all_made}
-use Rattle.annotation_rows.proofs.spelled_cells.spell_pins.Goals as goal
+use Rattle.annotation_rows.proofs.spelled_netlist.spell_pins.Goals as goal
 
--- src/spelled_cells.rt
+-- src/spelled_netlist.rt
 pub loop-pin-preserved : goal.loop-pin-preserved
 loop-pin-preserved g c =
     let pins : List Pin = pins_at c.args.cell.now 0 in
