@@ -8,21 +8,18 @@ use Rattle.sdf_reader.specs.Tokens.{Lexeme, IsToken, is_broken}
 use Rattle.sdf_reader.specs.Rows.{no_value}
 use Rattle.sdf_reader.specs.Grammar.{IsSdfBy}
 use Rattle.sdf_reader.specs.Causes.{token_at, IsAnyWord, IsNumberPlace, IsCause, bad_byte, open_text, open_comment, end_inside, bad_number, unexpected}
-use Rattle.sdf_reader.specs.Steps.{does}
-use Rattle.sdf_reader.specs.Modes.{State, first_state, with_entry, with_value, applied, next, finish}
+use Rattle.sdf_reader.specs.Steps.{class_of, cause_of, Move, next_of}
+use Rattle.sdf_reader.specs.Modes.{State, first_state, to_mode, with_entry, with_value, moved, step, next, finish}
 use Rattle.sdf_reader.specs.declared.scan.Kind.{Kind}
 use Rattle.sdf_reader.specs.declared.scan.Kind.TheVariants as kind
 use Rattle.sdf_reader.specs.declared.modes.Mode.{Mode}
-use Rattle.sdf_reader.specs.declared.modes.Mode.TheVariants as mode
-use Rattle.sdf_reader.specs.declared.modes.Shape.{Shape}
-use Rattle.sdf_reader.specs.declared.modes.Step.{Step}
-use Rattle.sdf_reader.specs.declared.modes.Step.TheVariants.{Refuse, Number}
+use Rattle.sdf_reader.specs.declared.modes.Action.TheVariants.{Number}
 use Rattle.sdf_reader.specs.declared.rows.Value.{Value}
 use Rattle.sdf_reader.specs.declared.timescales.Timescale.{Timescale}
 use Rattle.sdf_reader.specs.declared.ends.SdfCause.{SdfCause}
 use Rattle.sdf_reader.proofs.Living.{lives}
 use Rattle.sdf_reader.proofs.Fitting.{fits}
-use Rattle.sdf_reader.proofs.Refusing.{cause_of, refused_for, end_cause}
+use Rattle.sdf_reader.proofs.Refusing.{end_cause}
 use Rattle.sdf_reader.proofs.Loosening.{any, any_decides, Alike, reaches_like, Stays, in_number, nowhere, stays, completes_there, refused_there}
 
 take_one_more : (texts : List Lexeme) (n : ℕ) (text : Lexeme) → slice_get texts n ≡ Some text → take (suc n) texts ≡ take n texts ++ text ∷ []
@@ -46,28 +43,28 @@ module _ (number : Timescale → List ℕ → Option Value) (texts : List Lexeme
 
   -- where a reader stands that takes any word for a number
   loose : (end : State) × Reaches (next any) first_state 1 (take at.taken texts) end × Alike stop.state end
-  loose = reaches_like number first_state (record { mode = refl; depth = refl }) at.reached
+  loose = reaches_like number first_state (record { mode = refl }) at.reached
 
-  does_there : (token : Lexeme) (st : Step) → does stop.state.mode token.kind token.bytes ≡ st → does loose.0.mode token.kind token.bytes ≡ st
-  does_there token st is = ap (λ (m : Mode). does m token.kind token.bytes) (sym loose.2.mode) ∙ is
+  makes_there : (token : Lexeme) (move : Move) → next_of stop.state.mode (class_of token.kind token.bytes) token.bytes ≡ move → next_of loose.0.mode (class_of token.kind token.bytes) token.bytes ≡ move
+  makes_there token move is = ap (λ (m : Mode). next_of m (class_of token.kind token.bytes) token.bytes) (sym loose.2.mode) ∙ is
 
-  pub number_place : (token : Lexeme) (shape : Shape) → slice_get texts at.taken ≡ Some token → does stop.state.mode token.kind token.bytes ≡ Number shape → IsNumberPlace texts stop.number
-  number_place token shape e is =
-      let after : State = with_entry (mode.NumberEnd shape) (with_value no_value loose.0.entry) loose.0 in
-      let moves : applied any (does loose.0.mode token.kind token.bytes) loose.0 token.bytes ≡ Ok after = ap (λ (st : Step). applied any st loose.0 token.bytes) (does_there token (Number shape) is) in
+  pub number_place : (token : Lexeme) (m : Mode) → slice_get texts at.taken ≡ Some token → next_of stop.state.mode (class_of token.kind token.bytes) token.bytes ≡ Some (m, Number) → IsNumberPlace texts stop.number
+  number_place token m e is =
+      let after : State = with_entry (with_value no_value loose.0.entry) (to_mode m loose.0) in
+      let moves : step any loose.0 token.kind token.bytes ≡ Ok after = ap (λ (move : Move). moved any token.kind move loose.0 token.bytes) (makes_there token (Some (m, Number)) is) in
       let whole = completes_there any token loose.1 (λ n. completes_after n after moves) in
       subst (λ (front : List Lexeme). Begins IsToken (IsSdfBy IsAnyWord) front) (sym (front_is token e))
       (record { more = whole.more; tokens = whole.tokens; text = (whole.value, (fits IsAnyWord any any_decides).means ((take at.taken texts ++ token ∷ []) ++ whole.more) whole.value whole.made) })
     where
-      completes_after : (n : ℕ) (after : State) → applied any (does loose.0.mode token.kind token.bytes) loose.0 token.bytes ≡ Ok after → Completes IsToken (next any) finish loose.0 n (token ∷ [])
+      completes_after : (n : ℕ) (after : State) → step any loose.0 token.kind token.bytes ≡ Ok after → Completes IsToken (next any) finish loose.0 n (token ∷ [])
       completes_after n after moves =
           let now = lives any after (n + 1) in
           record { more = now.more; tokens = now.tokens; value = now.value; made = ap (go_on n loose.0 (λ (x : State). outcome (next any) finish x (n + 1) now.more)) moves ∙ now.made }
 
-  pub no_number_place : (token : Lexeme) (cause : SdfCause) → slice_get texts at.taken ≡ Some token → does stop.state.mode token.kind token.bytes ≡ Refuse cause → IsNumberPlace texts stop.number → ⊥
-  no_number_place token cause e is begins =
+  pub no_number_place : (token : Lexeme) → slice_get texts at.taken ≡ Some token → next_of stop.state.mode (class_of token.kind token.bytes) token.bytes ≡ None → IsNumberPlace texts stop.number → ⊥
+  no_number_place token e is begins =
       let begins' : Begins IsToken (IsSdfBy IsAnyWord) (take at.taken texts ++ token ∷ []) = subst (λ (front : List Lexeme). Begins IsToken (IsSdfBy IsAnyWord) front) (front_is token e) begins in
-      refused_there any token cause begins'.more begins'.text.0 loose.1 (ap (λ (st : Step). applied any st loose.0 token.bytes) (does_there token (Refuse cause) is))
+      refused_there any token (cause_of token.kind) begins'.more begins'.text.0 loose.1 (ap (λ (move : Move). moved any token.kind move loose.0 token.bytes) (makes_there token None is))
       ((fits IsAnyWord any any_decides).takes ((take at.taken texts ++ token ∷ []) ++ begins'.more) begins'.text.0 begins'.text.1)
 
   by_kind : (token : Lexeme) (k : Kind) → slice_get texts at.taken ≡ Some token → token.kind ≡ k → (IsNumberPlace texts stop.number → ⊥) → IsCause texts stop.number (cause_of k)
@@ -77,12 +74,11 @@ module _ (number : Timescale → List ℕ → Option Value) (texts : List Lexeme
   by_kind token _ e is none = unexpected (here (Some token) e) (ap is_broken is) none
 
   cause_of_token : (token : Lexeme) (cause : SdfCause) → slice_get texts at.taken ≡ Some token → Stays number stop.state token cause → IsCause texts stop.number cause
-  cause_of_token token cause e (in_number {shape = shape} is) = bad_number (here (Some token) e) (number_place token shape e is)
-  cause_of_token token cause e (nowhere is) =
-      subst (IsCause texts stop.number) (refused_for cause stop.state.mode token.kind token.bytes is) (by_kind token token.kind e refl (no_number_place token cause e is))
+  cause_of_token token cause e (in_number {m = m} is) = bad_number (here (Some token) e) (number_place token m e is)
+  cause_of_token token cause e (nowhere is) = by_kind token token.kind e refl (no_number_place token e is)
 
   by_why : (o : Option Lexeme) → slice_get texts at.taken ≡ o → Refuses (next number) finish stop o → IsCause texts stop.number stop.cause
-  by_why (Some token) e (at_token refusal) = cause_of_token token stop.cause e (stays number stop.state token stop.cause (does stop.state.mode token.kind token.bytes) refl refusal)
+  by_why (Some token) e (at_token refusal) = cause_of_token token stop.cause e (stays number stop.state token stop.cause (next_of stop.state.mode (class_of token.kind token.bytes) token.bytes) refl refusal)
   by_why None e (at_end refusal) = subst (IsCause texts stop.number) (sym (end_cause stop.state.mode stop.state.rows stop.cause refusal)) (end_inside (here None e))
 
 -- where the machine stops, its cause is that of the dead token

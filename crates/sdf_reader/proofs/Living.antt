@@ -124,13 +124,13 @@ module _ (read : Timescale → List ℕ → Option Value) where
   Ends state number more = (value : List SdfRow) × (outcome (next read) finish state number more ≡ Ok value)
 
   module _ (divider : ℕ) (scale : Timescale) (cell : List ℕ) (instance : Option (List ℕ)) (entry : Entry) (rows : List SdfRow) where
-    abbrev at : Mode → ℕ → State
-    at mode depth = record { mode = mode; depth = depth; divider = divider; scale = scale; cell = cell; instance = instance; entry = entry; rows = rows }
+    abbrev at : Mode → State
+    at mode = record { mode = mode; divider = divider; scale = scale; cell = cell; instance = instance; entry = entry; rows = rows }
 
-    completed_by : (mode : Mode) (depth number : ℕ) (more : List Lexeme) → AllByRecursion IsToken more → Ends (at mode depth) number more → Completes IsToken (next read) finish (at mode depth) number []
-    completed_by mode depth number more tokens ends = record { more = more; tokens = tokens; value = ends.0; made = ends.1 }
+    completed_by : (mode : Mode) (number : ℕ) (more : List Lexeme) → AllByRecursion IsToken more → Ends (at mode) number more → Completes IsToken (next read) finish (at mode) number []
+    completed_by mode number more tokens ends = record { more = more; tokens = tokens; value = ends.0; made = ends.1 }
 
-    ends_behind : (depth number : ℕ) (s : Site) → Ends (at (mode.Over s) depth) number (closed (suc depth) (behind s))
+    ends_behind : (depth number : ℕ) (s : Site) → Ends (at (mode.Over s depth)) number (closed (suc depth) (behind s))
     unfolding closed
     ends_behind zero number site.Heads = (_, refl)
     ends_behind zero number site.Specs = (_, refl)
@@ -138,46 +138,46 @@ module _ (read : Timescale → List ℕ → Option Value) where
     ends_behind zero number site.Entries = (_, refl)
     ends_behind (suc depth) number s = ends_behind depth (number + 1) s
 
-    completes : (depth number : ℕ) (m : Mode) → Completes IsToken (next read) finish (at m depth) number []
+    completes : (number : ℕ) (m : Mode) → Completes IsToken (next read) finish (at m) number []
     unfolding keyword_of same_word
-    completes depth number mode.Start = completed_by mode.Start depth number (begins ∷ word (codes "DELAYFILE") ∷ ends ∷ []) (begins_is, (file_is, (ends_is, tt))) (_, refl)
-    completes depth number mode.FileWord = completed_by mode.FileWord depth number (word (codes "DELAYFILE") ∷ ends ∷ []) (file_is, (ends_is, tt)) (_, refl)
-    completes depth number mode.Heads = completed_by mode.Heads depth number (ends ∷ []) (ends_is, tt) (_, refl)
-    completes depth number mode.HeadWord = completed_by mode.HeadWord depth number (word (codes "a") ∷ ends ∷ ends ∷ []) (a_is, (ends_is, (ends_is, tt))) (_, refl)
-    completes depth number mode.DesignText = completed_by mode.DesignText depth number (ends ∷ ends ∷ []) (ends_is, (ends_is, tt)) (_, refl)
-    completes depth number mode.DividerWord = completed_by mode.DividerWord depth number (word (codes ".") ∷ ends ∷ ends ∷ []) (dot_is, (ends_is, (ends_is, tt))) (_, refl)
-    completes depth number mode.ScaleWord = completed_by mode.ScaleWord depth number (word (codes "1s") ∷ ends ∷ ends ∷ []) (second_is, (ends_is, (ends_is, tt))) (_, refl)
-    completes depth number (mode.ScaleMore place.Start) = completed_by (mode.ScaleMore place.Start) depth number (word (codes "1s") ∷ ends ∷ ends ∷ []) (second_is, (ends_is, (ends_is, tt))) (_, refl)
-    completes depth number (mode.ScaleMore (place.Whole c)) = completed_by (mode.ScaleMore (place.Whole c)) depth number (word (codes "s") ∷ ends ∷ ends ∷ []) (s_is, (ends_is, (ends_is, tt))) (_, refl)
-    completes depth number (mode.ScaleMore (place.Point c)) = completed_by (mode.ScaleMore (place.Point c)) depth number (word (codes "0s") ∷ ends ∷ ends ∷ []) (zero_is, (ends_is, (ends_is, tt))) (_, refl)
-    completes depth number (mode.ScaleMore (place.Fraction c)) = completed_by (mode.ScaleMore (place.Fraction c)) depth number (word (codes "s") ∷ ends ∷ ends ∷ []) (s_is, (ends_is, (ends_is, tt))) (_, refl)
-    completes depth number (mode.ScaleMore (place.Letter c u)) = completed_by (mode.ScaleMore (place.Letter c u)) depth number (word (codes "s") ∷ ends ∷ ends ∷ []) (s_is, (ends_is, (ends_is, tt))) (_, refl)
-    completes depth number (mode.ScaleMore (place.Done t)) = completed_by (mode.ScaleMore (place.Done t)) depth number (ends ∷ ends ∷ []) (ends_is, (ends_is, tt)) (_, refl)
-    completes depth number mode.HeadEnd = completed_by mode.HeadEnd depth number (ends ∷ ends ∷ []) (ends_is, (ends_is, tt)) (_, refl)
-    completes depth number mode.TypeOpen = completed_by mode.TypeOpen depth number (begins ∷ word (codes "CELLTYPE") ∷ empty_text ∷ ends ∷ cell_behind) (begins_is, (type_is, (text_is, (ends_is, cell_behind_is)))) (_, refl)
-    completes depth number mode.TypeWord = completed_by mode.TypeWord depth number (word (codes "CELLTYPE") ∷ empty_text ∷ ends ∷ cell_behind) (type_is, (text_is, (ends_is, cell_behind_is))) (_, refl)
-    completes depth number mode.TypeText = completed_by mode.TypeText depth number (empty_text ∷ ends ∷ cell_behind) (text_is, (ends_is, cell_behind_is)) (_, refl)
-    completes depth number mode.TypeEnd = completed_by mode.TypeEnd depth number (ends ∷ cell_behind) (ends_is, cell_behind_is) (_, refl)
-    completes depth number mode.InstanceOpen = completed_by mode.InstanceOpen depth number cell_behind cell_behind_is (_, refl)
-    completes depth number mode.InstanceWord = completed_by mode.InstanceWord depth number (word (codes "INSTANCE") ∷ ends ∷ ends ∷ ends ∷ []) (instance_is, (ends_is, (ends_is, (ends_is, tt)))) (_, refl)
-    completes depth number mode.InstanceName = completed_by mode.InstanceName depth number (ends ∷ ends ∷ ends ∷ []) (ends_is, (ends_is, (ends_is, tt))) (_, refl)
-    completes depth number mode.InstanceEnd = completed_by mode.InstanceEnd depth number (ends ∷ ends ∷ ends ∷ []) (ends_is, (ends_is, (ends_is, tt))) (_, refl)
-    completes depth number mode.Specs = completed_by mode.Specs depth number (ends ∷ ends ∷ []) (ends_is, (ends_is, tt)) (_, refl)
-    completes depth number mode.SpecWord = completed_by mode.SpecWord depth number (word (codes "a") ∷ ends ∷ behind site.Specs) (a_is, (ends_is, behind_is site.Specs)) (_, refl)
-    completes depth number mode.Delays = completed_by mode.Delays depth number (behind site.Delays) (behind_is site.Delays) (_, refl)
-    completes depth number mode.DelayWord = completed_by mode.DelayWord depth number (word (codes "a") ∷ ends ∷ behind site.Delays) (a_is, (ends_is, behind_is site.Delays)) (_, refl)
-    completes depth number mode.Entries = completed_by mode.Entries depth number (behind site.Entries) (behind_is site.Entries) (_, refl)
-    completes depth number mode.EntryWord = completed_by mode.EntryWord depth number (word (codes "a") ∷ entry_behind) (a_is, entry_behind_is) (_, refl)
-    completes depth number (mode.From s) = completed_by (mode.From s) depth number (word (codes "a") ∷ word (codes "a") ∷ begins ∷ ends ∷ entry_behind) (a_is, (a_is, (begins_is, (ends_is, entry_behind_is)))) (_, refl)
-    completes depth number (mode.To s) = completed_by (mode.To s) depth number (word (codes "a") ∷ begins ∷ ends ∷ entry_behind) (a_is, (begins_is, (ends_is, entry_behind_is))) (_, refl)
-    completes depth number (mode.FirstValue s) = completed_by (mode.FirstValue s) depth number (begins ∷ ends ∷ entry_behind) (begins_is, (ends_is, entry_behind_is)) (_, refl)
-    completes depth number (mode.Number s) = completed_by (mode.Number s) depth number (ends ∷ entry_behind) (ends_is, entry_behind_is) (_, refl)
-    completes depth number (mode.NumberEnd s) = completed_by (mode.NumberEnd s) depth number (ends ∷ entry_behind) (ends_is, entry_behind_is) (_, refl)
-    completes depth number (mode.Values s) = completed_by (mode.Values s) depth number entry_behind entry_behind_is (_, refl)
-    completes depth number (mode.Over s) = completed_by (mode.Over s) depth number (closed (suc depth) (behind s)) (closed_is (suc depth) (behind s) (behind_is s)) (ends_behind depth number s)
-    completes depth number mode.Cells = completed_by mode.Cells depth number (ends ∷ []) (ends_is, tt) (_, refl)
-    completes depth number mode.CellWord = completed_by mode.CellWord depth number (word (codes "CELL") ∷ begins ∷ word (codes "CELLTYPE") ∷ empty_text ∷ ends ∷ cell_behind) (cell_is, (begins_is, (type_is, (text_is, (ends_is, cell_behind_is))))) (_, refl)
-    completes depth number mode.End = completed_by mode.End depth number [] tt (_, refl)
+    completes number mode.Start = completed_by mode.Start number (begins ∷ word (codes "DELAYFILE") ∷ ends ∷ []) (begins_is, (file_is, (ends_is, tt))) (_, refl)
+    completes number mode.FileWord = completed_by mode.FileWord number (word (codes "DELAYFILE") ∷ ends ∷ []) (file_is, (ends_is, tt)) (_, refl)
+    completes number mode.Heads = completed_by mode.Heads number (ends ∷ []) (ends_is, tt) (_, refl)
+    completes number mode.HeadWord = completed_by mode.HeadWord number (word (codes "a") ∷ ends ∷ ends ∷ []) (a_is, (ends_is, (ends_is, tt))) (_, refl)
+    completes number mode.DesignText = completed_by mode.DesignText number (ends ∷ ends ∷ []) (ends_is, (ends_is, tt)) (_, refl)
+    completes number mode.DividerWord = completed_by mode.DividerWord number (word (codes ".") ∷ ends ∷ ends ∷ []) (dot_is, (ends_is, (ends_is, tt))) (_, refl)
+    completes number mode.ScaleWord = completed_by mode.ScaleWord number (word (codes "1s") ∷ ends ∷ ends ∷ []) (second_is, (ends_is, (ends_is, tt))) (_, refl)
+    completes number (mode.ScaleMore place.Start) = completed_by (mode.ScaleMore place.Start) number (word (codes "1s") ∷ ends ∷ ends ∷ []) (second_is, (ends_is, (ends_is, tt))) (_, refl)
+    completes number (mode.ScaleMore (place.Whole c)) = completed_by (mode.ScaleMore (place.Whole c)) number (word (codes "s") ∷ ends ∷ ends ∷ []) (s_is, (ends_is, (ends_is, tt))) (_, refl)
+    completes number (mode.ScaleMore (place.Point c)) = completed_by (mode.ScaleMore (place.Point c)) number (word (codes "0s") ∷ ends ∷ ends ∷ []) (zero_is, (ends_is, (ends_is, tt))) (_, refl)
+    completes number (mode.ScaleMore (place.Fraction c)) = completed_by (mode.ScaleMore (place.Fraction c)) number (word (codes "s") ∷ ends ∷ ends ∷ []) (s_is, (ends_is, (ends_is, tt))) (_, refl)
+    completes number (mode.ScaleMore (place.Letter c u)) = completed_by (mode.ScaleMore (place.Letter c u)) number (word (codes "s") ∷ ends ∷ ends ∷ []) (s_is, (ends_is, (ends_is, tt))) (_, refl)
+    completes number (mode.ScaleMore (place.Done t)) = completed_by (mode.ScaleMore (place.Done t)) number (ends ∷ ends ∷ []) (ends_is, (ends_is, tt)) (_, refl)
+    completes number mode.HeadEnd = completed_by mode.HeadEnd number (ends ∷ ends ∷ []) (ends_is, (ends_is, tt)) (_, refl)
+    completes number mode.TypeOpen = completed_by mode.TypeOpen number (begins ∷ word (codes "CELLTYPE") ∷ empty_text ∷ ends ∷ cell_behind) (begins_is, (type_is, (text_is, (ends_is, cell_behind_is)))) (_, refl)
+    completes number mode.TypeWord = completed_by mode.TypeWord number (word (codes "CELLTYPE") ∷ empty_text ∷ ends ∷ cell_behind) (type_is, (text_is, (ends_is, cell_behind_is))) (_, refl)
+    completes number mode.TypeText = completed_by mode.TypeText number (empty_text ∷ ends ∷ cell_behind) (text_is, (ends_is, cell_behind_is)) (_, refl)
+    completes number mode.TypeEnd = completed_by mode.TypeEnd number (ends ∷ cell_behind) (ends_is, cell_behind_is) (_, refl)
+    completes number mode.InstanceOpen = completed_by mode.InstanceOpen number cell_behind cell_behind_is (_, refl)
+    completes number mode.InstanceWord = completed_by mode.InstanceWord number (word (codes "INSTANCE") ∷ ends ∷ ends ∷ ends ∷ []) (instance_is, (ends_is, (ends_is, (ends_is, tt)))) (_, refl)
+    completes number mode.InstanceName = completed_by mode.InstanceName number (ends ∷ ends ∷ ends ∷ []) (ends_is, (ends_is, (ends_is, tt))) (_, refl)
+    completes number mode.InstanceEnd = completed_by mode.InstanceEnd number (ends ∷ ends ∷ ends ∷ []) (ends_is, (ends_is, (ends_is, tt))) (_, refl)
+    completes number mode.Specs = completed_by mode.Specs number (ends ∷ ends ∷ []) (ends_is, (ends_is, tt)) (_, refl)
+    completes number mode.SpecWord = completed_by mode.SpecWord number (word (codes "a") ∷ ends ∷ behind site.Specs) (a_is, (ends_is, behind_is site.Specs)) (_, refl)
+    completes number mode.Delays = completed_by mode.Delays number (behind site.Delays) (behind_is site.Delays) (_, refl)
+    completes number mode.DelayWord = completed_by mode.DelayWord number (word (codes "a") ∷ ends ∷ behind site.Delays) (a_is, (ends_is, behind_is site.Delays)) (_, refl)
+    completes number mode.Entries = completed_by mode.Entries number (behind site.Entries) (behind_is site.Entries) (_, refl)
+    completes number mode.EntryWord = completed_by mode.EntryWord number (word (codes "a") ∷ entry_behind) (a_is, entry_behind_is) (_, refl)
+    completes number (mode.From s) = completed_by (mode.From s) number (word (codes "a") ∷ word (codes "a") ∷ begins ∷ ends ∷ entry_behind) (a_is, (a_is, (begins_is, (ends_is, entry_behind_is)))) (_, refl)
+    completes number (mode.To s) = completed_by (mode.To s) number (word (codes "a") ∷ begins ∷ ends ∷ entry_behind) (a_is, (begins_is, (ends_is, entry_behind_is))) (_, refl)
+    completes number (mode.FirstValue s) = completed_by (mode.FirstValue s) number (begins ∷ ends ∷ entry_behind) (begins_is, (ends_is, entry_behind_is)) (_, refl)
+    completes number (mode.Number s) = completed_by (mode.Number s) number (ends ∷ entry_behind) (ends_is, entry_behind_is) (_, refl)
+    completes number (mode.NumberEnd s) = completed_by (mode.NumberEnd s) number (ends ∷ entry_behind) (ends_is, entry_behind_is) (_, refl)
+    completes number (mode.Values s) = completed_by (mode.Values s) number entry_behind entry_behind_is (_, refl)
+    completes number (mode.Over s depth) = completed_by (mode.Over s depth) number (closed (suc depth) (behind s)) (closed_is (suc depth) (behind s) (behind_is s)) (ends_behind depth number s)
+    completes number mode.Cells = completed_by mode.Cells number (ends ∷ []) (ends_is, tt) (_, refl)
+    completes number mode.CellWord = completed_by mode.CellWord number (word (codes "CELL") ∷ begins ∷ word (codes "CELLTYPE") ∷ empty_text ∷ ends ∷ cell_behind) (cell_is, (begins_is, (type_is, (text_is, (ends_is, cell_behind_is))))) (_, refl)
+    completes number mode.End = completed_by mode.End number [] tt (_, refl)
 
   pub lives : (state : State) (number : ℕ) → Completes IsToken (next read) finish state number []
-  lives state number = completes state.divider state.scale state.cell state.instance state.entry state.rows state.depth number state.mode
+  lives state number = completes state.divider state.scale state.cell state.instance state.entry state.rows number state.mode

@@ -1,19 +1,18 @@
 -- A reader that takes any word for a number goes the same way as one that does not, up to a word that is none.
-use Rattle.std.proofs.Common.{◌≡◌, ℕ, zero, suc, ◌+◌, List, [], ◌∷◌, ◌++◌, Option, Some, None, Result, Ok, Err, refl, sym, ap, ◌∙◌, subst}
+use Rattle.std.proofs.Common.{◌≡◌, ℕ, ◌+◌, List, [], ◌∷◌, ◌++◌, Option, Some, None, Result, Ok, Err, refl, sym, ap, ◌∙◌, subst}
 use Rattle.token_fronts.specs.Tokens.{Token}
 use Rattle.token_fronts.specs.Machine.{go_on, outcome}
 use Rattle.token_fronts.specs.Stopping.{Reaches, there, step, Completes}
 use Rattle.sdf_reader.specs.Tokens.{Lexeme, IsToken}
 use Rattle.sdf_reader.specs.Rows.{no_value}
 use Rattle.sdf_reader.specs.Causes.{IsAnyWord}
-use Rattle.sdf_reader.specs.Steps.{does, site_mode}
-use Rattle.sdf_reader.specs.Modes.{State, to_mode, shallower, numbered_by, applied, next, finish, Decides}
+use Rattle.sdf_reader.specs.Steps.{class_of, cause_of, Move, next_of}
+use Rattle.sdf_reader.specs.Modes.{State, to_mode, numbered_by, applied, moved, next, finish, Decides}
+use Rattle.sdf_reader.specs.Modes.{step as step_of}
 use Rattle.sdf_reader.specs.declared.scan.Kind.{Kind}
 use Rattle.sdf_reader.specs.declared.modes.Mode.{Mode}
-use Rattle.sdf_reader.specs.declared.modes.Shape.{Shape}
-use Rattle.sdf_reader.specs.declared.modes.Site.{Site}
-use Rattle.sdf_reader.specs.declared.modes.Step.{Step}
-use Rattle.sdf_reader.specs.declared.modes.Step.TheVariants.{Refuse, Go, Divide, Rescale, SetType, Instance, NoInstance, Begin, From, To, Empty, Number, Row, Pass, Deeper, Shallower}
+use Rattle.sdf_reader.specs.declared.modes.Action.{Action}
+use Rattle.sdf_reader.specs.declared.modes.Action.TheVariants.{Number}
 use Rattle.sdf_reader.specs.declared.rows.Value.{Value}
 use Rattle.sdf_reader.specs.declared.rows.SdfRow.{SdfRow}
 use Rattle.sdf_reader.specs.declared.timescales.Timescale.{Timescale}
@@ -30,7 +29,6 @@ any_decides = record { finds = λ scale word value is. ap (λ v. Some v) (sym is
 -- two states that wait for the same
 pub record Alike (one other : State) : Type 0 where
   pub mode : one.mode ≡ other.mode
-  pub depth : one.depth ≡ other.depth
 
 -- an answer that leads to a state like this one
 abbrev LeadsLike : Result State SdfCause → State → Type 0
@@ -41,48 +39,30 @@ module _ (number : Timescale → List ℕ → Option Value) where
   Gives answer after = answer ≡ Ok after
 
   -- states that steps make, which are alike
-  both : (some after like : State) (answer : Result State SdfCause) → Gives (Ok some) after → answer ≡ Ok like → some.mode ≡ like.mode → some.depth ≡ like.depth → LeadsLike answer after
-  both some after like answer e is m d =
+  both : (some after like : State) (answer : Result State SdfCause) → Gives (Ok some) after → answer ≡ Ok like → some.mode ≡ like.mode → LeadsLike answer after
+  both some after like answer e is m =
       let same : some ≡ after = cc in
-      (like, is, record { mode = ap (λ (s : State). s.mode) (sym same) ∙ m; depth = ap (λ (s : State). s.depth) (sym same) ∙ d })
+      (like, is, record { mode = ap (λ (s : State). s.mode) (sym same) ∙ m })
 
-  numbered : (shape : Shape) (found : Option Value) (s after like : State) → Alike s like → Gives (numbered_by shape found s) after → LeadsLike (numbered_by shape (Some no_value) like) after
-  numbered shape (Some value) s after like alike e = both _ after _ _ e refl refl alike.depth
-  numbered shape None s after like alike e = absurd (cc)
-
-  shallow : (at : Site) (depth depth' : ℕ) (s after like : State) → Alike s like → depth ≡ depth' → depth ≡ s.depth → depth' ≡ like.depth → Gives (Ok (shallower depth at s)) after → LeadsLike (Ok (shallower depth' at like)) after
-  shallow at zero zero s after like alike e d d' is = both (to_mode (site_mode at) s) after (to_mode (site_mode at) like) _ is refl refl alike.depth
-  shallow at (suc depth) (suc depth') s after like alike e d d' is = both _ after _ _ is refl alike.mode (let same : depth ≡ depth' = cc in same)
-  shallow at zero (suc depth') s after like alike e d d' is = absurd (cc)
-  shallow at (suc depth) zero s after like alike e d d' is = absurd (cc)
+  numbered : (found : Option Value) (s after like : State) → Alike s like → Gives (numbered_by found s) after → LeadsLike (numbered_by (Some no_value) like) after
+  numbered (Some value) s after like alike e = both _ after _ _ e refl alike.mode
+  numbered None s after like alike e = absurd (cc)
 
   -- what one takes, the other takes
-  step_like : (st : Step) (s after like : State) (bytes : List ℕ) → Alike s like → Gives (applied number st s bytes) after → LeadsLike (applied any st like bytes) after
-  step_like (Refuse cause) s after like bytes alike e = absurd (cc)
-  step_like (Go mode) s after like bytes alike e = both _ after _ _ e refl refl alike.depth
-  step_like (Divide byte) s after like bytes alike e = both _ after _ _ e refl refl alike.depth
-  step_like (Rescale scale mode) s after like bytes alike e = both _ after _ _ e refl refl alike.depth
-  step_like SetType s after like bytes alike e = both _ after _ _ e refl refl alike.depth
-  step_like Instance s after like bytes alike e = both _ after _ _ e refl refl alike.depth
-  step_like NoInstance s after like bytes alike e = both _ after _ _ e refl refl alike.depth
-  step_like (Begin shape) s after like bytes alike e = both _ after _ _ e refl refl alike.depth
-  step_like (From shape) s after like bytes alike e = both _ after _ _ e refl refl alike.depth
-  step_like (To shape) s after like bytes alike e = both _ after _ _ e refl refl alike.depth
-  step_like (Empty shape) s after like bytes alike e = both _ after _ _ e refl refl alike.depth
-  step_like (Number shape) s after like bytes alike e = numbered shape (number s.scale bytes) s after like alike e
-  step_like (Row shape) s after like bytes alike e = both _ after _ _ e refl refl alike.depth
-  step_like (Pass site depth) s after like bytes alike e = both _ after _ _ e refl refl refl
-  step_like Deeper s after like bytes alike e = both _ after _ _ e refl alike.mode (ap suc alike.depth)
-  step_like (Shallower at) s after like bytes alike e = shallow at s.depth like.depth s after like alike alike.depth refl refl e
+  action_like : (action : Action) (s after like : State) (bytes : List ℕ) → Alike s like → Gives (applied number action s bytes) after → LeadsLike (applied any action like bytes) after
+  action_like Number s after like bytes alike e = numbered (number s.scale bytes) s after like alike e
+  action_like _ s after like bytes alike e = both _ after _ _ e refl alike.mode
 
-  does_like : (s like : State) (k : Kind) (bytes : List ℕ) → Alike s like → does s.mode k bytes ≡ does like.mode k bytes
-  does_like s like k bytes alike = ap (λ (m : Mode). does m k bytes) alike.mode
+  moved_like : (k : Kind) (move : Move) (s after like : State) (bytes : List ℕ) → Alike s like → Gives (moved number k move s bytes) after → LeadsLike (moved any k move like bytes) after
+  moved_like k None s after like bytes alike e = absurd (cc)
+  moved_like k (Some to) s after like bytes alike e = action_like to.1 (to_mode to.0 s) after (to_mode to.0 like) bytes (record { mode = refl }) e
 
   next_like : (s after like : State) (token : Token Lexeme) → Alike s like → Gives (next number s token) after → LeadsLike (next any like token) after
   next_like s after like token alike e =
       let bytes : List ℕ = token.text.bytes in
-      let there = step_like (does s.mode token.text.kind bytes) s after like bytes alike e in
-      (there.0, ap (λ (st : Step). applied any st like bytes) (sym (does_like s like token.text.kind bytes alike)) ∙ there.1, there.2)
+      let k : Kind = token.text.kind in
+      let there = moved_like k (next_of s.mode (class_of k bytes) bytes) s after like bytes alike e in
+      (there.0, ap (λ (m : Mode). moved any k (next_of m (class_of k bytes) bytes) like bytes) (sym alike.mode) ∙ there.1, there.2)
 
   pub reaches_like : {s last : State} {n : ℕ} {texts : List Lexeme} (like : State) → Alike s like → Reaches (next number) s n texts last → (end : State) × Reaches (next any) like n texts end × Alike last end
   reaches_like like alike there = (like, there, alike)
@@ -93,17 +73,20 @@ module _ (number : Timescale → List ℕ → Option Value) where
 
   -- a word in the place of a number, that is none, or a token that any reader refuses
   pub data Stays (s : State) (token : Lexeme) : SdfCause → Type 0 where
-    in_number : {shape : Shape} → does s.mode token.kind token.bytes ≡ Number shape → Stays s token BadNumber
-    nowhere : {cause : SdfCause} → does s.mode token.kind token.bytes ≡ Refuse cause → Stays s token cause
+    in_number : {m : Mode} → next_of s.mode (class_of token.kind token.bytes) token.bytes ≡ Some (m, Number) → Stays s token BadNumber
+    nowhere : next_of s.mode (class_of token.kind token.bytes) token.bytes ≡ None → Stays s token (cause_of token.kind)
 
-  no_number : (shape : Shape) (found : Option Value) (s : State) (token : Lexeme) (cause : SdfCause) → does s.mode token.kind token.bytes ≡ Number shape → numbered_by shape found s ≡ Err cause → Stays s token cause
-  no_number shape (Some value) s token cause is e = absurd (cc)
-  no_number shape None s token cause is e = let same : BadNumber ≡ cause = cc in subst (Stays s token) same (in_number is)
+  no_number : (m : Mode) (found : Option Value) (s : State) (token : Lexeme) (cause : SdfCause) → next_of s.mode (class_of token.kind token.bytes) token.bytes ≡ Some (m, Number) → numbered_by found (to_mode m s) ≡ Err cause → Stays s token cause
+  no_number m (Some value) s token cause is e = absurd (cc)
+  no_number m None s token cause is e = let same : BadNumber ≡ cause = cc in subst (Stays s token) same (in_number is)
 
-  pub stays : (s : State) (token : Lexeme) (cause : SdfCause) (st : Step) → does s.mode token.kind token.bytes ≡ st → applied number st s token.bytes ≡ Err cause → Stays s token cause
-  stays s token cause (Refuse given) is e = let same : given ≡ cause = cc in nowhere (is ∙ ap Refuse same)
-  stays s token cause (Number shape) is e = no_number shape (number s.scale token.bytes) s token cause is e
-  stays s token cause _ is e = absurd (cc)
+  stays_by : (m : Mode) (action : Action) (s : State) (token : Lexeme) (cause : SdfCause) → next_of s.mode (class_of token.kind token.bytes) token.bytes ≡ Some (m, action) → applied number action (to_mode m s) token.bytes ≡ Err cause → Stays s token cause
+  stays_by m Number s token cause is e = no_number m (number s.scale token.bytes) s token cause is e
+  stays_by m _ s token cause is e = absurd (cc)
+
+  pub stays : (s : State) (token : Lexeme) (cause : SdfCause) (move : Move) → next_of s.mode (class_of token.kind token.bytes) token.bytes ≡ move → moved number token.kind move s token.bytes ≡ Err cause → Stays s token cause
+  stays s token cause None is e = let same : cause_of token.kind ≡ cause = cc in subst (Stays s token) same (nowhere is)
+  stays s token cause (Some to) is e = stays_by to.0 to.1 s token cause is e
 
 module _ (number : Timescale → List ℕ → Option Value) where
   made_behind : (s after : State) (n : ℕ) (text : Lexeme) (texts : List Lexeme) → next number s (record { number = n; text = text }) ≡ Ok after → outcome (next number) finish s n (text ∷ texts) ≡ outcome (next number) finish after (n + 1) texts
@@ -119,7 +102,7 @@ module _ (number : Timescale → List ℕ → Option Value) where
 
   -- what is refused in the state that is reached makes nothing of any text that goes on so
   pub refused_there : {s last : State} {n : ℕ} {front : List Lexeme} (text : Lexeme) (cause : SdfCause) (more : List Lexeme) (value : List SdfRow) → Reaches (next number) s n front last
-      → applied number (does last.mode text.kind text.bytes) last text.bytes ≡ Err cause → outcome (next number) finish s n ((front ++ text ∷ []) ++ more) ≡ Ok value → ⊥
+      → step_of number last text.kind text.bytes ≡ Err cause → outcome (next number) finish s n ((front ++ text ∷ []) ++ more) ≡ Ok value → ⊥
   refused_there {s} {n = n} text cause more value there refusal made =
       let stops : outcome (next number) finish s n (text ∷ more) ≡ Err (record { number = n; state = s; cause = cause }) = ap (go_on n s (λ (x : State). outcome (next number) finish x (n + 1) more)) refusal in
       absurd (cc)

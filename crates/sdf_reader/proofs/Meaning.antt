@@ -1,5 +1,5 @@
 -- What the tokens so far are, in the grammar's own words, for each mode: tokens that lead to the end are a file of the grammar.
-use Rattle.std.proofs.Common.{◌≡◌, ℕ, suc, Bool, true, false, cond, List, [], ◌∷◌, ◌++◌, Option, Some, None, Result, Ok, refl, sym, ap, ◌∙◌, subst, append-nil}
+use Rattle.std.proofs.Common.{◌≡◌, ℕ, suc, Bool, true, false, cond, List, [], ◌∷◌, ◌++◌, Option, Some, None, Result, Ok, Err, refl, sym, ap, ◌∙◌, subst, append-nil}
 use Rattle.name_table.specs.SdfNames.{canonical}
 use Rattle.token_fronts.specs.Accepting.{Accepts, ended, taken}
 use Rattle.sdf_reader.specs.Tokens.{meaning}
@@ -7,8 +7,8 @@ use Rattle.sdf_reader.specs.Keywords.{keyword_of}
 use Rattle.sdf_reader.specs.ScalePlaces.{place_behind}
 use Rattle.sdf_reader.specs.Rows.{Head, plain_head, no_value, rows_in}
 use Rattle.sdf_reader.specs.Grammar.{Tok, Is, keyword_in, IsKeyword, holds_of, own_in_heads, own_in_cells, own_in_entries, IsOther, is_piece, Loose, nothing_more, and_piece, IsOver, is_over, is_divider, IsHead, with_no_design, with_design, with_divider, with_timescale, with_timescale_in_two, head_over, no_head, IsCell, Many, none, is_retain, retains, keyword_for, instance_of, unnamed, with_instance, is_empty, is_number, Begun, named, and_value, Strays, first_name, second_name, with_retain, in_value, behind_number, is_entry, is_stray, entry_over, delay_over, spec_over, IsSdfBy, is_sdf}
-use Rattle.sdf_reader.specs.Steps.{refuses, open_does, close_does, forms_does, file_does, cell_does, type_word_does, instance_word_does, over_does, head_does, design_does, divide_by, divider_does, scale_from, scale_does, scale_at, scale_end_does, type_does, instance_does, spec_does, delay_does, entry_does, name_does, number_does, number_end_does, values_does, inside_does, site_mode}
-use Rattle.sdf_reader.specs.Modes.{Entry, State, first_state, to_mode, divided, rescaled, typed, with_entry, at_depth, cleared, with_value, shallower, numbered_by, applied, next, finish, Decides}
+use Rattle.sdf_reader.specs.Steps.{cause_of, Move, pass, divide_by, scale_from, scale_at, site_mode, closes, next_of}
+use Rattle.sdf_reader.specs.Modes.{Entry, State, first_state, to_mode, with_entry, cleared, with_value, numbered_by, moved, step, next, finish, Decides}
 use Rattle.sdf_reader.specs.declared.scan.Kind.{Kind}
 use Rattle.sdf_reader.specs.declared.scan.Kind.TheVariants as kind
 use Rattle.sdf_reader.specs.declared.words.Keyword.{Keyword}
@@ -19,9 +19,9 @@ use Rattle.sdf_reader.specs.declared.modes.Shape.{Shape}
 use Rattle.sdf_reader.specs.declared.modes.Shape.TheVariants as shape
 use Rattle.sdf_reader.specs.declared.modes.Site.{Site}
 use Rattle.sdf_reader.specs.declared.modes.Site.TheVariants as site
-use Rattle.sdf_reader.specs.declared.modes.Step.TheVariants as does_
+use Rattle.sdf_reader.specs.declared.modes.Action.TheVariants as does_
+use Rattle.sdf_reader.specs.Classes as class
 use Rattle.sdf_reader.specs.declared.ends.SdfCause.{SdfCause}
-use Rattle.sdf_reader.specs.declared.ends.SdfCause.TheVariants as cause
 use Rattle.sdf_reader.specs.declared.timescales.ScalePlace.{ScalePlace}
 use Rattle.sdf_reader.specs.declared.timescales.ScalePlace.TheVariants as place
 use Rattle.sdf_reader.specs.declared.rows.Value.{Value}
@@ -29,10 +29,11 @@ use Rattle.sdf_reader.specs.declared.rows.SdfRow.{SdfRow}
 use Rattle.sdf_reader.specs.declared.timescales.Timescale.{Timescale}
 use Rattle.sdf_reader.proofs.ScaleTexts.{read_scale, read_scale_in_two}
 use Rattle.sdf_reader.proofs.Taking.{entry_of, one_more}
+use Rattle.sdf_reader.proofs.Refusing.{broken_nowhere}
 use Rattle.sdf_reader.proofs.Places.{InHeads, in_heads, heads_grow, InCells, in_cells, Typed, is_typed, InCell, in_cell, InDelay, in_delay, InAbsolute, in_absolute, cell_goes_on, delay_goes_on, absolute_grows, absolute_goes_on, absolute_ends, delay_ends, cell_ends, Nest, flat, deeper, nest_piece, nest_group}
 
-abbrev state_at : Mode → List SdfRow → Head → List ℕ → Option (List ℕ) → ℕ → Entry → State
-state_at m rows head cell instance depth entry = record { mode = m; depth = depth; divider = head.divider; scale = head.scale; cell = cell; instance = instance; entry = entry; rows = rows }
+abbrev state_at : Mode → List SdfRow → Head → List ℕ → Option (List ℕ) → Entry → State
+state_at m rows head cell instance entry = record { mode = m; divider = head.divider; scale = head.scale; cell = cell; instance = instance; entry = entry; rows = rows }
 
 -- the entry of these names, as they stand in the file, and values
 abbrev entry_in : Head → List ℕ → List ℕ → List Value → Entry
@@ -57,103 +58,103 @@ module _ (IsNumber : Timescale → List ℕ → Value → Type 0) where
   -- what the tokens up to here are, for what is waited for
   data Meant : State → List Tok → List Tok → Type 0 where
     at_start : {from : List Tok} → Meant first_state from from
-    at_file_word : {cell : List ℕ} {instance : Option (List ℕ)} {depth : ℕ} {entry : Entry} {begin : Tok} {here : List Tok} → Is kind.LeftParen begin
-        → Meant (state_at mode.FileWord [] plain_head cell instance depth entry) (begin ∷ here) here
-    at_heads : {head : Head} {cell : List ℕ} {instance : Option (List ℕ)} {depth : ℕ} {entry : Entry} {from here : List Tok} → InHeads head from here
-        → Meant (state_at mode.Heads [] head cell instance depth entry) from here
-    at_head_word : {head : Head} {cell : List ℕ} {instance : Option (List ℕ)} {depth : ℕ} {entry : Entry} {from here : List Tok} {begin : Tok}
+    at_file_word : {cell : List ℕ} {instance : Option (List ℕ)} {entry : Entry} {begin : Tok} {here : List Tok} → Is kind.LeftParen begin
+        → Meant (state_at mode.FileWord [] plain_head cell instance entry) (begin ∷ here) here
+    at_heads : {head : Head} {cell : List ℕ} {instance : Option (List ℕ)} {entry : Entry} {from here : List Tok} → InHeads head from here
+        → Meant (state_at mode.Heads [] head cell instance entry) from here
+    at_head_word : {head : Head} {cell : List ℕ} {instance : Option (List ℕ)} {entry : Entry} {from here : List Tok} {begin : Tok}
         → InHeads head from (begin ∷ here) → Is kind.LeftParen begin
-        → Meant (state_at mode.HeadWord [] head cell instance depth entry) from here
-    at_design : {head : Head} {cell : List ℕ} {instance : Option (List ℕ)} {depth : ℕ} {entry : Entry} {from here : List Tok} {begin keyword : Tok}
+        → Meant (state_at mode.HeadWord [] head cell instance entry) from here
+    at_design : {head : Head} {cell : List ℕ} {instance : Option (List ℕ)} {entry : Entry} {from here : List Tok} {begin keyword : Tok}
         → InHeads head from (begin ∷ keyword ∷ here) → Is kind.LeftParen begin → IsKeyword key.Design keyword
-        → Meant (state_at mode.DesignText [] head cell instance depth entry) from here
-    at_divider : {head : Head} {cell : List ℕ} {instance : Option (List ℕ)} {depth : ℕ} {entry : Entry} {from here : List Tok} {begin keyword : Tok}
+        → Meant (state_at mode.DesignText [] head cell instance entry) from here
+    at_divider : {head : Head} {cell : List ℕ} {instance : Option (List ℕ)} {entry : Entry} {from here : List Tok} {begin keyword : Tok}
         → InHeads head from (begin ∷ keyword ∷ here) → Is kind.LeftParen begin → IsKeyword key.Divider keyword
-        → Meant (state_at mode.DividerWord [] head cell instance depth entry) from here
-    at_scale : {head : Head} {cell : List ℕ} {instance : Option (List ℕ)} {depth : ℕ} {entry : Entry} {from here : List Tok} {begin keyword : Tok}
+        → Meant (state_at mode.DividerWord [] head cell instance entry) from here
+    at_scale : {head : Head} {cell : List ℕ} {instance : Option (List ℕ)} {entry : Entry} {from here : List Tok} {begin keyword : Tok}
         → InHeads head from (begin ∷ keyword ∷ here) → Is kind.LeftParen begin → IsKeyword key.Timescale keyword
-        → Meant (state_at mode.ScaleWord [] head cell instance depth entry) from here
-    in_scale : {head : Head} {cell : List ℕ} {instance : Option (List ℕ)} {depth : ℕ} {entry : Entry} {from here : List Tok} {begin keyword word : Tok} {at : ScalePlace}
+        → Meant (state_at mode.ScaleWord [] head cell instance entry) from here
+    in_scale : {head : Head} {cell : List ℕ} {instance : Option (List ℕ)} {entry : Entry} {from here : List Tok} {begin keyword word : Tok} {at : ScalePlace}
         → InHeads head from (begin ∷ keyword ∷ word ∷ here) → Is kind.LeftParen begin → IsKeyword key.Timescale keyword → Is kind.Word word → place_behind place.Start word.text.bytes ≡ Some at
-        → Meant (state_at (mode.ScaleMore at) [] head cell instance depth entry) from here
-    at_head_end : {head : Head} {cell : List ℕ} {instance : Option (List ℕ)} {depth : ℕ} {entry : Entry} {from here : List Tok} → HeadEnds head from here
-        → Meant (state_at mode.HeadEnd [] head cell instance depth entry) from here
-    at_cells : {head : Head} {rows : List SdfRow} {cell : List ℕ} {instance : Option (List ℕ)} {depth : ℕ} {entry : Entry} {from here : List Tok}
+        → Meant (state_at (mode.ScaleMore at) [] head cell instance entry) from here
+    at_head_end : {head : Head} {cell : List ℕ} {instance : Option (List ℕ)} {entry : Entry} {from here : List Tok} → HeadEnds head from here
+        → Meant (state_at mode.HeadEnd [] head cell instance entry) from here
+    at_cells : {head : Head} {rows : List SdfRow} {cell : List ℕ} {instance : Option (List ℕ)} {entry : Entry} {from here : List Tok}
         → InCells IsNumber head rows from here
-        → Meant (state_at mode.Cells rows head cell instance depth entry) from here
-    at_cell_word : {head : Head} {rows : List SdfRow} {cell : List ℕ} {instance : Option (List ℕ)} {depth : ℕ} {entry : Entry} {from here : List Tok} {begin : Tok}
+        → Meant (state_at mode.Cells rows head cell instance entry) from here
+    at_cell_word : {head : Head} {rows : List SdfRow} {cell : List ℕ} {instance : Option (List ℕ)} {entry : Entry} {from here : List Tok} {begin : Tok}
         → InCells IsNumber head rows from (begin ∷ here) → Is kind.LeftParen begin
-        → Meant (state_at mode.CellWord rows head cell instance depth entry) from here
-    at_type_open : {head : Head} {rows : List SdfRow} {cell : List ℕ} {instance : Option (List ℕ)} {depth : ℕ} {entry : Entry} {from here : List Tok} {begin keyword : Tok}
+        → Meant (state_at mode.CellWord rows head cell instance entry) from here
+    at_type_open : {head : Head} {rows : List SdfRow} {cell : List ℕ} {instance : Option (List ℕ)} {entry : Entry} {from here : List Tok} {begin keyword : Tok}
         → InCells IsNumber head rows from (begin ∷ keyword ∷ here) → Is kind.LeftParen begin → IsKeyword key.Cell keyword
-        → Meant (state_at mode.TypeOpen rows head cell instance depth entry) from here
-    at_type_word : {head : Head} {rows : List SdfRow} {cell : List ℕ} {instance : Option (List ℕ)} {depth : ℕ} {entry : Entry} {from here : List Tok} {begin keyword begin_type : Tok}
+        → Meant (state_at mode.TypeOpen rows head cell instance entry) from here
+    at_type_word : {head : Head} {rows : List SdfRow} {cell : List ℕ} {instance : Option (List ℕ)} {entry : Entry} {from here : List Tok} {begin keyword begin_type : Tok}
         → InCells IsNumber head rows from (begin ∷ keyword ∷ begin_type ∷ here) → Is kind.LeftParen begin → IsKeyword key.Cell keyword → Is kind.LeftParen begin_type
-        → Meant (state_at mode.TypeWord rows head cell instance depth entry) from here
-    at_type_text : {head : Head} {rows : List SdfRow} {cell : List ℕ} {instance : Option (List ℕ)} {depth : ℕ} {entry : Entry} {from here : List Tok} {begin keyword begin_type type_keyword : Tok}
+        → Meant (state_at mode.TypeWord rows head cell instance entry) from here
+    at_type_text : {head : Head} {rows : List SdfRow} {cell : List ℕ} {instance : Option (List ℕ)} {entry : Entry} {from here : List Tok} {begin keyword begin_type type_keyword : Tok}
         → InCells IsNumber head rows from (begin ∷ keyword ∷ begin_type ∷ type_keyword ∷ here) → Is kind.LeftParen begin → IsKeyword key.Cell keyword → Is kind.LeftParen begin_type → IsKeyword key.CellType type_keyword
-        → Meant (state_at mode.TypeText rows head cell instance depth entry) from here
-    at_type_end : {head : Head} {rows : List SdfRow} {instance : Option (List ℕ)} {depth : ℕ} {entry : Entry} {from here : List Tok} {begin keyword begin_type type_keyword text : Tok}
+        → Meant (state_at mode.TypeText rows head cell instance entry) from here
+    at_type_end : {head : Head} {rows : List SdfRow} {instance : Option (List ℕ)} {entry : Entry} {from here : List Tok} {begin keyword begin_type type_keyword text : Tok}
         → InCells IsNumber head rows from (begin ∷ keyword ∷ begin_type ∷ type_keyword ∷ text ∷ here) → Is kind.LeftParen begin → IsKeyword key.Cell keyword → Is kind.LeftParen begin_type → IsKeyword key.CellType type_keyword → Is kind.Quoted text
-        → Meant (state_at mode.TypeEnd rows head (meaning text.text.bytes) instance depth entry) from here
-    at_instance_open : {head : Head} {rows : List SdfRow} {cell : List ℕ} {instance : Option (List ℕ)} {depth : ℕ} {entry : Entry} {from here : List Tok}
+        → Meant (state_at mode.TypeEnd rows head (meaning text.text.bytes) instance entry) from here
+    at_instance_open : {head : Head} {rows : List SdfRow} {cell : List ℕ} {instance : Option (List ℕ)} {entry : Entry} {from here : List Tok}
         → Typed IsNumber head cell rows from here
-        → Meant (state_at mode.InstanceOpen rows head cell instance depth entry) from here
-    at_instance_word : {head : Head} {rows : List SdfRow} {cell : List ℕ} {instance : Option (List ℕ)} {depth : ℕ} {entry : Entry} {from here : List Tok} {begin : Tok}
+        → Meant (state_at mode.InstanceOpen rows head cell instance entry) from here
+    at_instance_word : {head : Head} {rows : List SdfRow} {cell : List ℕ} {instance : Option (List ℕ)} {entry : Entry} {from here : List Tok} {begin : Tok}
         → Typed IsNumber head cell rows from (begin ∷ here) → Is kind.LeftParen begin
-        → Meant (state_at mode.InstanceWord rows head cell instance depth entry) from here
-    at_instance_name : {head : Head} {rows : List SdfRow} {cell : List ℕ} {instance : Option (List ℕ)} {depth : ℕ} {entry : Entry} {from here : List Tok} {begin keyword : Tok}
+        → Meant (state_at mode.InstanceWord rows head cell instance entry) from here
+    at_instance_name : {head : Head} {rows : List SdfRow} {cell : List ℕ} {instance : Option (List ℕ)} {entry : Entry} {from here : List Tok} {begin keyword : Tok}
         → Typed IsNumber head cell rows from (begin ∷ keyword ∷ here) → Is kind.LeftParen begin → IsKeyword key.Instance keyword
-        → Meant (state_at mode.InstanceName rows head cell instance depth entry) from here
-    at_instance_end : {head : Head} {rows : List SdfRow} {cell : List ℕ} {depth : ℕ} {entry : Entry} {from here : List Tok} {begin keyword word : Tok}
+        → Meant (state_at mode.InstanceName rows head cell instance entry) from here
+    at_instance_end : {head : Head} {rows : List SdfRow} {cell : List ℕ} {entry : Entry} {from here : List Tok} {begin keyword word : Tok}
         → Typed IsNumber head cell rows from (begin ∷ keyword ∷ word ∷ here) → Is kind.LeftParen begin → IsKeyword key.Instance keyword → Is kind.Word word
-        → Meant (state_at mode.InstanceEnd rows head cell (instance_of head.divider word.text.bytes) depth entry) from here
-    at_specs : {head : Head} {rows : List SdfRow} {cell : List ℕ} {instance : Option (List ℕ)} {depth : ℕ} {entry : Entry} {from here : List Tok}
+        → Meant (state_at mode.InstanceEnd rows head cell (instance_of head.divider word.text.bytes) entry) from here
+    at_specs : {head : Head} {rows : List SdfRow} {cell : List ℕ} {instance : Option (List ℕ)} {entry : Entry} {from here : List Tok}
         → InCell IsNumber head cell instance rows from here
-        → Meant (state_at mode.Specs rows head cell instance depth entry) from here
-    at_spec_word : {head : Head} {rows : List SdfRow} {cell : List ℕ} {instance : Option (List ℕ)} {depth : ℕ} {entry : Entry} {from here : List Tok} {begin : Tok}
+        → Meant (state_at mode.Specs rows head cell instance entry) from here
+    at_spec_word : {head : Head} {rows : List SdfRow} {cell : List ℕ} {instance : Option (List ℕ)} {entry : Entry} {from here : List Tok} {begin : Tok}
         → InCell IsNumber head cell instance rows from (begin ∷ here) → Is kind.LeftParen begin
-        → Meant (state_at mode.SpecWord rows head cell instance depth entry) from here
-    at_delays : {head : Head} {rows : List SdfRow} {cell : List ℕ} {instance : Option (List ℕ)} {depth : ℕ} {entry : Entry} {from here : List Tok}
+        → Meant (state_at mode.SpecWord rows head cell instance entry) from here
+    at_delays : {head : Head} {rows : List SdfRow} {cell : List ℕ} {instance : Option (List ℕ)} {entry : Entry} {from here : List Tok}
         → InDelay IsNumber head cell instance rows from here
-        → Meant (state_at mode.Delays rows head cell instance depth entry) from here
-    at_delay_word : {head : Head} {rows : List SdfRow} {cell : List ℕ} {instance : Option (List ℕ)} {depth : ℕ} {entry : Entry} {from here : List Tok} {begin : Tok}
+        → Meant (state_at mode.Delays rows head cell instance entry) from here
+    at_delay_word : {head : Head} {rows : List SdfRow} {cell : List ℕ} {instance : Option (List ℕ)} {entry : Entry} {from here : List Tok} {begin : Tok}
         → InDelay IsNumber head cell instance rows from (begin ∷ here) → Is kind.LeftParen begin
-        → Meant (state_at mode.DelayWord rows head cell instance depth entry) from here
-    at_entries : {head : Head} {rows : List SdfRow} {cell : List ℕ} {instance : Option (List ℕ)} {depth : ℕ} {entry : Entry} {from here : List Tok}
+        → Meant (state_at mode.DelayWord rows head cell instance entry) from here
+    at_entries : {head : Head} {rows : List SdfRow} {cell : List ℕ} {instance : Option (List ℕ)} {entry : Entry} {from here : List Tok}
         → InAbsolute IsNumber head cell instance rows from here
-        → Meant (state_at mode.Entries rows head cell instance depth entry) from here
-    at_entry_word : {head : Head} {rows : List SdfRow} {cell : List ℕ} {instance : Option (List ℕ)} {depth : ℕ} {entry : Entry} {from here : List Tok} {begin : Tok}
+        → Meant (state_at mode.Entries rows head cell instance entry) from here
+    at_entry_word : {head : Head} {rows : List SdfRow} {cell : List ℕ} {instance : Option (List ℕ)} {entry : Entry} {from here : List Tok} {begin : Tok}
         → InAbsolute IsNumber head cell instance rows from (begin ∷ here) → Is kind.LeftParen begin
-        → Meant (state_at mode.EntryWord rows head cell instance depth entry) from here
-    at_from : {head : Head} {rows : List SdfRow} {cell : List ℕ} {instance : Option (List ℕ)} {depth : ℕ} {shape : Shape} {from here : List Tok} {begin keyword : Tok} {some other : List ℕ}
+        → Meant (state_at mode.EntryWord rows head cell instance entry) from here
+    at_from : {head : Head} {rows : List SdfRow} {cell : List ℕ} {instance : Option (List ℕ)} {shape : Shape} {from here : List Tok} {begin keyword : Tok} {some other : List ℕ}
         → InAbsolute IsNumber head cell instance rows from (begin ∷ keyword ∷ here) → Is kind.LeftParen begin → IsKeyword (keyword_for shape) keyword
-        → Meant (state_at (mode.From shape) rows head cell instance depth (entry_of some other [])) from here
-    at_to : {head : Head} {rows : List SdfRow} {cell : List ℕ} {instance : Option (List ℕ)} {depth : ℕ} {shape : Shape} {from here : List Tok} {begin keyword name : Tok} {other : List ℕ}
+        → Meant (state_at (mode.From shape) rows head cell instance (entry_of some other [])) from here
+    at_to : {head : Head} {rows : List SdfRow} {cell : List ℕ} {instance : Option (List ℕ)} {shape : Shape} {from here : List Tok} {begin keyword name : Tok} {other : List ℕ}
         → InAbsolute IsNumber head cell instance rows from (begin ∷ keyword ∷ name ∷ here) → Is kind.LeftParen begin → IsKeyword (keyword_for shape) keyword → Is kind.Word name
-        → Meant (state_at (mode.To shape) rows head cell instance depth (entry_of (canonical head.divider name.text.bytes) other [])) from here
-    at_first_value : {head : Head} {rows : List SdfRow} {cell : List ℕ} {instance : Option (List ℕ)} {depth : ℕ} {shape : Shape} {from all here : List Tok} {some other : List ℕ}
+        → Meant (state_at (mode.To shape) rows head cell instance (entry_of (canonical head.divider name.text.bytes) other [])) from here
+    at_first_value : {head : Head} {rows : List SdfRow} {cell : List ℕ} {instance : Option (List ℕ)} {shape : Shape} {from all here : List Tok} {some other : List ℕ}
         → InAbsolute IsNumber head cell instance rows from all → Begun IsNumber head.scale shape all some other [] here
-        → Meant (state_at (mode.FirstValue shape) rows head cell instance depth (entry_in head some other [])) from here
-    at_number : {head : Head} {rows : List SdfRow} {cell : List ℕ} {instance : Option (List ℕ)} {depth : ℕ} {shape : Shape} {from all here : List Tok} {some other : List ℕ} {values : List Value} {begin : Tok} {entry : Entry}
+        → Meant (state_at (mode.FirstValue shape) rows head cell instance (entry_in head some other [])) from here
+    at_number : {head : Head} {rows : List SdfRow} {cell : List ℕ} {instance : Option (List ℕ)} {shape : Shape} {from all here : List Tok} {some other : List ℕ} {values : List Value} {begin : Tok} {entry : Entry}
         → InAbsolute IsNumber head cell instance rows from all → Begun IsNumber head.scale shape all some other values (begin ∷ here) → Is kind.LeftParen begin
         → entry ≡ entry_in head some other values
-        → Meant (state_at (mode.Number shape) rows head cell instance depth entry) from here
-    at_number_end : {head : Head} {rows : List SdfRow} {cell : List ℕ} {instance : Option (List ℕ)} {depth : ℕ} {shape : Shape} {from all here : List Tok} {some other : List ℕ} {values : List Value} {value : Value} {begin word : Tok} {entry : Entry}
+        → Meant (state_at (mode.Number shape) rows head cell instance entry) from here
+    at_number_end : {head : Head} {rows : List SdfRow} {cell : List ℕ} {instance : Option (List ℕ)} {shape : Shape} {from all here : List Tok} {some other : List ℕ} {values : List Value} {value : Value} {begin word : Tok} {entry : Entry}
         → InAbsolute IsNumber head cell instance rows from all → Begun IsNumber head.scale shape all some other values (begin ∷ word ∷ here) → Is kind.LeftParen begin
         → Is kind.Word word → retains shape word ≡ false → IsNumber head.scale word.text.bytes value
         → entry ≡ entry_in head some other (values ++ value ∷ [])
-        → Meant (state_at (mode.NumberEnd shape) rows head cell instance depth entry) from here
-    at_values : {head : Head} {rows : List SdfRow} {cell : List ℕ} {instance : Option (List ℕ)} {depth : ℕ} {shape : Shape} {from all here : List Tok} {some other : List ℕ} {value : Value} {values : List Value} {entry : Entry}
+        → Meant (state_at (mode.NumberEnd shape) rows head cell instance entry) from here
+    at_values : {head : Head} {rows : List SdfRow} {cell : List ℕ} {instance : Option (List ℕ)} {shape : Shape} {from all here : List Tok} {some other : List ℕ} {value : Value} {values : List Value} {entry : Entry}
         → InAbsolute IsNumber head cell instance rows from all → Begun IsNumber head.scale shape all some other (value ∷ values) here
         → entry ≡ entry_in head some other (value ∷ values)
-        → Meant (state_at (mode.Values shape) rows head cell instance depth entry) from here
+        → Meant (state_at (mode.Values shape) rows head cell instance entry) from here
     in_over : {at : Site} {head : Head} {rows : List SdfRow} {cell : List ℕ} {instance : Option (List ℕ)} {depth : ℕ} {entry : Entry} {from start here : List Tok}
         → Nest depth start here → OverEnds at head cell instance rows from start
-        → Meant (state_at (mode.Over at) rows head cell instance depth entry) from here
-    at_end : {head : Head} {rows : List SdfRow} {cell : List ℕ} {instance : Option (List ℕ)} {depth : ℕ} {entry : Entry} {from here : List Tok}
+        → Meant (state_at (mode.Over at depth) rows head cell instance entry) from here
+    at_end : {head : Head} {rows : List SdfRow} {cell : List ℕ} {instance : Option (List ℕ)} {entry : Entry} {from here : List Tok}
         → (here ≡ [] → IsSdfBy IsNumber from rows)
-        → Meant (state_at mode.End rows head cell instance depth entry) from here
+        → Meant (state_at mode.End rows head cell instance entry) from here
 
 -- a keyword is a word
 word_of : (k : Kind) (bytes : List ℕ) (keyword : Keyword) → keyword_in k bytes ≡ Some keyword → k ≡ kind.Word
@@ -185,149 +186,138 @@ module _ (IsNumber : Timescale → List ℕ → Value → Type 0) (read : Timesc
 
   -- ---- what the token is, where a step was made
 
-  refused : {A : Type 0} (k : Kind) (s after : State) (bytes : List ℕ) → Gives (applied read (refuses k) s bytes) after → A
-  refused kind.LeftParen s after bytes e = absurd (cc)
-  refused _ s after bytes e = absurd (cc)
+  never : {A : Type 0} {cause : SdfCause} {after : State} → Gives (Err cause) after → A
+  never e = absurd (cc)
 
-  opened : (behind : Mode) (k : Kind) (s after : State) (bytes : List ℕ) → Gives (applied read (open_does behind k) s bytes) after → (k ≡ kind.LeftParen) × Gives (Ok (to_mode behind s)) after
-  opened behind kind.LeftParen s after bytes e = (refl, e)
-  opened behind _ s after bytes e = absurd (cc)
+  nowhere : {A : Type 0} (k : Kind) (move : Move) (s after : State) (bytes : List ℕ) → move ≡ None → Gives (moved read k move s bytes) after → A
+  nowhere k move s after bytes is e = absurd (let wrong : Gives (Err (cause_of k)) after = sym (ap (λ (m : Move). moved read k m s bytes) is) ∙ e in cc)
 
-  closed : (behind : Mode) (k : Kind) (s after : State) (bytes : List ℕ) → Gives (applied read (close_does behind k) s bytes) after → (k ≡ kind.RightParen) × Gives (Ok (to_mode behind s)) after
-  closed behind kind.RightParen s after bytes e = (refl, e)
-  closed behind _ s after bytes e = absurd (cc)
+  -- a token by its class
+  by_class : {A : Type 0} (s after : State) (k : Kind) (bytes : List ℕ) → Gives (step read s k bytes) after
+      → (k ≡ kind.LeftParen → Gives (moved read kind.LeftParen (next_of s.mode class.Open bytes) s bytes) after → A)
+      → (k ≡ kind.RightParen → Gives (moved read kind.RightParen (next_of s.mode class.Close bytes) s bytes) after → A)
+      → (k ≡ kind.Quoted → Gives (moved read kind.Quoted (next_of s.mode class.Text bytes) s bytes) after → A)
+      → (k ≡ kind.Word → Gives (moved read kind.Word (next_of s.mode (class.Word (keyword_of bytes)) bytes) s bytes) after → A)
+      → A
+  by_class s after kind.LeftParen bytes e opens closes says word = opens refl e
+  by_class s after kind.RightParen bytes e opens closes says word = closes refl e
+  by_class s after kind.Quoted bytes e opens closes says word = says refl e
+  by_class s after kind.Word bytes e opens closes says word = word refl e
+  by_class s after kind.Bad bytes e opens closes says word = nowhere kind.Bad (next_of s.mode class.Broken bytes) s after bytes (broken_nowhere s.mode bytes) e
+  by_class s after kind.OpenQuoted bytes e opens closes says word = nowhere kind.OpenQuoted (next_of s.mode class.Broken bytes) s after bytes (broken_nowhere s.mode bytes) e
+  by_class s after kind.OpenNote bytes e opens closes says word = nowhere kind.OpenNote (next_of s.mode class.Broken bytes) s after bytes (broken_nowhere s.mode bytes) e
 
-  forms : {A : Type 0} (form behind : Mode) (k : Kind) (s after : State) (bytes : List ℕ) → Gives (applied read (forms_does form behind k) s bytes) after
-      → (k ≡ kind.LeftParen → Gives (Ok (to_mode form s)) after → A) → (k ≡ kind.RightParen → Gives (Ok (to_mode behind s)) after → A) → A
-  forms form behind kind.LeftParen s after bytes e opens closes = opens refl e
-  forms form behind kind.RightParen s after bytes e opens closes = closes refl e
-  forms form behind _ s after bytes e opens closes = absurd (cc)
+  file_word : (found : Option Keyword) (s after : State) (bytes : List ℕ) → Gives (moved read kind.Word (next_of mode.FileWord (class.Word found) bytes) s bytes) after → (found ≡ Some key.DelayFile) × Gives (Ok (to_mode mode.Heads s)) after
+  file_word (Some key.DelayFile) s after bytes e = (refl, e)
+  file_word _ s after bytes e = never e
 
-  passed : (at : Site) (k : Kind) (s after : State) (bytes : List ℕ) → Gives (applied read (over_does at k) s bytes) after → (k ≡ kind.Word) × Gives (Ok (at_depth (mode.Over at) 0 s)) after
-  passed at kind.Word s after bytes e = (refl, e)
-  passed at _ s after bytes e = absurd (cc)
+  cell_word : (found : Option Keyword) (s after : State) (bytes : List ℕ) → Gives (moved read kind.Word (next_of mode.CellWord (class.Word found) bytes) s bytes) after → (found ≡ Some key.Cell) × Gives (Ok (to_mode mode.TypeOpen s)) after
+  cell_word (Some key.Cell) s after bytes e = (refl, e)
+  cell_word _ s after bytes e = never e
 
-  file_word : (found : Option Keyword) (k : Kind) (s after : State) (bytes : List ℕ) → Gives (applied read (file_does found k) s bytes) after → (found ≡ Some key.DelayFile) × Gives (Ok (to_mode mode.Heads s)) after
-  file_word (Some key.DelayFile) k s after bytes e = (refl, e)
-  file_word (Some _) k s after bytes e = refused k s after bytes e
-  file_word None k s after bytes e = refused k s after bytes e
+  type_word : (found : Option Keyword) (s after : State) (bytes : List ℕ) → Gives (moved read kind.Word (next_of mode.TypeWord (class.Word found) bytes) s bytes) after → (found ≡ Some key.CellType) × Gives (Ok (to_mode mode.TypeText s)) after
+  type_word (Some key.CellType) s after bytes e = (refl, e)
+  type_word _ s after bytes e = never e
 
-  cell_word : (found : Option Keyword) (k : Kind) (s after : State) (bytes : List ℕ) → Gives (applied read (cell_does found k) s bytes) after → (found ≡ Some key.Cell) × Gives (Ok (to_mode mode.TypeOpen s)) after
-  cell_word (Some key.Cell) k s after bytes e = (refl, e)
-  cell_word (Some _) k s after bytes e = refused k s after bytes e
-  cell_word None k s after bytes e = refused k s after bytes e
+  instance_word : (found : Option Keyword) (s after : State) (bytes : List ℕ) → Gives (moved read kind.Word (next_of mode.InstanceWord (class.Word found) bytes) s bytes) after → (found ≡ Some key.Instance) × Gives (Ok (to_mode mode.InstanceName s)) after
+  instance_word (Some key.Instance) s after bytes e = (refl, e)
+  instance_word _ s after bytes e = never e
 
-  type_word : (found : Option Keyword) (k : Kind) (s after : State) (bytes : List ℕ) → Gives (applied read (type_word_does found k) s bytes) after → (found ≡ Some key.CellType) × Gives (Ok (to_mode mode.TypeText s)) after
-  type_word (Some key.CellType) k s after bytes e = (refl, e)
-  type_word (Some _) k s after bytes e = refused k s after bytes e
-  type_word None k s after bytes e = refused k s after bytes e
-
-  instance_word : (found : Option Keyword) (k : Kind) (s after : State) (bytes : List ℕ) → Gives (applied read (instance_word_does found k) s bytes) after → (found ≡ Some key.Instance) × Gives (Ok (to_mode mode.InstanceName s)) after
-  instance_word (Some key.Instance) k s after bytes e = (refl, e)
-  instance_word (Some _) k s after bytes e = refused k s after bytes e
-  instance_word None k s after bytes e = refused k s after bytes e
-
-  quoted : (k : Kind) (s after : State) (bytes : List ℕ) → Gives (applied read (type_does k) s bytes) after → (k ≡ kind.Quoted) × Gives (Ok (typed (meaning bytes) s)) after
-  quoted kind.Quoted s after bytes e = (refl, e)
-  quoted _ s after bytes e = absurd (cc)
-
-  divided_by : (word : List ℕ) (s after : State) (bytes : List ℕ) → Gives (applied read (divide_by word) s bytes) after → (byte : ℕ) × (word ≡ byte ∷ []) × (is_divider byte ≡ true) × Gives (Ok (divided byte s)) after
-  divided_by [] s after bytes e = absurd (cc)
+  divided_by : (word : List ℕ) (s after : State) (bytes : List ℕ) → Gives (moved read kind.Word (divide_by word) s bytes) after → (byte : ℕ) × (word ≡ byte ∷ []) × (is_divider byte ≡ true) × Gives (Ok (record s { mode = mode.HeadEnd; divider = byte })) after
+  divided_by [] s after bytes e = never e
   divided_by (byte ∷ []) s after bytes e = by (is_divider byte) refl e
     where
-      by : (is : Bool) → is_divider byte ≡ is → Gives (applied read (cond is (does_.Divide byte) (does_.Refuse cause.Unexpected)) s bytes) after → (some : ℕ) × (byte ∷ [] ≡ some ∷ []) × (is_divider some ≡ true) × Gives (Ok (divided some s)) after
+      by : (is : Bool) → is_divider byte ≡ is → Gives (moved read kind.Word (cond is (Some (mode.HeadEnd, does_.Divide byte)) None) s bytes) after → (some : ℕ) × (byte ∷ [] ≡ some ∷ []) × (is_divider some ≡ true) × Gives (Ok (record s { mode = mode.HeadEnd; divider = some })) after
       by true is e = (byte, refl, is, e)
-      by false is e = absurd (cc)
-  divided_by (byte ∷ next ∷ rest) s after bytes e = absurd (cc)
+      by false is e = never e
+  divided_by (byte ∷ next ∷ rest) s after bytes e = never e
 
-  scaled : (behind : Mode) (found : Option ScalePlace) (s after : State) (bytes : List ℕ) → Gives (applied read (scale_at behind found) s bytes) after → (scale : Timescale) × (found ≡ Some (place.Done scale)) × Gives (Ok (rescaled scale behind s)) after
-  scaled behind (Some (place.Done scale)) s after bytes e = (scale, refl, e)
-  scaled behind (Some _) s after bytes e = absurd (cc)
-  scaled behind None s after bytes e = absurd (cc)
+  scaled : (k : Kind) (behind : Mode) (found : Option ScalePlace) (s after : State) (bytes : List ℕ) → Gives (moved read k (scale_at behind found) s bytes) after → (scale : Timescale) × (found ≡ Some (place.Done scale)) × Gives (Ok (record s { mode = behind; scale = scale })) after
+  scaled k behind (Some (place.Done scale)) s after bytes e = (scale, refl, e)
+  scaled k behind _ s after bytes e = never e
 
-  scale_begun : (found : Option ScalePlace) (s after : State) (bytes : List ℕ) → Gives (applied read (scale_from found) s bytes) after → (at : ScalePlace) × (found ≡ Some at) × Gives (Ok (to_mode (mode.ScaleMore at) s)) after
+  scale_begun : (found : Option ScalePlace) (s after : State) (bytes : List ℕ) → Gives (moved read kind.Word (scale_from found) s bytes) after → (at : ScalePlace) × (found ≡ Some at) × Gives (Ok (to_mode (mode.ScaleMore at) s)) after
   scale_begun (Some at) s after bytes e = (at, refl, e)
-  scale_begun None s after bytes e = absurd (cc)
+  scale_begun None s after bytes e = never e
 
-  numbered : (shape : Shape) (found : Option Value) (s after : State) → Gives (numbered_by shape found s) after → (value : Value) × (found ≡ Some value) × Gives (Ok (with_entry (mode.NumberEnd shape) (with_value value s.entry) s)) after
-  numbered shape (Some value) s after e = (value, refl, e)
-  numbered shape None s after e = absurd (cc)
+  numbered : (found : Option Value) (s after : State) → Gives (numbered_by found s) after → (value : Value) × (found ≡ Some value) × Gives (Ok (with_entry (with_value value s.entry) s)) after
+  numbered (Some value) s after e = (value, refl, e)
+  numbered None s after e = never e
 
   -- ---- forms that are passed over
 
-  passes : (at : Site) {head : Head} {rows : List SdfRow} {cell : List ℕ} {instance : Option (List ℕ)} {depth : ℕ} {entry : Entry} {from here : List Tok} {begin token : Tok} (s after : State) (own : Keyword → Bool) (found : Option Keyword)
-      → s ≡ state_at s.mode rows head cell instance depth entry
-      → Is kind.LeftParen begin → keyword_in token.text.kind token.text.bytes ≡ found → holds_of own found ≡ false
+  passes : (at : Site) {head : Head} {rows : List SdfRow} {cell : List ℕ} {instance : Option (List ℕ)} {entry : Entry} {from here : List Tok} {begin token : Tok} (s after : State) (own : Keyword → Bool) (found : Option Keyword)
+      → s ≡ state_at s.mode rows head cell instance entry
+      → Is kind.LeftParen begin → keyword_in token.text.kind token.text.bytes ≡ found → Is kind.Word token → holds_of own found ≡ false
       → ((rest : List Tok) → IsOver own (begin ∷ token ∷ here) rest → Behind IsNumber at head cell instance rows from rest)
-      → Gives (applied read (over_does at token.text.kind) s token.text.bytes) after → Meant IsNumber after from here
-  passes at {head} {rows} {cell} {instance} {depth} {entry} {from} {here} {token = token} s after own found same b is none_own behind e =
-      let step = passed at token.text.kind s after token.text.bytes e in
-      let e' : Gives (Ok (at_depth (mode.Over at) 0 (state_at s.mode rows head cell instance depth entry))) after = subst (λ (x : State). Gives (Ok (at_depth (mode.Over at) 0 x)) after) same step.1 in
-      becomes (state_at (mode.Over at) rows head cell instance 0 entry) after e'
-      (in_over (flat nothing_more) (λ close rest within c. behind rest (is_over b (other_word own token found is none_own step.0) within c)))
+      → Gives (moved read kind.Word (pass at 0) s token.text.bytes) after → Meant IsNumber after from here
+  passes at {head} {rows} {cell} {instance} {entry} {from} {here} {token = token} s after own found same b is w none_own behind e =
+      let e' : Gives (moved read kind.Word (pass at 0) (state_at s.mode rows head cell instance entry) token.text.bytes) after = subst (λ (x : State). Gives (moved read kind.Word (pass at 0) x token.text.bytes) after) same e in
+      becomes (state_at (mode.Over at 0) rows head cell instance entry) after e'
+      (in_over (flat nothing_more) (λ close rest within c. behind rest (is_over b (other_word own token found is none_own w) within c)))
 
   -- ---- the heads
 
-  a_head : (cell : List ℕ) (instance : Option (List ℕ)) (depth : ℕ) (entry : Entry) {head : Head} {from here : List Tok} {begin token : Tok} {after : State} (found : Option Keyword)
-      → InHeads head from (begin ∷ token ∷ here) → Is kind.LeftParen begin → keyword_in token.text.kind token.text.bytes ≡ found
-      → Gives (applied read (head_does found token.text.kind) (state_at mode.HeadWord [] head cell instance depth entry) token.text.bytes) after → Meant IsNumber after from here
-  a_head cell instance depth entry {head = head} {after = after} (Some key.Design) inside b is e = becomes (state_at mode.DesignText [] head cell instance depth entry) after e (at_design inside b is)
-  a_head cell instance depth entry {head = head} {after = after} (Some key.Divider) inside b is e = becomes (state_at mode.DividerWord [] head cell instance depth entry) after e (at_divider inside b is)
-  a_head cell instance depth entry {head = head} {after = after} (Some key.Timescale) inside b is e = becomes (state_at mode.ScaleWord [] head cell instance depth entry) after e (at_scale inside b is)
-  a_head cell instance depth entry {head = head} {after = after} (Some key.Cell) inside b is e = becomes (state_at mode.TypeOpen [] head cell instance depth entry) after e (at_type_open (in_cells inside none) b is)
-  a_head cell instance depth entry {head = head} {after = after} (Some _) inside b is e =
-      passes site.Heads (state_at mode.HeadWord [] head cell instance depth entry) after own_in_heads _ refl b is refl (λ rest over. (refl, heads_grow inside (head_over over))) e
-  a_head cell instance depth entry {head = head} {after = after} None inside b is e =
-      passes site.Heads (state_at mode.HeadWord [] head cell instance depth entry) after own_in_heads None refl b is refl (λ rest over. (refl, heads_grow inside (head_over over))) e
+  a_head : (cell : List ℕ) (instance : Option (List ℕ)) (entry : Entry) {head : Head} {from here : List Tok} {begin token : Tok} {after : State} (found : Option Keyword)
+      → InHeads head from (begin ∷ token ∷ here) → Is kind.LeftParen begin → keyword_in token.text.kind token.text.bytes ≡ found → Is kind.Word token
+      → Gives (moved read kind.Word (next_of mode.HeadWord (class.Word found) token.text.bytes) (state_at mode.HeadWord [] head cell instance entry) token.text.bytes) after → Meant IsNumber after from here
+  a_head cell instance entry {head = head} {after = after} (Some key.Design) inside b is w e = becomes (state_at mode.DesignText [] head cell instance entry) after e (at_design inside b is)
+  a_head cell instance entry {head = head} {after = after} (Some key.Divider) inside b is w e = becomes (state_at mode.DividerWord [] head cell instance entry) after e (at_divider inside b is)
+  a_head cell instance entry {head = head} {after = after} (Some key.Timescale) inside b is w e = becomes (state_at mode.ScaleWord [] head cell instance entry) after e (at_scale inside b is)
+  a_head cell instance entry {head = head} {after = after} (Some key.Cell) inside b is w e = becomes (state_at mode.TypeOpen [] head cell instance entry) after e (at_type_open (in_cells inside none) b is)
+  a_head cell instance entry {head = head} {after = after} (Some _) inside b is w e =
+      passes site.Heads (state_at mode.HeadWord [] head cell instance entry) after own_in_heads _ refl b is w refl (λ rest over. (refl, heads_grow inside (head_over over))) e
+  a_head cell instance entry {head = head} {after = after} None inside b is w e =
+      passes site.Heads (state_at mode.HeadWord [] head cell instance entry) after own_in_heads None refl b is w refl (λ rest over. (refl, heads_grow inside (head_over over))) e
 
   -- a head that a `)` ends
   ends_with : {before after : Head} {from here : List Tok} {begin keyword : Tok} → ((close : Tok) (rest : List Tok) → here ≡ close ∷ rest → Is kind.RightParen close → IsHead (begin ∷ keyword ∷ here) before after rest)
       → InHeads before from (begin ∷ keyword ∷ here) → HeadEnds after from here
   ends_with is inside close rest e c = heads_grow inside (is close rest e c)
 
-  a_design : (cell : List ℕ) (instance : Option (List ℕ)) (depth : ℕ) (entry : Entry) {head : Head} {from here : List Tok} {begin keyword token : Tok} {after : State} (k : Kind) → token.text.kind ≡ k
+  a_design : (cell : List ℕ) (instance : Option (List ℕ)) (entry : Entry) {head : Head} {from here : List Tok} {begin keyword token : Tok} {after : State} (k : Kind) → token.text.kind ≡ k
       → InHeads head from (begin ∷ keyword ∷ token ∷ here) → Is kind.LeftParen begin → IsKeyword key.Design keyword
-      → Gives (applied read (design_does k) (state_at mode.DesignText [] head cell instance depth entry) token.text.bytes) after → Meant IsNumber after from here
-  a_design cell instance depth entry {head = head} {from = from} {here = here} {begin = begin} {keyword = keyword} {token = token} {after = after} kind.Quoted is inside b k e =
-      becomes (state_at mode.HeadEnd [] head cell instance depth entry) after e
+      → Gives (step read (state_at mode.DesignText [] head cell instance entry) k token.text.bytes) after → Meant IsNumber after from here
+  a_design cell instance entry {head = head} {from = from} {here = here} {begin = begin} {keyword = keyword} {token = token} {after = after} kind.Quoted is inside b k e =
+      becomes (state_at mode.HeadEnd [] head cell instance entry) after e
       (at_head_end (λ close rest same c. heads_grow inside (subst (λ (l : List Tok). IsHead (begin ∷ keyword ∷ token ∷ l) head head rest) (sym same) (with_design b k is c))))
-  a_design cell instance depth entry {head = head} {after = after} kind.RightParen is inside b k e =
-      becomes (state_at mode.Heads [] head cell instance depth entry) after e (at_heads (heads_grow inside (with_no_design b k is)))
-  a_design cell instance depth entry _ is inside b k e = absurd (cc)
+  a_design cell instance entry {head = head} {after = after} kind.RightParen is inside b k e =
+      becomes (state_at mode.Heads [] head cell instance entry) after e (at_heads (heads_grow inside (with_no_design b k is)))
+  a_design cell instance entry _ is inside b k e = never e
 
-  a_divider : (cell : List ℕ) (instance : Option (List ℕ)) (depth : ℕ) (entry : Entry) {head : Head} {from here : List Tok} {begin keyword token : Tok} {after : State} (k : Kind) → token.text.kind ≡ k
+  a_divider : (cell : List ℕ) (instance : Option (List ℕ)) (entry : Entry) {head : Head} {from here : List Tok} {begin keyword token : Tok} {after : State} (k : Kind) → token.text.kind ≡ k
       → InHeads head from (begin ∷ keyword ∷ token ∷ here) → Is kind.LeftParen begin → IsKeyword key.Divider keyword
-      → Gives (applied read (divider_does k token.text.bytes) (state_at mode.DividerWord [] head cell instance depth entry) token.text.bytes) after → Meant IsNumber after from here
-  a_divider cell instance depth entry {head = head} {from = from} {here = here} {begin = begin} {keyword = keyword} {token = token} {after = after} kind.Word is inside b k e =
-      let step = divided_by token.text.bytes (state_at mode.DividerWord [] head cell instance depth entry) after token.text.bytes e in
-      let now : Head = record { divider = step.0; scale = head.scale } in
-      becomes (state_at mode.HeadEnd [] now cell instance depth entry) after step.3
-      (at_head_end (λ close rest same c. heads_grow inside (subst (λ (l : List Tok). IsHead (begin ∷ keyword ∷ token ∷ l) head now rest) (sym same) (with_divider b k is step.1 step.2 c))))
-  a_divider cell instance depth entry _ is inside b k e = absurd (cc)
+      → Gives (step read (state_at mode.DividerWord [] head cell instance entry) k token.text.bytes) after → Meant IsNumber after from here
+  a_divider cell instance entry {head = head} {from = from} {here = here} {begin = begin} {keyword = keyword} {token = token} {after = after} kind.Word is inside b k e =
+      let found = divided_by token.text.bytes (state_at mode.DividerWord [] head cell instance entry) after token.text.bytes e in
+      let now : Head = record { divider = found.0; scale = head.scale } in
+      becomes (state_at mode.HeadEnd [] now cell instance entry) after found.3
+      (at_head_end (λ close rest same c. heads_grow inside (subst (λ (l : List Tok). IsHead (begin ∷ keyword ∷ token ∷ l) head now rest) (sym same) (with_divider b k is found.1 found.2 c))))
+  a_divider cell instance entry _ is inside b k e = never e
 
-  a_scale : (cell : List ℕ) (instance : Option (List ℕ)) (depth : ℕ) (entry : Entry) {head : Head} {from here : List Tok} {begin keyword token : Tok} {after : State} (k : Kind) → token.text.kind ≡ k
+  a_scale : (cell : List ℕ) (instance : Option (List ℕ)) (entry : Entry) {head : Head} {from here : List Tok} {begin keyword token : Tok} {after : State} (k : Kind) → token.text.kind ≡ k
       → InHeads head from (begin ∷ keyword ∷ token ∷ here) → Is kind.LeftParen begin → IsKeyword key.Timescale keyword
-      → Gives (applied read (scale_does k token.text.bytes) (state_at mode.ScaleWord [] head cell instance depth entry) token.text.bytes) after → Meant IsNumber after from here
-  a_scale cell instance depth entry {head = head} {token = token} {after = after} kind.Word is inside b k e =
-      let step = scale_begun (place_behind place.Start token.text.bytes) (state_at mode.ScaleWord [] head cell instance depth entry) after token.text.bytes e in
-      becomes (state_at (mode.ScaleMore step.0) [] head cell instance depth entry) after step.2 (in_scale inside b k is step.1)
-  a_scale cell instance depth entry _ is inside b k e = absurd (cc)
+      → Gives (step read (state_at mode.ScaleWord [] head cell instance entry) k token.text.bytes) after → Meant IsNumber after from here
+  a_scale cell instance entry {head = head} {token = token} {after = after} kind.Word is inside b k e =
+      let found = scale_begun (place_behind place.Start token.text.bytes) (state_at mode.ScaleWord [] head cell instance entry) after token.text.bytes e in
+      becomes (state_at (mode.ScaleMore found.0) [] head cell instance entry) after found.2 (in_scale inside b k is found.1)
+  a_scale cell instance entry _ is inside b k e = never e
 
-  a_scale_end : (cell : List ℕ) (instance : Option (List ℕ)) (depth : ℕ) (entry : Entry) {head : Head} {from here : List Tok} {begin keyword word token : Tok} {at : ScalePlace} {after : State} (k : Kind) → token.text.kind ≡ k
+  a_scale_end : (cell : List ℕ) (instance : Option (List ℕ)) (entry : Entry) {head : Head} {from here : List Tok} {begin keyword word token : Tok} {at : ScalePlace} {after : State} (k : Kind) → token.text.kind ≡ k
       → InHeads head from (begin ∷ keyword ∷ word ∷ token ∷ here) → Is kind.LeftParen begin → IsKeyword key.Timescale keyword → Is kind.Word word → place_behind place.Start word.text.bytes ≡ Some at
-      → Gives (applied read (scale_end_does at k token.text.bytes) (state_at (mode.ScaleMore at) [] head cell instance depth entry) token.text.bytes) after → Meant IsNumber after from here
-  a_scale_end cell instance depth entry {head = head} {word = word} {token = token} {at = at} {after = after} kind.RightParen is inside b k w first e =
-      let step = scaled mode.Heads (Some at) (state_at (mode.ScaleMore at) [] head cell instance depth entry) after token.text.bytes e in
-      let now : Head = record { divider = head.divider; scale = step.0 } in
-      becomes (state_at mode.Heads [] now cell instance depth entry) after step.2
-      (at_heads (heads_grow inside (with_timescale b k w (read_scale word.text.bytes step.0 (first ∙ step.1)) is)))
-  a_scale_end cell instance depth entry {head = head} {from = from} {here = here} {begin = begin} {keyword = keyword} {word = word} {token = token} {at = at} {after = after} kind.Word is inside b k w first e =
-      let step = scaled mode.HeadEnd (place_behind at token.text.bytes) (state_at (mode.ScaleMore at) [] head cell instance depth entry) after token.text.bytes e in
-      let now : Head = record { divider = head.divider; scale = step.0 } in
-      becomes (state_at mode.HeadEnd [] now cell instance depth entry) after step.2
+      → Gives (step read (state_at (mode.ScaleMore at) [] head cell instance entry) k token.text.bytes) after → Meant IsNumber after from here
+  a_scale_end cell instance entry {head = head} {word = word} {token = token} {at = at} {after = after} kind.RightParen is inside b k w first e =
+      let found = scaled kind.RightParen mode.Heads (Some at) (state_at (mode.ScaleMore at) [] head cell instance entry) after token.text.bytes e in
+      let now : Head = record { divider = head.divider; scale = found.0 } in
+      becomes (state_at mode.Heads [] now cell instance entry) after found.2
+      (at_heads (heads_grow inside (with_timescale b k w (read_scale word.text.bytes found.0 (first ∙ found.1)) is)))
+  a_scale_end cell instance entry {head = head} {from = from} {here = here} {begin = begin} {keyword = keyword} {word = word} {token = token} {at = at} {after = after} kind.Word is inside b k w first e =
+      let found = scaled kind.Word mode.HeadEnd (place_behind at token.text.bytes) (state_at (mode.ScaleMore at) [] head cell instance entry) after token.text.bytes e in
+      let now : Head = record { divider = head.divider; scale = found.0 } in
+      becomes (state_at mode.HeadEnd [] now cell instance entry) after found.2
       (at_head_end (λ close rest same c. heads_grow inside (subst (λ (l : List Tok). IsHead (begin ∷ keyword ∷ word ∷ token ∷ l) head now rest) (sym same)
-      (with_timescale_in_two b k w is (read_scale_in_two word.text.bytes token.text.bytes at step.0 first step.1) c))))
-  a_scale_end cell instance depth entry _ is inside b k w first e = absurd (cc)
+      (with_timescale_in_two b k w is (read_scale_in_two word.text.bytes token.text.bytes at found.0 first found.1) c))))
+  a_scale_end cell instance entry _ is inside b k w first e = never e
 
   -- the `)` of the file
   file_ends : {head : Head} {rows : List SdfRow} {from here : List Tok} {close : Tok} → InCells IsNumber head rows from (close ∷ here) → Is kind.RightParen close → here ≡ [] → IsSdfBy IsNumber from rows
@@ -336,81 +326,81 @@ module _ (IsNumber : Timescale → List ℕ → Value → Type 0) (read : Timesc
 
   -- ---- cells
 
-  an_instance : (instance : Option (List ℕ)) (depth : ℕ) (entry : Entry) {head : Head} {rows : List SdfRow} {cell : List ℕ} {from here : List Tok} {begin keyword token : Tok} {after : State} (k : Kind) → token.text.kind ≡ k
+  an_instance : (instance : Option (List ℕ)) (entry : Entry) {head : Head} {rows : List SdfRow} {cell : List ℕ} {from here : List Tok} {begin keyword token : Tok} {after : State} (k : Kind) → token.text.kind ≡ k
       → Typed IsNumber head cell rows from (begin ∷ keyword ∷ token ∷ here) → Is kind.LeftParen begin → IsKeyword key.Instance keyword
-      → Gives (applied read (instance_does k) (state_at mode.InstanceName rows head cell instance depth entry) token.text.bytes) after → Meant IsNumber after from here
-  an_instance instance depth entry {head = head} {rows = rows} {cell = cell} {token = token} {after = after} kind.Word is inside b k e =
-      becomes (state_at mode.InstanceEnd rows head cell (instance_of head.divider token.text.bytes) depth entry) after e (at_instance_end inside b k is)
-  an_instance instance depth entry {head = head} {rows = rows} {cell = cell} {after = after} kind.RightParen is inside b k e =
-      becomes (state_at mode.Specs rows head cell (Some []) depth entry) after e (at_specs (in_cell inside (unnamed b k is) none (sym (append-nil rows))))
-  an_instance instance depth entry _ is inside b k e = absurd (cc)
+      → Gives (step read (state_at mode.InstanceName rows head cell instance entry) k token.text.bytes) after → Meant IsNumber after from here
+  an_instance instance entry {head = head} {rows = rows} {cell = cell} {token = token} {after = after} kind.Word is inside b k e =
+      becomes (state_at mode.InstanceEnd rows head cell (instance_of head.divider token.text.bytes) entry) after e (at_instance_end inside b k is)
+  an_instance instance entry {head = head} {rows = rows} {cell = cell} {after = after} kind.RightParen is inside b k e =
+      becomes (state_at mode.Specs rows head cell (Some []) entry) after e (at_specs (in_cell inside (unnamed b k is) none (sym (append-nil rows))))
+  an_instance instance entry _ is inside b k e = never e
 
-  a_spec : (depth : ℕ) (entry : Entry) {head : Head} {rows : List SdfRow} {cell : List ℕ} {instance : Option (List ℕ)} {from here : List Tok} {begin token : Tok} {after : State} (found : Option Keyword)
-      → InCell IsNumber head cell instance rows from (begin ∷ token ∷ here) → Is kind.LeftParen begin → keyword_in token.text.kind token.text.bytes ≡ found
-      → Gives (applied read (spec_does found token.text.kind) (state_at mode.SpecWord rows head cell instance depth entry) token.text.bytes) after → Meant IsNumber after from here
-  a_spec depth entry {head = head} {rows = rows} {cell = cell} {instance = instance} {after = after} (Some key.Delay) inside b is e =
-      becomes (state_at mode.Delays rows head cell instance depth entry) after e (at_delays (in_delay inside b is none (sym (append-nil rows))))
-  a_spec depth entry {head = head} {rows = rows} {cell = cell} {instance = instance} {token = token} {after = after} (Some key.Absolute) inside b is e = refused token.text.kind (state_at mode.SpecWord rows head cell instance depth entry) after token.text.bytes e
-  a_spec depth entry {head = head} {rows = rows} {cell = cell} {instance = instance} {after = after} (Some _) inside b is e =
-      passes site.Specs (state_at mode.SpecWord rows head cell instance depth entry) after own_in_cells _ refl b is refl (λ rest over. cell_goes_on IsNumber head cell instance inside (spec_over over)) e
-  a_spec depth entry {head = head} {rows = rows} {cell = cell} {instance = instance} {after = after} None inside b is e =
-      passes site.Specs (state_at mode.SpecWord rows head cell instance depth entry) after own_in_cells None refl b is refl (λ rest over. cell_goes_on IsNumber head cell instance inside (spec_over over)) e
+  a_spec : (entry : Entry) {head : Head} {rows : List SdfRow} {cell : List ℕ} {instance : Option (List ℕ)} {from here : List Tok} {begin token : Tok} {after : State} (found : Option Keyword)
+      → InCell IsNumber head cell instance rows from (begin ∷ token ∷ here) → Is kind.LeftParen begin → keyword_in token.text.kind token.text.bytes ≡ found → Is kind.Word token
+      → Gives (moved read kind.Word (next_of mode.SpecWord (class.Word found) token.text.bytes) (state_at mode.SpecWord rows head cell instance entry) token.text.bytes) after → Meant IsNumber after from here
+  a_spec entry {head = head} {rows = rows} {cell = cell} {instance = instance} {after = after} (Some key.Delay) inside b is w e =
+      becomes (state_at mode.Delays rows head cell instance entry) after e (at_delays (in_delay inside b is none (sym (append-nil rows))))
+  a_spec entry {head = head} {rows = rows} {cell = cell} {instance = instance} {token = token} {after = after} (Some key.Absolute) inside b is w e = never e
+  a_spec entry {head = head} {rows = rows} {cell = cell} {instance = instance} {after = after} (Some _) inside b is w e =
+      passes site.Specs (state_at mode.SpecWord rows head cell instance entry) after own_in_cells _ refl b is w refl (λ rest over. cell_goes_on IsNumber head cell instance inside (spec_over over)) e
+  a_spec entry {head = head} {rows = rows} {cell = cell} {instance = instance} {after = after} None inside b is w e =
+      passes site.Specs (state_at mode.SpecWord rows head cell instance entry) after own_in_cells None refl b is w refl (λ rest over. cell_goes_on IsNumber head cell instance inside (spec_over over)) e
 
-  a_delay : (depth : ℕ) (entry : Entry) {head : Head} {rows : List SdfRow} {cell : List ℕ} {instance : Option (List ℕ)} {from here : List Tok} {begin token : Tok} {after : State} (found : Option Keyword)
-      → InDelay IsNumber head cell instance rows from (begin ∷ token ∷ here) → Is kind.LeftParen begin → keyword_in token.text.kind token.text.bytes ≡ found
-      → Gives (applied read (delay_does found token.text.kind) (state_at mode.DelayWord rows head cell instance depth entry) token.text.bytes) after → Meant IsNumber after from here
-  a_delay depth entry {head = head} {rows = rows} {cell = cell} {instance = instance} {after = after} (Some key.Absolute) inside b is e =
-      becomes (state_at mode.Entries rows head cell instance depth entry) after e (at_entries (in_absolute inside b is none (sym (append-nil rows))))
-  a_delay depth entry {head = head} {rows = rows} {cell = cell} {instance = instance} {token = token} {after = after} (Some key.Delay) inside b is e = refused token.text.kind (state_at mode.DelayWord rows head cell instance depth entry) after token.text.bytes e
-  a_delay depth entry {head = head} {rows = rows} {cell = cell} {instance = instance} {after = after} (Some _) inside b is e =
-      passes site.Delays (state_at mode.DelayWord rows head cell instance depth entry) after own_in_cells _ refl b is refl (λ rest over. delay_goes_on IsNumber head cell instance inside (delay_over over)) e
-  a_delay depth entry {head = head} {rows = rows} {cell = cell} {instance = instance} {after = after} None inside b is e =
-      passes site.Delays (state_at mode.DelayWord rows head cell instance depth entry) after own_in_cells None refl b is refl (λ rest over. delay_goes_on IsNumber head cell instance inside (delay_over over)) e
+  a_delay : (entry : Entry) {head : Head} {rows : List SdfRow} {cell : List ℕ} {instance : Option (List ℕ)} {from here : List Tok} {begin token : Tok} {after : State} (found : Option Keyword)
+      → InDelay IsNumber head cell instance rows from (begin ∷ token ∷ here) → Is kind.LeftParen begin → keyword_in token.text.kind token.text.bytes ≡ found → Is kind.Word token
+      → Gives (moved read kind.Word (next_of mode.DelayWord (class.Word found) token.text.bytes) (state_at mode.DelayWord rows head cell instance entry) token.text.bytes) after → Meant IsNumber after from here
+  a_delay entry {head = head} {rows = rows} {cell = cell} {instance = instance} {after = after} (Some key.Absolute) inside b is w e =
+      becomes (state_at mode.Entries rows head cell instance entry) after e (at_entries (in_absolute inside b is none (sym (append-nil rows))))
+  a_delay entry {head = head} {rows = rows} {cell = cell} {instance = instance} {token = token} {after = after} (Some key.Delay) inside b is w e = never e
+  a_delay entry {head = head} {rows = rows} {cell = cell} {instance = instance} {after = after} (Some _) inside b is w e =
+      passes site.Delays (state_at mode.DelayWord rows head cell instance entry) after own_in_cells _ refl b is w refl (λ rest over. delay_goes_on IsNumber head cell instance inside (delay_over over)) e
+  a_delay entry {head = head} {rows = rows} {cell = cell} {instance = instance} {after = after} None inside b is w e =
+      passes site.Delays (state_at mode.DelayWord rows head cell instance entry) after own_in_cells None refl b is w refl (λ rest over. delay_goes_on IsNumber head cell instance inside (delay_over over)) e
 
   -- ---- entries
 
-  an_entry : (depth : ℕ) (entry : Entry) {head : Head} {rows : List SdfRow} {cell : List ℕ} {instance : Option (List ℕ)} {from here : List Tok} {begin token : Tok} {after : State} (found : Option Keyword)
-      → InAbsolute IsNumber head cell instance rows from (begin ∷ token ∷ here) → Is kind.LeftParen begin → keyword_in token.text.kind token.text.bytes ≡ found
-      → Gives (applied read (entry_does found token.text.kind) (state_at mode.EntryWord rows head cell instance depth entry) token.text.bytes) after → Meant IsNumber after from here
-  an_entry depth entry {head = head} {rows = rows} {cell = cell} {instance = instance} {after = after} (Some key.IoPath) inside b is e =
-      becomes (state_at (mode.From shape.Path) rows head cell instance depth (entry_of entry.from entry.to [])) after e (at_from {shape = shape.Path} inside b is)
-  an_entry depth entry {head = head} {rows = rows} {cell = cell} {instance = instance} {after = after} (Some key.Interconnect) inside b is e =
-      becomes (state_at (mode.From shape.Wire) rows head cell instance depth (entry_of entry.from entry.to [])) after e (at_from {shape = shape.Wire} inside b is)
-  an_entry depth entry {head = head} {rows = rows} {cell = cell} {instance = instance} {after = after} (Some _) inside b is e =
-      passes site.Entries (state_at mode.EntryWord rows head cell instance depth entry) after own_in_entries _ refl b is refl (λ rest over. absolute_goes_on IsNumber head cell instance inside (entry_over over)) e
-  an_entry depth entry {head = head} {rows = rows} {cell = cell} {instance = instance} {after = after} None inside b is e =
-      passes site.Entries (state_at mode.EntryWord rows head cell instance depth entry) after own_in_entries None refl b is refl (λ rest over. absolute_goes_on IsNumber head cell instance inside (entry_over over)) e
+  an_entry : (entry : Entry) {head : Head} {rows : List SdfRow} {cell : List ℕ} {instance : Option (List ℕ)} {from here : List Tok} {begin token : Tok} {after : State} (found : Option Keyword)
+      → InAbsolute IsNumber head cell instance rows from (begin ∷ token ∷ here) → Is kind.LeftParen begin → keyword_in token.text.kind token.text.bytes ≡ found → Is kind.Word token
+      → Gives (moved read kind.Word (next_of mode.EntryWord (class.Word found) token.text.bytes) (state_at mode.EntryWord rows head cell instance entry) token.text.bytes) after → Meant IsNumber after from here
+  an_entry entry {head = head} {rows = rows} {cell = cell} {instance = instance} {after = after} (Some key.IoPath) inside b is w e =
+      becomes (state_at (mode.From shape.Path) rows head cell instance (entry_of entry.from entry.to [])) after e (at_from {shape = shape.Path} inside b is)
+  an_entry entry {head = head} {rows = rows} {cell = cell} {instance = instance} {after = after} (Some key.Interconnect) inside b is w e =
+      becomes (state_at (mode.From shape.Wire) rows head cell instance (entry_of entry.from entry.to [])) after e (at_from {shape = shape.Wire} inside b is)
+  an_entry entry {head = head} {rows = rows} {cell = cell} {instance = instance} {after = after} (Some _) inside b is w e =
+      passes site.Entries (state_at mode.EntryWord rows head cell instance entry) after own_in_entries _ refl b is w refl (λ rest over. absolute_goes_on IsNumber head cell instance inside (entry_over over)) e
+  an_entry entry {head = head} {rows = rows} {cell = cell} {instance = instance} {after = after} None inside b is w e =
+      passes site.Entries (state_at mode.EntryWord rows head cell instance entry) after own_in_entries None refl b is w refl (λ rest over. absolute_goes_on IsNumber head cell instance inside (entry_over over)) e
 
   -- an entry that is passed over
   strays : {head : Head} {rows : List SdfRow} {cell : List ℕ} {instance : Option (List ℕ)} {depth : ℕ} {entry : Entry} {from all start here : List Tok}
       → InAbsolute IsNumber head cell instance rows from all → Strays IsNumber head.scale all start → Nest depth start here
-      → Meant IsNumber (state_at (mode.Over site.Entries) rows head cell instance depth entry) from here
+      → Meant IsNumber (state_at (mode.Over site.Entries depth) rows head cell instance entry) from here
   strays {head} {rows} {cell} {instance} inside strange nest = in_over nest (λ close rest within c. absolute_goes_on IsNumber head cell instance inside (is_stray strange within c))
 
-  a_from : (depth : ℕ) (some : List ℕ) (other : List ℕ) {head : Head} {rows : List SdfRow} {cell : List ℕ} {instance : Option (List ℕ)} {from here : List Tok} {begin keyword token : Tok} {after : State} (shape : Shape) (k : Kind) → token.text.kind ≡ k
+  a_from : (some : List ℕ) (other : List ℕ) {head : Head} {rows : List SdfRow} {cell : List ℕ} {instance : Option (List ℕ)} {from here : List Tok} {begin keyword token : Tok} {after : State} (shape : Shape) (k : Kind) → token.text.kind ≡ k
       → InAbsolute IsNumber head cell instance rows from (begin ∷ keyword ∷ token ∷ here) → Is kind.LeftParen begin → IsKeyword (keyword_for shape) keyword
-      → Gives (applied read (name_does shape (does_.From shape) k) (state_at (mode.From shape) rows head cell instance depth (entry_of some other [])) token.text.bytes) after → Meant IsNumber after from here
-  a_from depth some other {head = head} {rows = rows} {cell = cell} {instance = instance} {token = token} {after = after} shape kind.Word is inside b k e =
-      becomes (state_at (mode.To shape) rows head cell instance depth (entry_of (canonical head.divider token.text.bytes) other [])) after e (at_to inside b k is)
-  a_from depth some other {head = head} {rows = rows} {cell = cell} {instance = instance} {after = after} shape.Path kind.LeftParen is inside b k e =
-      becomes (state_at (mode.Over site.Entries) rows head cell instance 1 (entry_of some other [])) after e (strays inside (first_name b k is) (deeper (flat nothing_more) is nothing_more))
-  a_from depth some other shape.Wire kind.LeftParen is inside b k e = absurd (cc)
-  a_from depth some other shape _ is inside b k e = absurd (cc)
+      → Gives (step read (state_at (mode.From shape) rows head cell instance (entry_of some other [])) k token.text.bytes) after → Meant IsNumber after from here
+  a_from some other {head = head} {rows = rows} {cell = cell} {instance = instance} {token = token} {after = after} shape kind.Word is inside b k e =
+      becomes (state_at (mode.To shape) rows head cell instance (entry_of (canonical head.divider token.text.bytes) other [])) after e (at_to inside b k is)
+  a_from some other {head = head} {rows = rows} {cell = cell} {instance = instance} {after = after} shape.Path kind.LeftParen is inside b k e =
+      becomes (state_at (mode.Over site.Entries 1) rows head cell instance (entry_of some other [])) after e (strays inside (first_name b k is) (deeper (flat nothing_more) is nothing_more))
+  a_from some other shape.Wire kind.LeftParen is inside b k e = never e
+  a_from some other shape _ is inside b k e = never e
 
-  a_to : (depth : ℕ) (other : List ℕ) {head : Head} {rows : List SdfRow} {cell : List ℕ} {instance : Option (List ℕ)} {from here : List Tok} {begin keyword name token : Tok} {after : State} (shape : Shape) (k : Kind) → token.text.kind ≡ k
+  a_to : (other : List ℕ) {head : Head} {rows : List SdfRow} {cell : List ℕ} {instance : Option (List ℕ)} {from here : List Tok} {begin keyword name token : Tok} {after : State} (shape : Shape) (k : Kind) → token.text.kind ≡ k
       → InAbsolute IsNumber head cell instance rows from (begin ∷ keyword ∷ name ∷ token ∷ here) → Is kind.LeftParen begin → IsKeyword (keyword_for shape) keyword → Is kind.Word name
-      → Gives (applied read (name_does shape (does_.To shape) k) (state_at (mode.To shape) rows head cell instance depth (entry_of (canonical head.divider name.text.bytes) other [])) token.text.bytes) after → Meant IsNumber after from here
-  a_to depth other {head = head} {rows = rows} {cell = cell} {instance = instance} {name = name} {token = token} {after = after} shape kind.Word is inside b k n e =
-      becomes (state_at (mode.FirstValue shape) rows head cell instance depth (entry_in head name.text.bytes token.text.bytes [])) after e (at_first_value inside (named b k n is))
-  a_to depth other {head = head} {rows = rows} {cell = cell} {instance = instance} {name = name} {after = after} shape.Path kind.LeftParen is inside b k n e =
-      becomes (state_at (mode.Over site.Entries) rows head cell instance 1 (entry_of (canonical head.divider name.text.bytes) other [])) after e (strays inside (second_name b k n is) (deeper (flat nothing_more) is nothing_more))
-  a_to depth other shape.Wire kind.LeftParen is inside b k n e = absurd (cc)
-  a_to depth other shape _ is inside b k n e = absurd (cc)
+      → Gives (step read (state_at (mode.To shape) rows head cell instance (entry_of (canonical head.divider name.text.bytes) other [])) k token.text.bytes) after → Meant IsNumber after from here
+  a_to other {head = head} {rows = rows} {cell = cell} {instance = instance} {name = name} {token = token} {after = after} shape kind.Word is inside b k n e =
+      becomes (state_at (mode.FirstValue shape) rows head cell instance (entry_in head name.text.bytes token.text.bytes [])) after e (at_first_value inside (named b k n is))
+  a_to other {head = head} {rows = rows} {cell = cell} {instance = instance} {name = name} {after = after} shape.Path kind.LeftParen is inside b k n e =
+      becomes (state_at (mode.Over site.Entries 1) rows head cell instance (entry_of (canonical head.divider name.text.bytes) other [])) after e (strays inside (second_name b k n is) (deeper (flat nothing_more) is nothing_more))
+  a_to other shape.Wire kind.LeftParen is inside b k n e = never e
+  a_to other shape _ is inside b k n e = never e
 
   -- a value more
-  value_kept : (values : List Value) (value : Value) {head : Head} {rows : List SdfRow} {cell : List ℕ} {instance : Option (List ℕ)} {depth : ℕ} {entry : Entry} {from all here : List Tok} {some other : List ℕ} (shape : Shape)
+  value_kept : (values : List Value) (value : Value) {head : Head} {rows : List SdfRow} {cell : List ℕ} {instance : Option (List ℕ)} {entry : Entry} {from all here : List Tok} {some other : List ℕ} (shape : Shape)
       → InAbsolute IsNumber head cell instance rows from all → Begun IsNumber head.scale shape all some other (values ++ value ∷ []) here → entry ≡ entry_in head some other (values ++ value ∷ [])
-      → Meant IsNumber (state_at (mode.Values shape) rows head cell instance depth entry) from here
+      → Meant IsNumber (state_at (mode.Values shape) rows head cell instance entry) from here
   value_kept values value {head = head} {all = all} {here = here} {some = some} {other = other} shape inside begins e =
       let parts = split values value in
       at_values inside (subst (λ (l : List Value). Begun IsNumber head.scale shape all some other l here) parts.2 begins) (e ∙ ap (λ l. entry_in head some other l) parts.2)
@@ -419,158 +409,140 @@ module _ (IsNumber : Timescale → List ℕ → Value → Type 0) (read : Timesc
   kept_is : (head : Head) (entry : Entry) (some other : List ℕ) (values : List Value) (value : Value) → entry ≡ entry_in head some other values → with_value value entry ≡ entry_in head some other (values ++ value ∷ [])
   kept_is head entry some other values value e = ap (with_value value) e ∙ one_more (canonical head.divider some) (canonical head.divider other) values value
 
-  a_word : (depth : ℕ) {head : Head} {rows : List SdfRow} {cell : List ℕ} {instance : Option (List ℕ)} {entry : Entry} {from all here : List Tok} {begin token : Tok} {some other : List ℕ} {values : List Value} {after : State} (shape : Shape) (retain : Bool)
+  a_word : {head : Head} {rows : List SdfRow} {cell : List ℕ} {instance : Option (List ℕ)} {entry : Entry} {from all here : List Tok} {begin token : Tok} {some other : List ℕ} {values : List Value} {after : State} (shape : Shape) (retain : Bool)
       → is_retain shape (keyword_of token.text.bytes) ≡ retain → Is kind.Word token
       → InAbsolute IsNumber head cell instance rows from all → Begun IsNumber head.scale shape all some other values (begin ∷ token ∷ here) → Is kind.LeftParen begin
       → entry ≡ entry_in head some other values
-      → Gives (applied read (cond retain (does_.Pass site.Entries 1) (does_.Number shape)) (state_at (mode.Number shape) rows head cell instance depth entry) token.text.bytes) after → Meant IsNumber after from here
-  a_word depth {head = head} {rows = rows} {cell = cell} {instance = instance} {entry = entry} {token = token} {some = some} {other = other} {values = values} {after = after} shape false keeps_on w inside begins b same e =
-      let step = numbered shape (read head.scale token.text.bytes) (state_at (mode.Number shape) rows head cell instance depth entry) after e in
+      → Gives (moved read kind.Word (cond retain (pass site.Entries 1) (Some (mode.NumberEnd shape, does_.Number))) (state_at (mode.Number shape) rows head cell instance entry) token.text.bytes) after → Meant IsNumber after from here
+  a_word {head = head} {rows = rows} {cell = cell} {instance = instance} {entry = entry} {token = token} {some = some} {other = other} {values = values} {after = after} shape false keeps_on w inside begins b same e =
+      let found = numbered (read head.scale token.text.bytes) (state_at (mode.NumberEnd shape) rows head cell instance entry) after e in
       let keeps : retains shape token ≡ false = ap (λ k. is_retain shape (keyword_in k token.text.bytes)) w ∙ keeps_on in
-      becomes (state_at (mode.NumberEnd shape) rows head cell instance depth (with_value step.0 entry)) after step.2
-      (at_number_end inside begins b w keeps (decides.means head.scale token.text.bytes step.0 step.1) (kept_is head entry some other values step.0 same))
-  a_word depth {head = head} {rows = rows} {cell = cell} {instance = instance} {entry = entry} {token = token} {after = after} shape.Path true is w inside begins b same e =
-      becomes (state_at (mode.Over site.Entries) rows head cell instance 1 entry) after e
+      becomes (state_at (mode.NumberEnd shape) rows head cell instance (with_value found.0 entry)) after found.2
+      (at_number_end inside begins b w keeps (decides.means head.scale token.text.bytes found.0 found.1) (kept_is head entry some other values found.0 same))
+  a_word {head = head} {rows = rows} {cell = cell} {instance = instance} {entry = entry} {token = token} {after = after} shape.Path true is w inside begins b same e =
+      becomes (state_at (mode.Over site.Entries 1) rows head cell instance entry) after e
       (strays inside (with_retain begins b (ap (λ (k : Kind). keyword_in k token.text.bytes) w ∙ retain_of (keyword_of token.text.bytes) is)) (deeper (flat nothing_more) b (and_piece nothing_more (ap is_piece w))))
-  a_word depth shape.Wire true is w inside begins b same e = absurd (cc)
+  a_word shape.Wire true is w inside begins b same e = absurd (cc)
 
-  a_number : (depth : ℕ) {head : Head} {rows : List SdfRow} {cell : List ℕ} {instance : Option (List ℕ)} {entry : Entry} {from all here : List Tok} {begin token : Tok} {some other : List ℕ} {values : List Value} {after : State} (shape : Shape) (k : Kind) → token.text.kind ≡ k
+  a_number : {head : Head} {rows : List SdfRow} {cell : List ℕ} {instance : Option (List ℕ)} {entry : Entry} {from all here : List Tok} {begin token : Tok} {some other : List ℕ} {values : List Value} {after : State} (shape : Shape) (k : Kind) → token.text.kind ≡ k
       → InAbsolute IsNumber head cell instance rows from all → Begun IsNumber head.scale shape all some other values (begin ∷ token ∷ here) → Is kind.LeftParen begin
       → entry ≡ entry_in head some other values
-      → Gives (applied read (number_does shape k token.text.bytes) (state_at (mode.Number shape) rows head cell instance depth entry) token.text.bytes) after → Meant IsNumber after from here
-  a_number depth {head = head} {rows = rows} {cell = cell} {instance = instance} {entry = entry} {some = some} {other = other} {values = values} {after = after} shape kind.RightParen is inside begins b same e =
-      becomes (state_at (mode.Values shape) rows head cell instance depth (with_value no_value entry)) after e
+      → Gives (step read (state_at (mode.Number shape) rows head cell instance entry) k token.text.bytes) after → Meant IsNumber after from here
+  a_number {head = head} {rows = rows} {cell = cell} {instance = instance} {entry = entry} {some = some} {other = other} {values = values} {after = after} shape kind.RightParen is inside begins b same e =
+      becomes (state_at (mode.Values shape) rows head cell instance (with_value no_value entry)) after e
       (value_kept values no_value shape inside (and_value begins (is_empty b is)) (kept_is head entry some other values no_value same))
-  a_number depth {head = head} {rows = rows} {cell = cell} {instance = instance} {entry = entry} {after = after} shape kind.LeftParen is inside begins b same e =
-      becomes (state_at (mode.Over site.Entries) rows head cell instance 2 entry) after e (strays inside (in_value begins b is) (deeper (deeper (flat nothing_more) b nothing_more) is nothing_more))
-  a_number depth {token = token} shape kind.Word is inside begins b same e = a_word depth shape (is_retain shape (keyword_of token.text.bytes)) refl is inside begins b same e
-  a_number depth shape _ is inside begins b same e = absurd (cc)
+  a_number {head = head} {rows = rows} {cell = cell} {instance = instance} {entry = entry} {after = after} shape kind.LeftParen is inside begins b same e =
+      becomes (state_at (mode.Over site.Entries 2) rows head cell instance entry) after e (strays inside (in_value begins b is) (deeper (deeper (flat nothing_more) b nothing_more) is nothing_more))
+  a_number {token = token} shape kind.Word is inside begins b same e = a_word shape (is_retain shape (keyword_of token.text.bytes)) refl is inside begins b same e
+  a_number shape _ is inside begins b same e = never e
 
-  a_number_end : (depth : ℕ) {head : Head} {rows : List SdfRow} {cell : List ℕ} {instance : Option (List ℕ)} {entry : Entry} {from all here : List Tok} {begin word token : Tok} {some other : List ℕ} {values : List Value} {value : Value} {after : State} (shape : Shape) (k : Kind) → token.text.kind ≡ k
+  a_number_end : {head : Head} {rows : List SdfRow} {cell : List ℕ} {instance : Option (List ℕ)} {entry : Entry} {from all here : List Tok} {begin word token : Tok} {some other : List ℕ} {values : List Value} {value : Value} {after : State} (shape : Shape) (k : Kind) → token.text.kind ≡ k
       → InAbsolute IsNumber head cell instance rows from all → Begun IsNumber head.scale shape all some other values (begin ∷ word ∷ token ∷ here) → Is kind.LeftParen begin
       → Is kind.Word word → retains shape word ≡ false → IsNumber head.scale word.text.bytes value
       → entry ≡ entry_in head some other (values ++ value ∷ [])
-      → Gives (applied read (number_end_does shape k) (state_at (mode.NumberEnd shape) rows head cell instance depth entry) token.text.bytes) after → Meant IsNumber after from here
-  a_number_end depth {head = head} {rows = rows} {cell = cell} {instance = instance} {entry = entry} {values = values} {value = value} {after = after} shape kind.RightParen is inside begins b w keeps number same e =
-      becomes (state_at (mode.Values shape) rows head cell instance depth entry) after e (value_kept values value shape inside (and_value begins (is_number b w keeps number is)) same)
-  a_number_end depth {head = head} {rows = rows} {cell = cell} {instance = instance} {entry = entry} {after = after} shape kind.LeftParen is inside begins b w keeps number same e =
-      becomes (state_at (mode.Over site.Entries) rows head cell instance 2 entry) after e
+      → Gives (step read (state_at (mode.NumberEnd shape) rows head cell instance entry) k token.text.bytes) after → Meant IsNumber after from here
+  a_number_end {head = head} {rows = rows} {cell = cell} {instance = instance} {entry = entry} {values = values} {value = value} {after = after} shape kind.RightParen is inside begins b w keeps number same e =
+      becomes (state_at (mode.Values shape) rows head cell instance entry) after e (value_kept values value shape inside (and_value begins (is_number b w keeps number is)) same)
+  a_number_end {head = head} {rows = rows} {cell = cell} {instance = instance} {entry = entry} {after = after} shape kind.LeftParen is inside begins b w keeps number same e =
+      becomes (state_at (mode.Over site.Entries 2) rows head cell instance entry) after e
       (strays inside (behind_number begins b w keeps number is) (deeper (deeper (flat nothing_more) b (and_piece nothing_more (ap is_piece w))) is nothing_more))
-  a_number_end depth shape _ is inside begins b w keeps number same e = absurd (cc)
+  a_number_end shape _ is inside begins b w keeps number same e = never e
 
-  behind_values : (depth : ℕ) {head : Head} {rows : List SdfRow} {cell : List ℕ} {instance : Option (List ℕ)} {entry : Entry} {from all here : List Tok} {token : Tok} {some other : List ℕ} {value : Value} {values : List Value} {after : State} (shape : Shape) (k : Kind) → token.text.kind ≡ k
+  behind_values : {head : Head} {rows : List SdfRow} {cell : List ℕ} {instance : Option (List ℕ)} {entry : Entry} {from all here : List Tok} {token : Tok} {some other : List ℕ} {value : Value} {values : List Value} {after : State} (shape : Shape) (k : Kind) → token.text.kind ≡ k
       → InAbsolute IsNumber head cell instance rows from all → Begun IsNumber head.scale shape all some other (value ∷ values) (token ∷ here)
       → entry ≡ entry_in head some other (value ∷ values)
-      → Gives (applied read (values_does shape k) (state_at (mode.Values shape) rows head cell instance depth entry) token.text.bytes) after → Meant IsNumber after from here
-  behind_values depth {head = head} {rows = rows} {cell = cell} {instance = instance} {entry = entry} {after = after} shape kind.LeftParen is inside begins same e =
-      becomes (state_at (mode.Number shape) rows head cell instance depth entry) after e (at_number inside begins is same)
-  behind_values depth {head = head} {rows = rows} {cell = cell} {instance = instance} {entry = entry} {from = from} {here = here} {after = after} shape kind.RightParen is inside begins same e =
-      becomes (state_at mode.Entries (rows ++ rows_in shape cell instance entry.from entry.to entry.rise entry.fall) head cell instance depth (cleared entry)) after e
+      → Gives (step read (state_at (mode.Values shape) rows head cell instance entry) k token.text.bytes) after → Meant IsNumber after from here
+  behind_values {head = head} {rows = rows} {cell = cell} {instance = instance} {entry = entry} {after = after} shape kind.LeftParen is inside begins same e =
+      becomes (state_at (mode.Number shape) rows head cell instance entry) after e (at_number inside begins is same)
+  behind_values {head = head} {rows = rows} {cell = cell} {instance = instance} {entry = entry} {from = from} {here = here} {after = after} shape kind.RightParen is inside begins same e =
+      becomes (state_at mode.Entries (rows ++ rows_in shape cell instance entry.from entry.to entry.rise entry.fall) head cell instance (cleared entry)) after e
       (at_entries (subst (λ (x : Entry). InAbsolute IsNumber head cell instance (rows ++ rows_in shape cell instance x.from x.to x.rise x.fall) from here) (sym same)
       (absolute_grows IsNumber head cell instance inside (is_entry begins is))))
-  behind_values depth shape _ is inside begins same e = absurd (cc)
+  behind_values shape _ is inside begins same e = never e
 
   -- ---- in a form that is passed over
 
-  over_ended : (at : Site) {head : Head} {rows : List SdfRow} {cell : List ℕ} {instance : Option (List ℕ)} {depth : ℕ} {entry : Entry} {from here : List Tok} → Behind IsNumber at head cell instance rows from here
-      → Meant IsNumber (state_at (site_mode at) rows head cell instance depth entry) from here
-  over_ended site.Heads {head} {rows} {cell} {instance} {depth} {entry} {from} {here} behind = subst (λ (r : List SdfRow). Meant IsNumber (state_at mode.Heads r head cell instance depth entry) from here) (sym behind.0) (at_heads behind.1)
+  over_ended : (at : Site) {head : Head} {rows : List SdfRow} {cell : List ℕ} {instance : Option (List ℕ)} {entry : Entry} {from here : List Tok} → Behind IsNumber at head cell instance rows from here
+      → Meant IsNumber (state_at (site_mode at) rows head cell instance entry) from here
+  over_ended site.Heads {head} {rows} {cell} {instance} {entry} {from} {here} behind = subst (λ (r : List SdfRow). Meant IsNumber (state_at mode.Heads r head cell instance entry) from here) (sym behind.0) (at_heads behind.1)
   over_ended site.Specs behind = at_specs behind
   over_ended site.Delays behind = at_delays behind
   over_ended site.Entries behind = at_entries behind
 
   over_closes : (at : Site) (head : Head) (rows : List SdfRow) (cell : List ℕ) (instance : Option (List ℕ)) (entry : Entry) {depth : ℕ} {from start here : List Tok} {token : Tok} {after : State} → Is kind.RightParen token
       → Nest depth start (token ∷ here) → OverEnds IsNumber at head cell instance rows from start
-      → Gives (Ok (shallower depth at (state_at (mode.Over at) rows head cell instance depth entry))) after → Meant IsNumber after from here
+      → Gives (moved read kind.RightParen (closes at depth) (state_at (mode.Over at depth) rows head cell instance entry) token.text.bytes) after → Meant IsNumber after from here
   over_closes at head rows cell instance entry {here = here} {token = token} {after = after} is (flat loose) ends e =
-      becomes (state_at (site_mode at) rows head cell instance 0 entry) after e (over_ended at (ends token here loose is))
+      becomes (state_at (site_mode at) rows head cell instance entry) after e (over_ended at (ends token here loose is))
   over_closes at head rows cell instance entry {after = after} is (deeper {depth = depth} nest b loose) ends e =
-      becomes (state_at (mode.Over at) rows head cell instance depth entry) after e (in_over (nest_group nest b loose is) ends)
+      becomes (state_at (mode.Over at depth) rows head cell instance entry) after e (in_over (nest_group nest b loose is) ends)
 
   over_moves : (at : Site) (head : Head) (rows : List SdfRow) (cell : List ℕ) (instance : Option (List ℕ)) (entry : Entry) {depth : ℕ} {from start here : List Tok} {token : Tok} {after : State} (k : Kind) → token.text.kind ≡ k
       → Nest depth start (token ∷ here) → OverEnds IsNumber at head cell instance rows from start
-      → Gives (applied read (inside_does at k) (state_at (mode.Over at) rows head cell instance depth entry) token.text.bytes) after → Meant IsNumber after from here
-  over_moves at head rows cell instance entry {depth} {after = after} kind.Word is nest ends e = becomes (state_at (mode.Over at) rows head cell instance depth entry) after e (in_over (nest_piece nest (ap is_piece is)) ends)
-  over_moves at head rows cell instance entry {depth} {after = after} kind.Quoted is nest ends e = becomes (state_at (mode.Over at) rows head cell instance depth entry) after e (in_over (nest_piece nest (ap is_piece is)) ends)
-  over_moves at head rows cell instance entry {depth} {after = after} kind.LeftParen is nest ends e = becomes (state_at (mode.Over at) rows head cell instance (suc depth) entry) after e (in_over (deeper nest is nothing_more) ends)
+      → Gives (step read (state_at (mode.Over at depth) rows head cell instance entry) k token.text.bytes) after → Meant IsNumber after from here
+  over_moves at head rows cell instance entry {depth} {after = after} kind.Word is nest ends e = becomes (state_at (mode.Over at depth) rows head cell instance entry) after e (in_over (nest_piece nest (ap is_piece is)) ends)
+  over_moves at head rows cell instance entry {depth} {after = after} kind.Quoted is nest ends e = becomes (state_at (mode.Over at depth) rows head cell instance entry) after e (in_over (nest_piece nest (ap is_piece is)) ends)
+  over_moves at head rows cell instance entry {depth} {after = after} kind.LeftParen is nest ends e = becomes (state_at (mode.Over at (suc depth)) rows head cell instance entry) after e (in_over (deeper nest is nothing_more) ends)
   over_moves at head rows cell instance entry kind.RightParen is nest ends e = over_closes at head rows cell instance entry is nest ends e
-  over_moves at head rows cell instance entry _ is nest ends e = absurd (cc)
+  over_moves at head rows cell instance entry _ is nest ends e = never e
 
   -- ---- one token more
 
   moves : (s after : State) {from here : List Tok} (token : Tok) → Meant IsNumber s from (token ∷ here) → Gives (next read s token) after → Meant IsNumber after from here
   moves s after token at_start e =
-      let step = opened mode.FileWord token.text.kind s after token.text.bytes e in
-      becomes (to_mode mode.FileWord s) after step.1 (at_file_word step.0)
+      by_class s after token.text.kind token.text.bytes e (λ is e'. becomes (to_mode mode.FileWord s) after e' (at_file_word is)) (λ is e'. never e') (λ is e'. never e') (λ is e'. never e')
   moves s after token (at_file_word b) e =
-      let step = file_word (keyword_in token.text.kind token.text.bytes) token.text.kind s after token.text.bytes e in
-      becomes (to_mode mode.Heads s) after step.1 (at_heads (in_heads b step.0 no_head))
+      by_class s after token.text.kind token.text.bytes e (λ is e'. never e') (λ is e'. never e') (λ is e'. never e') (λ is e'. let found = file_word (keyword_of token.text.bytes) s after token.text.bytes e' in becomes (to_mode mode.Heads s) after found.1 (at_heads (in_heads b ((ap (λ (k : Kind). keyword_in k token.text.bytes) is) ∙ found.0) no_head)))
   moves s after {from} {here} token (at_heads {head = head} inside) e =
-      forms mode.HeadWord mode.End token.text.kind s after token.text.bytes e
-      (λ is e'. becomes (to_mode mode.HeadWord s) after e' (at_head_word inside is))
-      (λ is e'. becomes (to_mode mode.End s) after e' (at_end (file_ends (in_cells inside none) is)))
-  moves s after token (at_head_word inside b) e = a_head _ _ _ _ (keyword_in token.text.kind token.text.bytes) inside b refl e
-  moves s after token (at_design inside b k) e = a_design _ _ _ _ token.text.kind refl inside b k e
-  moves s after token (at_divider inside b k) e = a_divider _ _ _ _ token.text.kind refl inside b k e
-  moves s after token (at_scale inside b k) e = a_scale _ _ _ _ token.text.kind refl inside b k e
-  moves s after token (in_scale inside b k w first) e = a_scale_end _ _ _ _ token.text.kind refl inside b k w first e
+      by_class s after token.text.kind token.text.bytes e (λ is e'. becomes (to_mode mode.HeadWord s) after e' (at_head_word inside is)) (λ is e'. becomes (to_mode mode.End s) after e' (at_end (file_ends (in_cells inside none) is))) (λ is e'. never e') (λ is e'. never e')
+  moves s after token (at_head_word inside b) e =
+      by_class s after token.text.kind token.text.bytes e (λ is e'. never e') (λ is e'. never e') (λ is e'. never e') (λ is e'. a_head _ _ _ (keyword_of token.text.bytes) inside b (ap (λ (k : Kind). keyword_in k token.text.bytes) is) is e')
+  moves s after token (at_design inside b k) e = a_design _ _ _ token.text.kind refl inside b k e
+  moves s after token (at_divider inside b k) e = a_divider _ _ _ token.text.kind refl inside b k e
+  moves s after token (at_scale inside b k) e = a_scale _ _ _ token.text.kind refl inside b k e
+  moves s after token (in_scale inside b k w first) e = a_scale_end _ _ _ token.text.kind refl inside b k w first e
   moves s after {here = here} token (at_head_end ends) e =
-      let step = closed mode.Heads token.text.kind s after token.text.bytes e in
-      becomes (to_mode mode.Heads s) after step.1 (at_heads (ends token here refl step.0))
+      by_class s after token.text.kind token.text.bytes e (λ is e'. never e') (λ is e'. becomes (to_mode mode.Heads s) after e' (at_heads (ends token here refl is))) (λ is e'. never e') (λ is e'. never e')
   moves s after {from} {here} token (at_cells {head = head} {rows = rows} inside) e =
-      forms mode.CellWord mode.End token.text.kind s after token.text.bytes e
-      (λ is e'. becomes (to_mode mode.CellWord s) after e' (at_cell_word inside is))
-      (λ is e'. becomes (to_mode mode.End s) after e' (at_end (file_ends inside is)))
+      by_class s after token.text.kind token.text.bytes e (λ is e'. becomes (to_mode mode.CellWord s) after e' (at_cell_word inside is)) (λ is e'. becomes (to_mode mode.End s) after e' (at_end (file_ends inside is))) (λ is e'. never e') (λ is e'. never e')
   moves s after token (at_cell_word inside b) e =
-      let step = cell_word (keyword_in token.text.kind token.text.bytes) token.text.kind s after token.text.bytes e in
-      becomes (to_mode mode.TypeOpen s) after step.1 (at_type_open inside b step.0)
+      by_class s after token.text.kind token.text.bytes e (λ is e'. never e') (λ is e'. never e') (λ is e'. never e') (λ is e'. let found = cell_word (keyword_of token.text.bytes) s after token.text.bytes e' in becomes (to_mode mode.TypeOpen s) after found.1 (at_type_open inside b ((ap (λ (k : Kind). keyword_in k token.text.bytes) is) ∙ found.0)))
   moves s after token (at_type_open inside b k) e =
-      let step = opened mode.TypeWord token.text.kind s after token.text.bytes e in
-      becomes (to_mode mode.TypeWord s) after step.1 (at_type_word inside b k step.0)
+      by_class s after token.text.kind token.text.bytes e (λ is e'. becomes (to_mode mode.TypeWord s) after e' (at_type_word inside b k is)) (λ is e'. never e') (λ is e'. never e') (λ is e'. never e')
   moves s after token (at_type_word inside b k bt) e =
-      let step = type_word (keyword_in token.text.kind token.text.bytes) token.text.kind s after token.text.bytes e in
-      becomes (to_mode mode.TypeText s) after step.1 (at_type_text inside b k bt step.0)
+      by_class s after token.text.kind token.text.bytes e (λ is e'. never e') (λ is e'. never e') (λ is e'. never e') (λ is e'. let found = type_word (keyword_of token.text.bytes) s after token.text.bytes e' in becomes (to_mode mode.TypeText s) after found.1 (at_type_text inside b k bt ((ap (λ (k : Kind). keyword_in k token.text.bytes) is) ∙ found.0)))
   moves s after token (at_type_text inside b k bt tk) e =
-      let step = quoted token.text.kind s after token.text.bytes e in
-      becomes (typed (meaning token.text.bytes) s) after step.1 (at_type_end inside b k bt tk step.0)
+      by_class s after token.text.kind token.text.bytes e (λ is e'. never e') (λ is e'. never e') (λ is e'. becomes (record s { mode = mode.TypeEnd; cell = meaning token.text.bytes }) after e' (at_type_end inside b k bt tk is)) (λ is e'. never e')
   moves s after token (at_type_end inside b k bt tk t) e =
-      let step = closed mode.InstanceOpen token.text.kind s after token.text.bytes e in
-      becomes (to_mode mode.InstanceOpen s) after step.1 (at_instance_open (is_typed inside b k bt tk t step.0 refl))
+      by_class s after token.text.kind token.text.bytes e (λ is e'. never e') (λ is e'. becomes (to_mode mode.InstanceOpen s) after e' (at_instance_open (is_typed inside b k bt tk t is refl))) (λ is e'. never e') (λ is e'. never e')
   moves s after token (at_instance_open inside) e =
-      let step = opened mode.InstanceWord token.text.kind s after token.text.bytes e in
-      becomes (to_mode mode.InstanceWord s) after step.1 (at_instance_word inside step.0)
+      by_class s after token.text.kind token.text.bytes e (λ is e'. becomes (to_mode mode.InstanceWord s) after e' (at_instance_word inside is)) (λ is e'. never e') (λ is e'. never e') (λ is e'. never e')
   moves s after token (at_instance_word inside b) e =
-      let step = instance_word (keyword_in token.text.kind token.text.bytes) token.text.kind s after token.text.bytes e in
-      becomes (to_mode mode.InstanceName s) after step.1 (at_instance_name inside b step.0)
-  moves s after token (at_instance_name inside b k) e = an_instance _ _ _ token.text.kind refl inside b k e
+      by_class s after token.text.kind token.text.bytes e (λ is e'. never e') (λ is e'. never e') (λ is e'. never e') (λ is e'. let found = instance_word (keyword_of token.text.bytes) s after token.text.bytes e' in becomes (to_mode mode.InstanceName s) after found.1 (at_instance_name inside b ((ap (λ (k : Kind). keyword_in k token.text.bytes) is) ∙ found.0)))
+  moves s after token (at_instance_name inside b k) e = an_instance _ _ token.text.kind refl inside b k e
   moves s after token (at_instance_end {rows = rows} inside b k w) e =
-      let step = closed mode.Specs token.text.kind s after token.text.bytes e in
-      becomes (to_mode mode.Specs s) after step.1 (at_specs (in_cell inside (with_instance b k w step.0) none (sym (append-nil rows))))
+      by_class s after token.text.kind token.text.bytes e (λ is e'. never e') (λ is e'. becomes (to_mode mode.Specs s) after e' (at_specs (in_cell inside (with_instance b k w is) none (sym (append-nil rows))))) (λ is e'. never e') (λ is e'. never e')
   moves s after token (at_specs {head = head} {cell = cell} {instance = instance} inside) e =
-      forms mode.SpecWord mode.Cells token.text.kind s after token.text.bytes e
-      (λ is e'. becomes (to_mode mode.SpecWord s) after e' (at_spec_word inside is))
-      (λ is e'. becomes (to_mode mode.Cells s) after e' (at_cells (cell_ends IsNumber head cell instance inside is)))
-  moves s after token (at_spec_word inside b) e = a_spec _ _ (keyword_in token.text.kind token.text.bytes) inside b refl e
+      by_class s after token.text.kind token.text.bytes e (λ is e'. becomes (to_mode mode.SpecWord s) after e' (at_spec_word inside is)) (λ is e'. becomes (to_mode mode.Cells s) after e' (at_cells (cell_ends IsNumber head cell instance inside is))) (λ is e'. never e') (λ is e'. never e')
+  moves s after token (at_spec_word inside b) e =
+      by_class s after token.text.kind token.text.bytes e (λ is e'. never e') (λ is e'. never e') (λ is e'. never e') (λ is e'. a_spec _ (keyword_of token.text.bytes) inside b (ap (λ (k : Kind). keyword_in k token.text.bytes) is) is e')
   moves s after token (at_delays {head = head} {cell = cell} {instance = instance} inside) e =
-      forms mode.DelayWord mode.Specs token.text.kind s after token.text.bytes e
-      (λ is e'. becomes (to_mode mode.DelayWord s) after e' (at_delay_word inside is))
-      (λ is e'. becomes (to_mode mode.Specs s) after e' (at_specs (delay_ends IsNumber head cell instance inside is)))
-  moves s after token (at_delay_word inside b) e = a_delay _ _ (keyword_in token.text.kind token.text.bytes) inside b refl e
+      by_class s after token.text.kind token.text.bytes e (λ is e'. becomes (to_mode mode.DelayWord s) after e' (at_delay_word inside is)) (λ is e'. becomes (to_mode mode.Specs s) after e' (at_specs (delay_ends IsNumber head cell instance inside is))) (λ is e'. never e') (λ is e'. never e')
+  moves s after token (at_delay_word inside b) e =
+      by_class s after token.text.kind token.text.bytes e (λ is e'. never e') (λ is e'. never e') (λ is e'. never e') (λ is e'. a_delay _ (keyword_of token.text.bytes) inside b (ap (λ (k : Kind). keyword_in k token.text.bytes) is) is e')
   moves s after token (at_entries {head = head} {cell = cell} {instance = instance} inside) e =
-      forms mode.EntryWord mode.Delays token.text.kind s after token.text.bytes e
-      (λ is e'. becomes (to_mode mode.EntryWord s) after e' (at_entry_word inside is))
-      (λ is e'. becomes (to_mode mode.Delays s) after e' (at_delays (absolute_ends IsNumber head cell instance inside is)))
-  moves s after token (at_entry_word inside b) e = an_entry _ _ (keyword_in token.text.kind token.text.bytes) inside b refl e
-  moves s after token (at_from {shape = shape} inside b k) e = a_from _ _ _ shape token.text.kind refl inside b k e
-  moves s after token (at_to {shape = shape} inside b k n) e = a_to _ _ shape token.text.kind refl inside b k n e
+      by_class s after token.text.kind token.text.bytes e (λ is e'. becomes (to_mode mode.EntryWord s) after e' (at_entry_word inside is)) (λ is e'. becomes (to_mode mode.Delays s) after e' (at_delays (absolute_ends IsNumber head cell instance inside is))) (λ is e'. never e') (λ is e'. never e')
+  moves s after token (at_entry_word inside b) e =
+      by_class s after token.text.kind token.text.bytes e (λ is e'. never e') (λ is e'. never e') (λ is e'. never e') (λ is e'. an_entry _ (keyword_of token.text.bytes) inside b (ap (λ (k : Kind). keyword_in k token.text.bytes) is) is e')
+  moves s after token (at_from {shape = shape} inside b k) e = a_from _ _ shape token.text.kind refl inside b k e
+  moves s after token (at_to {shape = shape} inside b k n) e = a_to _ shape token.text.kind refl inside b k n e
   moves s after token (at_first_value {shape = shape} inside begins) e =
-      let step = opened (mode.Number shape) token.text.kind s after token.text.bytes e in
-      becomes (to_mode (mode.Number shape) s) after step.1 (at_number inside begins step.0 refl)
-  moves s after token (at_number {shape = shape} inside begins b same) e = a_number _ shape token.text.kind refl inside begins b same e
-  moves s after token (at_number_end {shape = shape} inside begins b w keeps number same) e = a_number_end _ shape token.text.kind refl inside begins b w keeps number same e
-  moves s after token (at_values {shape = shape} inside begins same) e = behind_values _ shape token.text.kind refl inside begins same e
+      by_class s after token.text.kind token.text.bytes e (λ is e'. becomes (to_mode (mode.Number shape) s) after e' (at_number inside begins is refl)) (λ is e'. never e') (λ is e'. never e') (λ is e'. never e')
+  moves s after token (at_number {shape = shape} inside begins b same) e = a_number shape token.text.kind refl inside begins b same e
+  moves s after token (at_number_end {shape = shape} inside begins b w keeps number same) e = a_number_end shape token.text.kind refl inside begins b w keeps number same e
+  moves s after token (at_values {shape = shape} inside begins same) e = behind_values shape token.text.kind refl inside begins same e
   moves s after token (in_over {at = at} nest ends) e = over_moves at _ _ _ _ _ token.text.kind refl nest ends e
-  moves s after token (at_end is) e = refused token.text.kind s after token.text.bytes e
+  moves s after token (at_end is) e = never e
 
   -- the end of the file
   ends : {s : State} {from : List Tok} {rows : List SdfRow} → Meant IsNumber s from [] → finish s ≡ Ok rows → IsSdfBy IsNumber from rows

@@ -8,13 +8,12 @@ use Rattle.token_fronts.specs.FrontLaw.{one_dead_token, dead_token}
 use Rattle.sdf_reader.specs.Tokens.{Lexeme, AreTokens, IsToken, is_broken}
 use Rattle.sdf_reader.specs.Grammar.{IsSdf}
 use Rattle.sdf_reader.specs.Causes.{token_at, IsNumberPlace, IsCause, bad_byte, open_text, open_comment, end_inside, bad_number, unexpected, IsFault}
-use Rattle.sdf_reader.specs.Steps.{does}
+use Rattle.sdf_reader.specs.Steps.{class_of, cause_of, next_of}
 use Rattle.sdf_reader.specs.Modes.{State, first_state, next, finish}
 use Rattle.sdf_reader.specs.declared.scan.Kind.{Kind}
 use Rattle.sdf_reader.specs.declared.scan.Kind.TheVariants as kind
-use Rattle.sdf_reader.specs.declared.modes.Mode.{Mode}
-use Rattle.sdf_reader.specs.declared.modes.Mode.TheVariants as mode
-use Rattle.sdf_reader.specs.declared.modes.Step.TheVariants.{Refuse}
+use Rattle.sdf_reader.specs.Classes.{Class}
+use Rattle.sdf_reader.specs.Classes as class
 use Rattle.sdf_reader.specs.declared.rows.Value.{Value}
 use Rattle.sdf_reader.specs.declared.rows.SdfRow.{SdfRow}
 use Rattle.sdf_reader.specs.declared.timescales.Timescale.{Timescale}
@@ -23,51 +22,10 @@ use Rattle.sdf_reader.specs.declared.ends.SdfCause.TheVariants as cause
 use Rattle.sdf_reader.proofs.Living.{lives}
 use Rattle.sdf_reader.proofs.Parting.{one_parting}
 use Rattle.sdf_reader.proofs.Deciding.{deciding}
-use Rattle.sdf_reader.proofs.Refusing.{cause_of, refused_for, end_cause}
+use Rattle.sdf_reader.proofs.Refusing.{broken_nowhere, end_cause}
 use Rattle.sdf_reader.proofs.Loosening.{Stays, in_number, nowhere, stays}
 use Rattle.sdf_reader.proofs.Causing.{here, number_place, no_number_place}
 use Rattle.sdf_reader.proofs.SoFar.{fitting, made, says_rows}
-
--- what does not begin a token, and what does not end, is refused for its own cause wherever it stands
-record AreRefused (m : Mode) (bytes : List ℕ) : Type 0 where
-  bad : does m kind.Bad bytes ≡ Refuse cause.BadByte
-  quoted : does m kind.OpenQuoted bytes ≡ Refuse cause.OpenText
-  note : does m kind.OpenNote bytes ≡ Refuse cause.OpenComment
-
-are_refused : (m : Mode) (bytes : List ℕ) → AreRefused m bytes
-are_refused mode.Start bytes = record { bad = refl; quoted = refl; note = refl }
-are_refused mode.FileWord bytes = record { bad = refl; quoted = refl; note = refl }
-are_refused mode.Heads bytes = record { bad = refl; quoted = refl; note = refl }
-are_refused mode.HeadWord bytes = record { bad = refl; quoted = refl; note = refl }
-are_refused mode.DesignText bytes = record { bad = refl; quoted = refl; note = refl }
-are_refused mode.DividerWord bytes = record { bad = refl; quoted = refl; note = refl }
-are_refused mode.ScaleWord bytes = record { bad = refl; quoted = refl; note = refl }
-are_refused (mode.ScaleMore at) bytes = record { bad = refl; quoted = refl; note = refl }
-are_refused mode.HeadEnd bytes = record { bad = refl; quoted = refl; note = refl }
-are_refused mode.TypeOpen bytes = record { bad = refl; quoted = refl; note = refl }
-are_refused mode.TypeWord bytes = record { bad = refl; quoted = refl; note = refl }
-are_refused mode.TypeText bytes = record { bad = refl; quoted = refl; note = refl }
-are_refused mode.TypeEnd bytes = record { bad = refl; quoted = refl; note = refl }
-are_refused mode.InstanceOpen bytes = record { bad = refl; quoted = refl; note = refl }
-are_refused mode.InstanceWord bytes = record { bad = refl; quoted = refl; note = refl }
-are_refused mode.InstanceName bytes = record { bad = refl; quoted = refl; note = refl }
-are_refused mode.InstanceEnd bytes = record { bad = refl; quoted = refl; note = refl }
-are_refused mode.Specs bytes = record { bad = refl; quoted = refl; note = refl }
-are_refused mode.SpecWord bytes = record { bad = refl; quoted = refl; note = refl }
-are_refused mode.Delays bytes = record { bad = refl; quoted = refl; note = refl }
-are_refused mode.DelayWord bytes = record { bad = refl; quoted = refl; note = refl }
-are_refused mode.Entries bytes = record { bad = refl; quoted = refl; note = refl }
-are_refused mode.EntryWord bytes = record { bad = refl; quoted = refl; note = refl }
-are_refused (mode.From at) bytes = record { bad = refl; quoted = refl; note = refl }
-are_refused (mode.To at) bytes = record { bad = refl; quoted = refl; note = refl }
-are_refused (mode.FirstValue at) bytes = record { bad = refl; quoted = refl; note = refl }
-are_refused (mode.Number at) bytes = record { bad = refl; quoted = refl; note = refl }
-are_refused (mode.NumberEnd at) bytes = record { bad = refl; quoted = refl; note = refl }
-are_refused (mode.Values at) bytes = record { bad = refl; quoted = refl; note = refl }
-are_refused (mode.Over at) bytes = record { bad = refl; quoted = refl; note = refl }
-are_refused mode.Cells bytes = record { bad = refl; quoted = refl; note = refl }
-are_refused mode.CellWord bytes = record { bad = refl; quoted = refl; note = refl }
-are_refused mode.End bytes = record { bad = refl; quoted = refl; note = refl }
 
 -- a token that is not broken, and is refused where no number may stand
 plain_cause : (k : Kind) → is_broken k ≡ false → cause.Unexpected ≡ cause_of k
@@ -80,25 +38,29 @@ module _ (number : Timescale → List ℕ → Option Value) (texts : List Lexeme
   same_token : (token other : Lexeme) → slice_get texts at.taken ≡ Some token → token_at texts stop.number ≡ Some other → other ≡ token
   same_token token other e there = let known : token_at texts stop.number ≡ Some token = here number texts stop at (Some token) e in cc
 
-  broken : (token : Lexeme) (c given : SdfCause) (k : Kind) → token.kind ≡ k → does stop.state.mode k token.bytes ≡ Refuse c → Stays number stop.state token given → c ≡ given
-  broken token c given k is refusal (in_number waits) = absurd (let other : does stop.state.mode token.kind token.bytes ≡ Refuse c = ap (λ (x : Kind). does stop.state.mode x token.bytes) is ∙ refusal in cc)
-  broken token c given k is refusal (nowhere refuses) = let other : does stop.state.mode token.kind token.bytes ≡ Refuse c = ap (λ (x : Kind). does stop.state.mode x token.bytes) is ∙ refusal in cc
+  -- a broken token is refused for its own cause wherever it stands
+  broken : (token : Lexeme) (c given : SdfCause) (k : Kind) → token.kind ≡ k → class_of k token.bytes ≡ class.Broken → cause_of k ≡ c → Stays number stop.state token given → c ≡ given
+  broken token c given k is breaks because (in_number waits) =
+      let nothing : next_of stop.state.mode (class_of token.kind token.bytes) token.bytes ≡ None =
+      ap (λ (x : Kind). next_of stop.state.mode (class_of x token.bytes) token.bytes) is ∙ ap (λ (x : Class). next_of stop.state.mode x token.bytes) breaks ∙ broken_nowhere stop.state.mode token.bytes in
+      absurd (cc)
+  broken token c given k is breaks because (nowhere refuses) = sym because ∙ ap cause_of (sym is)
 
   in_a_number : (token : Lexeme) (given : SdfCause) → slice_get texts at.taken ≡ Some token → IsNumberPlace texts stop.number → Stays number stop.state token given → cause.BadNumber ≡ given
   in_a_number token given e place (in_number waits) = refl
-  in_a_number token given e place (nowhere refuses) = absurd (no_number_place number texts stop at token given e refuses place)
+  in_a_number token given e place (nowhere refuses) = absurd (no_number_place number texts stop at token e refuses place)
 
   not_expected : (token : Lexeme) (given : SdfCause) → slice_get texts at.taken ≡ Some token → is_broken token.kind ≡ false → (IsNumberPlace texts stop.number → ⊥) → Stays number stop.state token given → cause.Unexpected ≡ given
   not_expected token given e whole none (in_number waits) = absurd (none (number_place number texts stop at token _ e waits))
-  not_expected token given e whole none (nowhere refuses) = plain_cause token.kind whole ∙ refused_for given stop.state.mode token.kind token.bytes refuses
+  not_expected token given e whole none (nowhere refuses) = plain_cause token.kind whole
 
   at_a_token : (token : Lexeme) (given c : SdfCause) → slice_get texts at.taken ≡ Some token → Stays number stop.state token given → IsCause texts stop.number c → c ≡ given
   at_a_token token given c e s (bad_byte {token = other} there is) =
-      broken token cause.BadByte given kind.Bad (ap (λ (t : Lexeme). t.kind) (sym (same_token token other e there)) ∙ is) (are_refused stop.state.mode token.bytes).bad s
+      broken token cause.BadByte given kind.Bad (ap (λ (t : Lexeme). t.kind) (sym (same_token token other e there)) ∙ is) refl refl s
   at_a_token token given c e s (open_text {token = other} there is) =
-      broken token cause.OpenText given kind.OpenQuoted (ap (λ (t : Lexeme). t.kind) (sym (same_token token other e there)) ∙ is) (are_refused stop.state.mode token.bytes).quoted s
+      broken token cause.OpenText given kind.OpenQuoted (ap (λ (t : Lexeme). t.kind) (sym (same_token token other e there)) ∙ is) refl refl s
   at_a_token token given c e s (open_comment {token = other} there is) =
-      broken token cause.OpenComment given kind.OpenNote (ap (λ (t : Lexeme). t.kind) (sym (same_token token other e there)) ∙ is) (are_refused stop.state.mode token.bytes).note s
+      broken token cause.OpenComment given kind.OpenNote (ap (λ (t : Lexeme). t.kind) (sym (same_token token other e there)) ∙ is) refl refl s
   at_a_token token given c e s (end_inside there) = absurd (let known : token_at texts stop.number ≡ Some token = here number texts stop at (Some token) e in cc)
   at_a_token token given c e s (bad_number there place) = in_a_number token given e place s
   at_a_token token given c e s (unexpected {token = other} there whole none) =
@@ -113,7 +75,7 @@ module _ (number : Timescale → List ℕ → Option Value) (texts : List Lexeme
   at_the_end given c e is (unexpected there whole none) = absurd (let known : token_at texts stop.number ≡ None = here number texts stop at None e in cc)
 
   by_why : (o : Option Lexeme) (c : SdfCause) → slice_get texts at.taken ≡ o → Refuses (next number) finish stop o → IsCause texts stop.number c → c ≡ stop.cause
-  by_why (Some token) c e (at_token refusal) is = at_a_token token stop.cause c e (stays number stop.state token stop.cause (does stop.state.mode token.kind token.bytes) refl refusal) is
+  by_why (Some token) c e (at_token refusal) is = at_a_token token stop.cause c e (stays number stop.state token stop.cause (next_of stop.state.mode (class_of token.kind token.bytes) token.bytes) refl refusal) is
   by_why None c e (at_end refusal) is = at_the_end stop.cause c e (end_cause stop.state.mode stop.state.rows stop.cause refusal) is
 
 one_cause : (texts : List Lexeme) (stop : Stop State SdfCause) (c : SdfCause) → made texts ≡ Err stop → IsCause texts stop.number c → c ≡ stop.cause

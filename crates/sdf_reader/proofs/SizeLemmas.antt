@@ -1,16 +1,15 @@
 -- The values of an entry are within the bound, and a token adds at most one row.
-use Rattle.std.proofs.Common.{◌≡◌, ℕ, zero, suc, ◌+◌, ◌≤◌, List, ◌++◌, length, length-append, Option, Some, None, Result, Ok, Err, IfOk, refl, arith, subst}
+use Rattle.std.proofs.Common.{◌≡◌, ℕ, ◌+◌, ◌≤◌, List, ◌++◌, length, length-append, Option, Some, None, Result, Ok, Err, IfOk, refl, arith, subst}
 use Rattle.delay_units.specs.declared.quantities.Femto.{Femto}
 use Rattle.sdf_reader.specs.Numbers.{IsMember, member, IsValue, single, triple}
 use Rattle.sdf_reader.specs.Timescales.{power_of}
 use Rattle.sdf_reader.specs.Rows.{no_value, row_in, rows_in}
-use Rattle.sdf_reader.specs.Modes.{State, Entry, with_value, kept, numbered_by, rows_behind, shallower, applied, Decides}
+use Rattle.sdf_reader.specs.Modes.{State, Entry, with_value, kept, numbered_by, rows_behind, applied, Decides}
 use Rattle.token_texts.specs.Readings.{OnTaken}
 use Rattle.sdf_reader.specs.ReaderStates.{Steps}
 use Rattle.sdf_reader.specs.Sizes.{IsTimeWithin, IsValueWithin, IsRowWithin}
-use Rattle.sdf_reader.specs.declared.modes.Site.{Site}
-use Rattle.sdf_reader.specs.declared.modes.Step.{Step}
-use Rattle.sdf_reader.specs.declared.modes.Step.TheVariants.{Refuse, Go, Divide, Rescale, SetType, Instance, NoInstance, Begin, From, To, Empty, Number, Row, Pass, Deeper, Shallower}
+use Rattle.sdf_reader.specs.declared.modes.Action.{Action}
+use Rattle.sdf_reader.specs.declared.modes.Action.TheVariants.{Nothing, Divide, Rescale, SetType, Instance, NoInstance, Begin, From, To, Empty, Number, Row}
 use Rattle.sdf_reader.specs.declared.modes.Shape.{Shape}
 use Rattle.sdf_reader.specs.declared.modes.Shape.TheVariants as shape
 use Rattle.sdf_reader.specs.declared.reader.Taken.TheVariants as taken
@@ -70,54 +69,43 @@ rows_grow shape s =
     let one : length more ≤ 1 = one_row shape s.cell s.instance s.entry.from s.entry.to s.entry.rise s.entry.fall in
     omega (arith, size, one)
 
-shallower_fits : (most depth : ℕ) (site : Site) (s : State) → Fits most s → Fits most (shallower depth site s)
-shallower_fits most zero site s fits = record { rise = fits.rise; fall = fits.fall; rows = fits.rows }
-shallower_fits most (suc depth) site s fits = record { rise = fits.rise; fall = fits.fall; rows = fits.rows }
-
 abbrev led : State → Result State SdfCause
 led s = Ok s
 
 leads : (most : ℕ) (s after : State) → Fits most s → led s ≡ led after → Fits most after
 leads most s after fits e = let same : s ≡ after = cc in subst (Fits most) same fits
 
-applied_fits : (number : Timescale → List ℕ → Option Value) → Decides IsValue number → (step : Step) (s after : State) (bytes : List ℕ) → IsValueWithin s.entry.rise → IsValueWithin s.entry.fall → applied number step s bytes ≡ Ok after → Fits (length s.rows + 1) after
-applied_fits number decides step s after bytes rise fall e = by step e
+applied_fits : (number : Timescale → List ℕ → Option Value) → Decides IsValue number → (action : Action) (s after : State) (bytes : List ℕ) → IsValueWithin s.entry.rise → IsValueWithin s.entry.fall → applied number action s bytes ≡ Ok after → Fits (length s.rows + 1) after
+applied_fits number decides action s after bytes rise fall e = by action e
   where
-    now : Fits (length s.rows + 1) s
-    now = record { rise = rise; fall = fall; rows = omega arith }
-
     entry_with : (value : Value) → IsValueWithin value → EntryFits (with_value value s.entry)
     entry_with value within = kept_fits value s.entry within (record { rise = rise; fall = fall })
 
-    by_number : (shape : Shape) (found : Option Value) → number s.scale bytes ≡ found → numbered_by shape found s ≡ Ok after → Fits (length s.rows + 1) after
-    by_number shape None f e = absurd (cc)
-    by_number shape (Some value) f e =
+    by_number : (found : Option Value) → number s.scale bytes ≡ found → numbered_by found s ≡ Ok after → Fits (length s.rows + 1) after
+    by_number None f e = absurd (cc)
+    by_number (Some value) f e =
         let fits = entry_with value (value_within s.scale bytes value (decides.means s.scale bytes value f)) in
         leads (length s.rows + 1) _ after (record { rise = fits.rise; fall = fits.fall; rows = omega arith }) e
 
-    by : (step : Step) → applied number step s bytes ≡ Ok after → Fits (length s.rows + 1) after
-    by (Refuse cause) e = absurd (cc)
-    by (Go mode) e = leads (length s.rows + 1) _ after (record { rise = rise; fall = fall; rows = omega arith }) e
+    by : (action : Action) → applied number action s bytes ≡ Ok after → Fits (length s.rows + 1) after
+    by Nothing e = leads (length s.rows + 1) _ after (record { rise = rise; fall = fall; rows = omega arith }) e
     by (Divide byte) e = leads (length s.rows + 1) _ after (record { rise = rise; fall = fall; rows = omega arith }) e
-    by (Rescale scale mode) e = leads (length s.rows + 1) _ after (record { rise = rise; fall = fall; rows = omega arith }) e
+    by (Rescale scale) e = leads (length s.rows + 1) _ after (record { rise = rise; fall = fall; rows = omega arith }) e
     by SetType e = leads (length s.rows + 1) _ after (record { rise = rise; fall = fall; rows = omega arith }) e
     by Instance e = leads (length s.rows + 1) _ after (record { rise = rise; fall = fall; rows = omega arith }) e
     by NoInstance e = leads (length s.rows + 1) _ after (record { rise = rise; fall = fall; rows = omega arith }) e
-    by (Begin shape) e = leads (length s.rows + 1) _ after (record { rise = none_within; fall = none_within; rows = omega arith }) e
-    by (From shape) e = leads (length s.rows + 1) _ after (record { rise = rise; fall = fall; rows = omega arith }) e
-    by (To shape) e = leads (length s.rows + 1) _ after (record { rise = rise; fall = fall; rows = omega arith }) e
-    by (Empty shape) e =
+    by Begin e = leads (length s.rows + 1) _ after (record { rise = none_within; fall = none_within; rows = omega arith }) e
+    by From e = leads (length s.rows + 1) _ after (record { rise = rise; fall = fall; rows = omega arith }) e
+    by To e = leads (length s.rows + 1) _ after (record { rise = rise; fall = fall; rows = omega arith }) e
+    by Empty e =
         let fits = entry_with no_value none_within in
         leads (length s.rows + 1) _ after (record { rise = fits.rise; fall = fits.fall; rows = omega arith }) e
-    by (Number shape) e = by_number shape (number s.scale bytes) refl e
+    by Number e = by_number (number s.scale bytes) refl e
     by (Row shape) e = leads (length s.rows + 1) _ after (record { rise = rise; fall = fall; rows = rows_grow shape s }) e
-    by (Pass site depth) e = leads (length s.rows + 1) _ after (record { rise = rise; fall = fall; rows = omega arith }) e
-    by Deeper e = leads (length s.rows + 1) _ after (record { rise = rise; fall = fall; rows = omega arith }) e
-    by (Shallower site) e = leads (length s.rows + 1) _ after (shallower_fits (length s.rows + 1) s.depth site s now) e
 
 -- what is known behind a token that was taken
-pub taken_fits : {E : Type 0} (number : Timescale → List ℕ → Option Value) → Decides IsValue number → (step : Step) (s after : State) (bytes : List ℕ) (result : Result (Option SdfCause) E) → IsValueWithin s.entry.rise → IsValueWithin s.entry.fall
-    → IfOk result (Steps (applied number step s bytes) after) → OnTaken result (IsValueWithin after.entry.rise) × OnTaken result (IsValueWithin after.entry.fall) × OnTaken result (length after.rows ≤ length s.rows + 1)
-taken_fits number decides step s after bytes (Ok None) rise fall steps = let fits = applied_fits number decides step s after bytes rise fall steps in (fits.rise, fits.fall, fits.rows)
-taken_fits number decides step s after bytes (Ok (Some cause)) rise fall steps = (tt, tt, tt)
-taken_fits number decides step s after bytes (Err end) rise fall steps = (tt, tt, tt)
+pub taken_fits : {E : Type 0} (number : Timescale → List ℕ → Option Value) → Decides IsValue number → (action : Action) (s after : State) (bytes : List ℕ) (result : Result (Option SdfCause) E) → IsValueWithin s.entry.rise → IsValueWithin s.entry.fall
+    → IfOk result (Steps (applied number action s bytes) after) → OnTaken result (IsValueWithin after.entry.rise) × OnTaken result (IsValueWithin after.entry.fall) × OnTaken result (length after.rows ≤ length s.rows + 1)
+taken_fits number decides action s after bytes (Ok None) rise fall steps = let fits = applied_fits number decides action s after bytes rise fall steps in (fits.rise, fits.fall, fits.rows)
+taken_fits number decides action s after bytes (Ok (Some cause)) rise fall steps = (tt, tt, tt)
+taken_fits number decides action s after bytes (Err end) rise fall steps = (tt, tt, tt)

@@ -14,8 +14,7 @@ use Rattle.token_texts.specs.Leading.{leads_on, leads_to_stop}
 use Rattle.sdf_reader.specs.Tokens.{Lexeme, cut_at, AreTokens, IsToken}
 use Rattle.sdf_reader.specs.Grammar.{IsSdf}
 use Rattle.sdf_reader.specs.Numbers.{IsValue}
-use Rattle.sdf_reader.specs.Steps.{does}
-use Rattle.sdf_reader.specs.Modes.{State, first_state, applied, next, finish, Decides}
+use Rattle.sdf_reader.specs.Modes.{State, first_state, step, next, finish, Decides}
 use Rattle.sdf_reader.specs.Causes.{IsFault}
 use Rattle.sdf_reader.specs.ReaderStates.{state_of, Steps}
 use Rattle.sdf_reader.specs.Leading.{Leads, Stops, Makes}
@@ -76,7 +75,7 @@ passed before bytes reader leads = λ find decides.
 
 -- a token of these bytes is taken, or refused, behind the parts before it
 follows : (before : List (Part Kind)) (number start : ℕ) (k : Kind) (bytes : List ℕ) (reader after : Reader) (refusal : Option SdfCause)
-    → ((find : Timescale → List ℕ → Option Value) → Decides IsValue find → Steps (applied find (does reader.mode k bytes) (state_of reader) bytes) (state_of after) refusal)
+    → ((find : Timescale → List ℕ → Option Value) → Decides IsValue find → Steps (step find (state_of reader) k bytes) (state_of after) refusal)
     → IsNext before number start → Leads before reader → Follows Leads Stops before number k bytes after refusal
 follows before number start k bytes reader after None steps is_next leads = λ find decides.
     let here : Lexeme = record { kind = k; bytes = bytes } in
@@ -88,7 +87,7 @@ follows before number start k bytes reader after (Some cause) steps is_next lead
     (leads_to_stop (next find) finish first_state (lexemes before) (lexemes more) number (state_of reader) here cause is_next.count (leads find decides) (steps find decides))
 
 pub taken : (before : List (Part Kind)) (number start : ℕ) (k : Kind) (bytes : List ℕ) (reader after : Reader) (answer : Result (Option SdfCause) OutOfMemory)
-    → ((find : Timescale → List ℕ → Option Value) → Decides IsValue find → IfOk answer (Steps (applied find (does reader.mode k bytes) (state_of reader) bytes) (state_of after)))
+    → ((find : Timescale → List ℕ → Option Value) → Decides IsValue find → IfOk answer (Steps (step find (state_of reader) k bytes) (state_of after)))
     → IsNext before number start → Leads before reader → IfOk answer (Follows Leads Stops before number k bytes after)
 taken before number start k bytes reader after (Ok refusal) steps is_next leads = follows before number start k bytes reader after refusal steps is_next leads
 taken before number start k bytes reader after (Err end) steps is_next leads = tt

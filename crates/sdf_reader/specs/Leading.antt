@@ -7,6 +7,7 @@ use Rattle.sdf_reader.specs.Numbers.{IsValue}
 use Rattle.sdf_reader.specs.Sizes.{IsValueWithin}
 use Rattle.sdf_reader.specs.Modes.{first_state, next, finish, Decides}
 use Rattle.sdf_reader.specs.ReaderStates.{state_of}
+use Rattle.sdf_reader.specs.Steps.{depth_of}
 use Rattle.sdf_reader.specs.declared.reader.Reader.{Reader}
 use Rattle.sdf_reader.specs.declared.rows.Value.{Value}
 use Rattle.sdf_reader.specs.declared.rows.SdfRow.{SdfRow}
@@ -33,7 +34,7 @@ Makes parts rows =
 
 -- each token adds at most one row, and opens at most 256 forms
 pub record IsSound (number : ℕ) (reader : Reader) : Type 0 where
-  pub deep : reader.depth ≤ number * 256
+  pub deep : depth_of reader.mode ≤ number * 256
   pub rise : IsValueWithin reader.rise
   pub fall : IsValueWithin reader.fall
   pub few : length reader.rows < number

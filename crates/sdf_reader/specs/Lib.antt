@@ -15,3 +15,4 @@ pub mod Modes
 pub mod ReaderStates
 pub mod Leading
 pub mod Within
+pub mod Classes

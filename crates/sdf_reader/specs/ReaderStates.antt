@@ -9,7 +9,6 @@ use Rattle.sdf_reader.specs.declared.reader.Reader.{Reader}
 abbrev pub state_of : Reader → State
 state_of r = record {
   mode = r.mode;
-  depth = r.depth;
   divider = r.divider;
   scale = r.scale;
   cell = r.cell;

@@ -1,15 +1,14 @@
-//! What the reader waits for, and what each token does.
-ghost use Rattle.std.specs.Prelude.{◌≡◌};
-ghost use Rattle.sdf_reader.specs.Grammar.{keyword_in, is_retain};
-ghost use Rattle.sdf_reader.specs.Steps.{refuses, open_does, close_does, forms_does, file_does, cell_does, type_word_does, instance_word_does, over_does, head_does, design_does, divide_by, divider_does, scale_does, scale_at, scale_end_does, type_does, instance_does, spec_does, delay_does, entry_does, stray_name, name_does, number_does, number_end_does, values_does, inside_does, site_mode, does};
+//! What the reader waits for, and what becomes of it with each token.
+ghost use Rattle.std.specs.Prelude.{◌≡◌, ◌+◌, ◌<◌, ◌^◌};
+ghost use Rattle.sdf_reader.specs.Grammar.{is_retain};
+ghost use Rattle.sdf_reader.specs.Steps.{class_of, go, pass, divide_by, scale_from, scale_at, stray_name, site_mode, closes, depth_of, next_of};
 
-use crate::ends::SdfCause;
 use crate::scan::Kind;
 use crate::timescales::{ScalePlace, Timescale};
 use crate::words::{Keyword, keyword_of};
 
 /// What an entry is.
-#[derive(Clone, Copy, PartialEq, Eq, Debug)]
+#[derive(Clone, Copy)]
 pub enum Shape {
     /// An IOPATH.
     Path,
@@ -19,7 +18,7 @@ pub enum Shape {
 }
 
 /// Where a form stands that is passed over.
-#[derive(Clone, Copy, PartialEq, Eq, Debug)]
+#[derive(Clone, Copy)]
 pub enum Site {
     /// Among the heads of the file.
     Heads,
@@ -35,7 +34,7 @@ pub enum Site {
 }
 
 /// What is waited for.
-#[derive(Clone, Copy, PartialEq, Eq, Debug)]
+#[derive(Clone, Copy)]
 pub enum Mode {
     /// The `(` of the file, and its keyword.
     Start,
@@ -82,8 +81,8 @@ pub enum Mode {
     NumberEnd(Shape),
     Values(Shape),
 
-    /// What is in a form that is passed over, and its `)`.
-    Over(Site),
+    /// What is in a form that is passed over, in which so many others are open, and its `)`.
+    Over(Site, usize),
 
     /// A cell or the end behind a cell, and the keyword of one.
     Cells,
@@ -93,297 +92,90 @@ pub enum Mode {
     End,
 }
 
-/// What a token does.
-#[derive(Clone, Copy, PartialEq, Eq, Debug)]
-pub enum Step {
-    /// It cannot stand here.
-    Refuse(SdfCause),
+/// What is done with a token, beside that something else is waited for.
+#[derive(Clone, Copy)]
+pub enum Action {
+    Nothing,
 
-    /// Something else is waited for.
-    Go(Mode),
-
-    /// It is the divider.
+    /// It is the divider, or ends the words of a timescale.
     Divide(u8),
+    Rescale(Timescale),
 
-    /// It ends the words of a timescale.
-    Rescale(Timescale, Mode),
-
-    /// It is the type of a cell.
+    /// It is the type of a cell, or its instance, or shows that the instance is left out.
     SetType,
-
-    /// It is the instance of a cell, or shows that the instance is left out.
     Instance,
     NoInstance,
 
     /// It is the keyword of an entry, or one of its names.
-    Begin(Shape),
-    From(Shape),
-    To(Shape),
+    Begin,
+    From,
+    To,
 
     /// It ends a value without a number, or is the number of a value.
-    Empty(Shape),
-    Number(Shape),
+    Empty,
+    Number,
 
     /// It ends an entry, which is a row.
     Row(Shape),
-
-    /// It shows that a form is passed over, in which so many others are open; in one, it opens one more or ends one.
-    Pass(Site, u8),
-    Deeper,
-    Shallower(Site),
 }
 
-/// Why a token of this kind is refused.
-fn refuse(kind: Kind) -> Step
-    ensures { result ≡ refuses kind }
+/// Something else is waited for, and no more is done.
+fn go(mode: Mode) -> Option<(Mode, Action)>
+    ensures { result ≡ go mode }
 {
-    match kind {
-        Kind::Bad => Step::Refuse(SdfCause::BadByte),
-        Kind::OpenQuoted => Step::Refuse(SdfCause::OpenText),
-        Kind::OpenNote => Step::Refuse(SdfCause::OpenComment),
-        _ => Step::Refuse(SdfCause::Unexpected),
-    }
+    Some((mode, Action::Nothing))
 }
 
-/// The keyword that a token is, if any.
-fn keyword_in(kind: Kind, bytes: &[u8]) -> Option<Keyword>
-    ensures { result ≡ keyword_in kind bytes.now }
+/// A form is passed over, in which so many others are open.
+fn pass(site: Site, depth: usize) -> Option<(Mode, Action)>
+    ensures { result ≡ pass site depth }
 {
-    match kind {
-        Kind::Word => keyword_of(bytes),
-        _ => None,
-    }
-}
-
-/// A mark that has to stand here.
-fn open_step(kind: Kind, behind: Mode) -> Step
-    ensures { result ≡ open_does behind kind }
-{
-    match kind {
-        Kind::LeftParen => Step::Go(behind),
-        _ => refuse(kind),
-    }
-}
-
-fn close_step(kind: Kind, behind: Mode) -> Step
-    ensures { result ≡ close_does behind kind }
-{
-    match kind {
-        Kind::RightParen => Step::Go(behind),
-        _ => refuse(kind),
-    }
-}
-
-/// Another form, or the `)` that ends the forms.
-fn forms_step(kind: Kind, form: Mode, behind: Mode) -> Step
-    ensures { result ≡ forms_does form behind kind }
-{
-    match kind {
-        Kind::LeftParen => Step::Go(form),
-        Kind::RightParen => Step::Go(behind),
-        _ => refuse(kind),
-    }
-}
-
-/// A keyword that has to stand here: DELAYFILE, CELL, CELLTYPE and INSTANCE.
-fn file_step(kind: Kind, bytes: &[u8]) -> Step
-    ensures { result ≡ file_does (keyword_in kind bytes.now) kind }
-{
-    match keyword_in(kind, bytes) {
-        Some(Keyword::DelayFile) => Step::Go(Mode::Heads),
-        _ => refuse(kind),
-    }
-}
-
-fn cell_step(kind: Kind, bytes: &[u8]) -> Step
-    ensures { result ≡ cell_does (keyword_in kind bytes.now) kind }
-{
-    match keyword_in(kind, bytes) {
-        Some(Keyword::Cell) => Step::Go(Mode::TypeOpen),
-        _ => refuse(kind),
-    }
-}
-
-fn type_word_step(kind: Kind, bytes: &[u8]) -> Step
-    ensures { result ≡ type_word_does (keyword_in kind bytes.now) kind }
-{
-    match keyword_in(kind, bytes) {
-        Some(Keyword::CellType) => Step::Go(Mode::TypeText),
-        _ => refuse(kind),
-    }
-}
-
-fn instance_word_step(kind: Kind, bytes: &[u8]) -> Step
-    ensures { result ≡ instance_word_does (keyword_in kind bytes.now) kind }
-{
-    match keyword_in(kind, bytes) {
-        Some(Keyword::Instance) => Step::Go(Mode::InstanceName),
-        _ => refuse(kind),
-    }
-}
-
-/// The word of a form that is passed over.
-fn over_step(kind: Kind, site: Site) -> Step
-    ensures { result ≡ over_does site kind }
-{
-    match kind {
-        Kind::Word => Step::Pass(site, 0),
-        _ => refuse(kind),
-    }
-}
-
-/// Where the keyword of a head has to stand, or that of the first cell.
-fn head_step(kind: Kind, bytes: &[u8]) -> Step
-    ensures { result ≡ head_does (keyword_in kind bytes.now) kind }
-{
-    match keyword_in(kind, bytes) {
-        Some(Keyword::Design) => Step::Go(Mode::DesignText),
-        Some(Keyword::Divider) => Step::Go(Mode::DividerWord),
-        Some(Keyword::Timescale) => Step::Go(Mode::ScaleWord),
-        Some(Keyword::Cell) => Step::Go(Mode::TypeOpen),
-        _ => over_step(kind, Site::Heads),
-    }
-}
-
-fn design_step(kind: Kind) -> Step
-    ensures { result ≡ design_does kind }
-{
-    match kind {
-        Kind::Quoted => Step::Go(Mode::HeadEnd),
-        Kind::RightParen => Step::Go(Mode::Heads),
-        _ => refuse(kind),
-    }
+    go(Mode::Over(site, depth))
 }
 
 /// The bytes of a divider, which is `/` or `.`.
-fn divide_by(bytes: &[u8]) -> Step
+fn divide_by(bytes: &[u8]) -> Option<(Mode, Action)>
     ensures { result ≡ divide_by bytes.now }
 {
     match bytes {
         [byte] => {
             if *byte == b'/' || *byte == b'.' {
-                Step::Divide(*byte)
+                Some((Mode::HeadEnd, Action::Divide(*byte)))
             } else {
-                Step::Refuse(SdfCause::Unexpected)
+                None
             }
         }
-        _ => Step::Refuse(SdfCause::Unexpected),
+        _ => None,
     }
 }
 
-fn divider_step(kind: Kind, bytes: &[u8]) -> Step
-    ensures { result ≡ divider_does kind bytes.now }
+/// The place behind the first word of a timescale.
+fn scale_from(place: Option<ScalePlace>) -> Option<(Mode, Action)>
+    ensures { result ≡ scale_from place }
 {
-    match kind {
-        Kind::Word => divide_by(bytes),
-        _ => refuse(kind),
-    }
-}
-
-/// The first word of a timescale.
-fn scale_step(kind: Kind, bytes: &[u8]) -> Step
-    ensures { result ≡ scale_does kind bytes.now }
-{
-    match kind {
-        Kind::Word => match ScalePlace::Start.behind(bytes) {
-            Some(place) => Step::Go(Mode::ScaleMore(place)),
-            None => Step::Refuse(SdfCause::Unexpected),
-        },
-        _ => refuse(kind),
+    match place {
+        Some(place) => go(Mode::ScaleMore(place)),
+        None => None,
     }
 }
 
 /// The place behind the words of a timescale, which has to be their end.
-fn scale_at(behind: Mode, place: Option<ScalePlace>) -> Step
+fn scale_at(behind: Mode, place: Option<ScalePlace>) -> Option<(Mode, Action)>
     ensures { result ≡ scale_at behind place }
 {
     match place {
-        Some(ScalePlace::Done(scale)) => Step::Rescale(scale, behind),
-        _ => Step::Refuse(SdfCause::Unexpected),
-    }
-}
-
-/// Behind the first word of a timescale: its end, or the second word, which has to end it.
-fn scale_end_step(place: ScalePlace, kind: Kind, bytes: &[u8]) -> Step
-    ensures { result ≡ scale_end_does place kind bytes.now }
-{
-    match kind {
-        Kind::RightParen => scale_at(Mode::Heads, Some(place)),
-        Kind::Word => scale_at(Mode::HeadEnd, place.behind(bytes)),
-        _ => refuse(kind),
-    }
-}
-
-fn type_step(kind: Kind) -> Step
-    ensures { result ≡ type_does kind }
-{
-    match kind {
-        Kind::Quoted => Step::SetType,
-        _ => refuse(kind),
-    }
-}
-
-fn instance_step(kind: Kind) -> Step
-    ensures { result ≡ instance_does kind }
-{
-    match kind {
-        Kind::Word => Step::Instance,
-        Kind::RightParen => Step::NoInstance,
-        _ => refuse(kind),
-    }
-}
-
-/// The keyword of a form in a cell.
-fn spec_step(kind: Kind, bytes: &[u8]) -> Step
-    ensures { result ≡ spec_does (keyword_in kind bytes.now) kind }
-{
-    match keyword_in(kind, bytes) {
-        Some(Keyword::Delay) => Step::Go(Mode::Delays),
-        Some(Keyword::Absolute) => refuse(kind),
-        _ => over_step(kind, Site::Specs),
-    }
-}
-
-/// The keyword of a form in a DELAY.
-fn delay_step(kind: Kind, bytes: &[u8]) -> Step
-    ensures { result ≡ delay_does (keyword_in kind bytes.now) kind }
-{
-    match keyword_in(kind, bytes) {
-        Some(Keyword::Absolute) => Step::Go(Mode::Entries),
-        Some(Keyword::Delay) => refuse(kind),
-        _ => over_step(kind, Site::Delays),
-    }
-}
-
-/// The keyword of an entry.
-fn entry_step(kind: Kind, bytes: &[u8]) -> Step
-    ensures { result ≡ entry_does (keyword_in kind bytes.now) kind }
-{
-    match keyword_in(kind, bytes) {
-        Some(Keyword::IoPath) => Step::Begin(Shape::Path),
-        Some(Keyword::Interconnect) => Step::Begin(Shape::Wire),
-        _ => over_step(kind, Site::Entries),
+        Some(ScalePlace::Done(scale)) => Some((behind, Action::Rescale(scale))),
+        _ => None,
     }
 }
 
 /// In the place of a name a `(` shows that an IOPATH is passed over.
-fn stray_name(shape: Shape) -> Step
+fn stray_name(shape: Shape) -> Option<(Mode, Action)>
     ensures { result ≡ stray_name shape }
 {
     match shape {
-        Shape::Path => Step::Pass(Site::Entries, 1),
-        Shape::Wire => Step::Refuse(SdfCause::Unexpected),
-    }
-}
-
-/// A name of an entry.
-fn name_step(kind: Kind, shape: Shape, name: Step) -> Step
-    ensures { result ≡ name_does shape name kind }
-{
-    match kind {
-        Kind::Word => name,
-        Kind::LeftParen => stray_name(shape),
-        _ => refuse(kind),
+        Shape::Path => pass(Site::Entries, 1),
+        Shape::Wire => None,
     }
 }
 
@@ -394,58 +186,6 @@ fn is_retain(shape: Shape, keyword: Option<Keyword>) -> bool
     match shape {
         Shape::Path => matches!(keyword, Some(Keyword::Retain)),
         Shape::Wire => false,
-    }
-}
-
-/// What is in a value.
-fn number_step(kind: Kind, shape: Shape, bytes: &[u8]) -> Step
-    ensures { result ≡ number_does shape kind bytes.now }
-{
-    match kind {
-        Kind::RightParen => Step::Empty(shape),
-        Kind::LeftParen => Step::Pass(Site::Entries, 2),
-        Kind::Word => {
-            if is_retain(shape, keyword_of(bytes)) {
-                Step::Pass(Site::Entries, 1)
-            } else {
-                Step::Number(shape)
-            }
-        }
-        _ => refuse(kind),
-    }
-}
-
-/// Behind a number.
-fn number_end_step(kind: Kind, shape: Shape) -> Step
-    ensures { result ≡ number_end_does shape kind }
-{
-    match kind {
-        Kind::RightParen => Step::Go(Mode::Values(shape)),
-        Kind::LeftParen => Step::Pass(Site::Entries, 2),
-        _ => refuse(kind),
-    }
-}
-
-/// Behind a value.
-fn values_step(kind: Kind, shape: Shape) -> Step
-    ensures { result ≡ values_does shape kind }
-{
-    match kind {
-        Kind::LeftParen => Step::Go(Mode::Number(shape)),
-        Kind::RightParen => Step::Row(shape),
-        _ => refuse(kind),
-    }
-}
-
-/// In a form that is passed over.
-fn inside_step(kind: Kind, site: Site) -> Step
-    ensures { result ≡ inside_does site kind }
-{
-    match kind {
-        Kind::Word | Kind::Quoted => Step::Go(Mode::Over(site)),
-        Kind::LeftParen => Step::Deeper,
-        Kind::RightParen => Step::Shallower(site),
-        _ => refuse(kind),
     }
 }
 
@@ -463,45 +203,205 @@ impl Site {
     }
 }
 
+/// A `)` in a form that is passed over ends one of the others, or that form.
+fn closes(site: Site, depth: usize) -> Option<(Mode, Action)>
+    ensures { result ≡ closes site depth }
+{
+    if depth == 0 {
+        go(site.mode())
+    } else {
+        pass(site, depth - 1)
+    }
+}
+
 impl Mode {
-    /// What a token of this kind and of these bytes does.
-    pub fn next(self, kind: Kind, bytes: &[u8]) -> Step
-        ensures { result ≡ does self kind bytes.now }
+    /// What is waited for behind a token of this kind and of these bytes, and what is done with it: none where it cannot stand.
+    pub fn next(self, kind: Kind, bytes: &[u8]) -> Option<(Mode, Action)>
+        requires deep { depth_of self + 1 < 2 ^ 64 }
+        ensures { result ≡ next_of self (class_of kind bytes.now) bytes.now }
     {
         match self {
-            Mode::Start => open_step(kind, Mode::FileWord),
-            Mode::FileWord => file_step(kind, bytes),
-            Mode::Heads => forms_step(kind, Mode::HeadWord, Mode::End),
-            Mode::HeadWord => head_step(kind, bytes),
-            Mode::DesignText => design_step(kind),
-            Mode::DividerWord => divider_step(kind, bytes),
-            Mode::ScaleWord => scale_step(kind, bytes),
-            Mode::ScaleMore(place) => scale_end_step(place, kind, bytes),
-            Mode::HeadEnd => close_step(kind, Mode::Heads),
-            Mode::TypeOpen => open_step(kind, Mode::TypeWord),
-            Mode::TypeWord => type_word_step(kind, bytes),
-            Mode::TypeText => type_step(kind),
-            Mode::TypeEnd => close_step(kind, Mode::InstanceOpen),
-            Mode::InstanceOpen => open_step(kind, Mode::InstanceWord),
-            Mode::InstanceWord => instance_word_step(kind, bytes),
-            Mode::InstanceName => instance_step(kind),
-            Mode::InstanceEnd => close_step(kind, Mode::Specs),
-            Mode::Specs => forms_step(kind, Mode::SpecWord, Mode::Cells),
-            Mode::SpecWord => spec_step(kind, bytes),
-            Mode::Delays => forms_step(kind, Mode::DelayWord, Mode::Specs),
-            Mode::DelayWord => delay_step(kind, bytes),
-            Mode::Entries => forms_step(kind, Mode::EntryWord, Mode::Delays),
-            Mode::EntryWord => entry_step(kind, bytes),
-            Mode::From(shape) => name_step(kind, shape, Step::From(shape)),
-            Mode::To(shape) => name_step(kind, shape, Step::To(shape)),
-            Mode::FirstValue(shape) => open_step(kind, Mode::Number(shape)),
-            Mode::Number(shape) => number_step(kind, shape, bytes),
-            Mode::NumberEnd(shape) => number_end_step(kind, shape),
-            Mode::Values(shape) => values_step(kind, shape),
-            Mode::Over(site) => inside_step(kind, site),
-            Mode::Cells => forms_step(kind, Mode::CellWord, Mode::End),
-            Mode::CellWord => cell_step(kind, bytes),
-            Mode::End => refuse(kind),
+            Mode::Start => match kind {
+                Kind::LeftParen => go(Mode::FileWord),
+                _ => None,
+            },
+            Mode::FileWord => match kind {
+                Kind::Word => match keyword_of(bytes) {
+                    Some(Keyword::DelayFile) => go(Mode::Heads),
+                    _ => None,
+                },
+                _ => None,
+            },
+            Mode::Heads => match kind {
+                Kind::LeftParen => go(Mode::HeadWord),
+                Kind::RightParen => go(Mode::End),
+                _ => None,
+            },
+            Mode::HeadWord => match kind {
+                Kind::Word => match keyword_of(bytes) {
+                    Some(Keyword::Design) => go(Mode::DesignText),
+                    Some(Keyword::Divider) => go(Mode::DividerWord),
+                    Some(Keyword::Timescale) => go(Mode::ScaleWord),
+                    Some(Keyword::Cell) => go(Mode::TypeOpen),
+                    _ => pass(Site::Heads, 0),
+                },
+                _ => None,
+            },
+            Mode::DesignText => match kind {
+                Kind::Quoted => go(Mode::HeadEnd),
+                Kind::RightParen => go(Mode::Heads),
+                _ => None,
+            },
+            Mode::DividerWord => match kind {
+                Kind::Word => divide_by(bytes),
+                _ => None,
+            },
+            Mode::ScaleWord => match kind {
+                Kind::Word => scale_from(ScalePlace::Start.behind(bytes)),
+                _ => None,
+            },
+            Mode::ScaleMore(place) => match kind {
+                Kind::RightParen => scale_at(Mode::Heads, Some(place)),
+                Kind::Word => scale_at(Mode::HeadEnd, place.behind(bytes)),
+                _ => None,
+            },
+            Mode::HeadEnd => match kind {
+                Kind::RightParen => go(Mode::Heads),
+                _ => None,
+            },
+            Mode::TypeOpen => match kind {
+                Kind::LeftParen => go(Mode::TypeWord),
+                _ => None,
+            },
+            Mode::TypeWord => match kind {
+                Kind::Word => match keyword_of(bytes) {
+                    Some(Keyword::CellType) => go(Mode::TypeText),
+                    _ => None,
+                },
+                _ => None,
+            },
+            Mode::TypeText => match kind {
+                Kind::Quoted => Some((Mode::TypeEnd, Action::SetType)),
+                _ => None,
+            },
+            Mode::TypeEnd => match kind {
+                Kind::RightParen => go(Mode::InstanceOpen),
+                _ => None,
+            },
+            Mode::InstanceOpen => match kind {
+                Kind::LeftParen => go(Mode::InstanceWord),
+                _ => None,
+            },
+            Mode::InstanceWord => match kind {
+                Kind::Word => match keyword_of(bytes) {
+                    Some(Keyword::Instance) => go(Mode::InstanceName),
+                    _ => None,
+                },
+                _ => None,
+            },
+            Mode::InstanceName => match kind {
+                Kind::Word => Some((Mode::InstanceEnd, Action::Instance)),
+                Kind::RightParen => Some((Mode::Specs, Action::NoInstance)),
+                _ => None,
+            },
+            Mode::InstanceEnd => match kind {
+                Kind::RightParen => go(Mode::Specs),
+                _ => None,
+            },
+            Mode::Specs => match kind {
+                Kind::LeftParen => go(Mode::SpecWord),
+                Kind::RightParen => go(Mode::Cells),
+                _ => None,
+            },
+            Mode::SpecWord => match kind {
+                Kind::Word => match keyword_of(bytes) {
+                    Some(Keyword::Delay) => go(Mode::Delays),
+                    Some(Keyword::Absolute) => None,
+                    _ => pass(Site::Specs, 0),
+                },
+                _ => None,
+            },
+            Mode::Delays => match kind {
+                Kind::LeftParen => go(Mode::DelayWord),
+                Kind::RightParen => go(Mode::Specs),
+                _ => None,
+            },
+            Mode::DelayWord => match kind {
+                Kind::Word => match keyword_of(bytes) {
+                    Some(Keyword::Absolute) => go(Mode::Entries),
+                    Some(Keyword::Delay) => None,
+                    _ => pass(Site::Delays, 0),
+                },
+                _ => None,
+            },
+            Mode::Entries => match kind {
+                Kind::LeftParen => go(Mode::EntryWord),
+                Kind::RightParen => go(Mode::Delays),
+                _ => None,
+            },
+            Mode::EntryWord => match kind {
+                Kind::Word => match keyword_of(bytes) {
+                    Some(Keyword::IoPath) => Some((Mode::From(Shape::Path), Action::Begin)),
+                    Some(Keyword::Interconnect) => Some((Mode::From(Shape::Wire), Action::Begin)),
+                    _ => pass(Site::Entries, 0),
+                },
+                _ => None,
+            },
+            Mode::From(shape) => match kind {
+                Kind::Word => Some((Mode::To(shape), Action::From)),
+                Kind::LeftParen => stray_name(shape),
+                _ => None,
+            },
+            Mode::To(shape) => match kind {
+                Kind::Word => Some((Mode::FirstValue(shape), Action::To)),
+                Kind::LeftParen => stray_name(shape),
+                _ => None,
+            },
+            Mode::FirstValue(shape) => match kind {
+                Kind::LeftParen => go(Mode::Number(shape)),
+                _ => None,
+            },
+            Mode::Number(shape) => match kind {
+                Kind::RightParen => Some((Mode::Values(shape), Action::Empty)),
+                Kind::LeftParen => pass(Site::Entries, 2),
+                Kind::Word => {
+                    if is_retain(shape, keyword_of(bytes)) {
+                        pass(Site::Entries, 1)
+                    } else {
+                        Some((Mode::NumberEnd(shape), Action::Number))
+                    }
+                }
+                _ => None,
+            },
+            Mode::NumberEnd(shape) => match kind {
+                Kind::RightParen => go(Mode::Values(shape)),
+                Kind::LeftParen => pass(Site::Entries, 2),
+                _ => None,
+            },
+            Mode::Values(shape) => match kind {
+                Kind::LeftParen => go(Mode::Number(shape)),
+                Kind::RightParen => Some((Mode::Entries, Action::Row(shape))),
+                _ => None,
+            },
+            Mode::Over(site, depth) => match kind {
+                Kind::Word | Kind::Quoted => go(Mode::Over(site, depth)),
+                Kind::LeftParen => go(Mode::Over(site, depth + 1)),
+                Kind::RightParen => closes(site, depth),
+                _ => None,
+            },
+            Mode::Cells => match kind {
+                Kind::LeftParen => go(Mode::CellWord),
+                Kind::RightParen => go(Mode::End),
+                _ => None,
+            },
+            Mode::CellWord => match kind {
+                Kind::Word => match keyword_of(bytes) {
+                    Some(Keyword::Cell) => go(Mode::TypeOpen),
+                    _ => None,
+                },
+                _ => None,
+            },
+            Mode::End => None,
         }
     }
 }

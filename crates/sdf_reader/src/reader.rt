@@ -1,22 +1,21 @@
 //! The reader: takes one token after another, whole or not at all.
 ghost use Rattle.std.specs.Prelude.{◌≡◌, ℕ, ◌+◌, ◌<◌, ◌≤◌, ◌^◌, List, [], length, Option, Some, IfOk, OnOk};
-ghost use Rattle.name_table.specs.SdfNames.{canonical};
 ghost use Rattle.sdf_reader.specs.Rows.{within, row_in};
 ghost use Rattle.sdf_reader.specs.Numbers.{IsValue};
 ghost use Rattle.sdf_reader.specs.Sizes.{IsValueWithin};
 ghost use Rattle.sdf_reader.specs.Grammar.{instance_of};
-ghost use Rattle.sdf_reader.specs.Steps.{does};
-ghost use Rattle.sdf_reader.specs.Modes.{first_state, typed, in_instance, begun, from_name, to_name, with_entry, with_value, with_rows, shallower, numbered_by, applied, finish, Decides};
+ghost use Rattle.sdf_reader.specs.Steps.{cause_of, depth_of};
+ghost use Rattle.sdf_reader.specs.Modes.{first_state, with_entry, with_value, with_rows, numbered_by, applied, step, finish, Decides};
 ghost use Rattle.sdf_reader.specs.ReaderStates.{state_of, Steps};
 ghost use Rattle.token_texts.specs.Readings.{OnTaken};
-ghost use Rattle.sdf_reader.specs.Tokens.{cut_at, meaning};
+ghost use Rattle.sdf_reader.specs.Tokens.{cut_at};
 ghost use Rattle.sdf_reader.specs.Leading.{Leads, Stops, Makes, IsSound};
 ghost use Rattle.sdf_reader.specs.Within.{cut_within};
 ghost use Rattle.sdf_reader.specs.declared.rows.Value.{Value};
 ghost use Rattle.sdf_reader.specs.declared.timescales.Timescale.{Timescale};
 
 use crate::ends::SdfCause;
-use crate::modes::{Mode, Shape, Site, Step};
+use crate::modes::{Action, Mode, Shape};
 use crate::numbers::value_of;
 use crate::rows::{SdfRow, SdfRows, Value};
 use crate::scan::{Kind, cut_at};
@@ -36,7 +35,7 @@ const NO_VALUE: Value = Value {
 };
 
 /// How many values of an entry were read.
-#[derive(Clone, Copy, PartialEq, Eq, Debug)]
+#[derive(Clone, Copy)]
 pub enum Taken {
     None,
     One,
@@ -48,8 +47,6 @@ pub enum Taken {
 pub struct Reader {
     pub mode: Mode,
 
-    /// How many forms are open in the one that is passed over.
-    pub depth: usize,
     pub divider: u8,
     pub scale: Timescale,
 
@@ -67,6 +64,18 @@ pub struct Reader {
     pub alloc: Global,
 }
 
+/// Why a token of this kind is refused, where it cannot stand.
+fn cause_of(kind: Kind) -> SdfCause
+    ensures { result ≡ cause_of kind }
+{
+    match kind {
+        Kind::Bad => SdfCause::BadByte,
+        Kind::OpenQuoted => SdfCause::OpenText,
+        Kind::OpenNote => SdfCause::OpenComment,
+        _ => SdfCause::Unexpected,
+    }
+}
+
 impl Reader {
     /// Before the first token.
     pub(crate) fn new(alloc: Global) -> Reader
@@ -74,7 +83,6 @@ impl Reader {
     {
         Reader {
             mode: Mode::Start,
-            depth: 0,
             divider: b'.',
             scale: Timescale::PLAIN,
             cell: Text::new(alloc),
@@ -89,72 +97,21 @@ impl Reader {
         }
     }
 
-    /// Keeps the type of the cell.
-    fn name_type(&mut self, word: &[u8]) -> Result<(), OutOfMemory>
-        ensures state { OnOk result (state_of self.new ≡ typed (meaning word.now) (state_of self.old)) }
+    /// The instance of a cell that has this name: none where it is the word `*`, which names many.
+    fn instance_of(&self, word: &[u8]) -> Result<Option<Text>, OutOfMemory>
+        ensures { IfOk result (λ instance. instance ≡ instance_of self.now.divider word.now) }
     {
-        self.cell = meaning(self.alloc, word)?;
-        self.mode = Mode::TypeEnd;
-        Ok(())
-    }
-
-    /// Keeps the instance of the cell.
-    fn name_instance(&mut self, word: &[u8]) -> Result<(), OutOfMemory>
-        ensures state { OnOk result (state_of self.new
-            ≡ in_instance Mode.InstanceEnd (instance_of self.old.divider word.now) (state_of self.old)) }
-    {
-        self.instance = if word == b"*".as_slice() {
-            None
-        } else {
-            let name = canonical_sdf(self.alloc, word, self.divider)?;
-            Some(name)
-        };
-        self.mode = Mode::InstanceEnd;
-        Ok(())
-    }
-
-    /// Keeps the instance of a cell that has none: the empty text.
-    fn leave_out_instance(&mut self)
-        ensures { state_of self.new ≡ in_instance Mode.Specs (Some []) (state_of self.old) }
-    {
-        self.instance = Some(Text::new(self.alloc));
-        self.mode = Mode::Specs;
-    }
-
-    /// Begins an entry.
-    fn begin(&mut self, shape: Shape)
-        ensures { state_of self.new ≡ with_entry (Mode.From shape) (begun (state_of self.old).entry) (state_of self.old) }
-    {
-        self.taken = Taken::None;
-        self.rise = NO_VALUE;
-        self.fall = NO_VALUE;
-        self.mode = Mode::From(shape);
-    }
-
-    /// Keeps the name that the entry leads from.
-    fn name_from(&mut self, shape: Shape, word: &[u8]) -> Result<(), OutOfMemory>
-        ensures state { OnOk result (state_of self.new
-            ≡ with_entry (Mode.To shape) (from_name (canonical self.old.divider word.now) (state_of self.old).entry) (state_of self.old)) }
-    {
-        self.from = canonical_sdf(self.alloc, word, self.divider)?;
-        self.mode = Mode::To(shape);
-        Ok(())
-    }
-
-    /// Keeps the name that the entry leads to.
-    fn name_to(&mut self, shape: Shape, word: &[u8]) -> Result<(), OutOfMemory>
-        ensures state { OnOk result (state_of self.new
-            ≡ with_entry (Mode.FirstValue shape) (to_name (canonical self.old.divider word.now) (state_of self.old).entry)
-            (state_of self.old)) }
-    {
-        self.to = canonical_sdf(self.alloc, word, self.divider)?;
-        self.mode = Mode::FirstValue(shape);
-        Ok(())
+        if word == b"*".as_slice() {
+            return Ok(None);
+        }
+        let name = canonical_sdf(self.alloc, word, self.divider)?;
+        Ok(Some(name))
     }
 
     /// Keeps a value of the entry: the first is its rise, and its fall, unless there is a second. Others are not acted on.
     fn keep(&mut self, value: Value)
-        ensures { state_of self.new ≡ with_entry self.old.mode (with_value value (state_of self.old).entry) (state_of self.old) }
+        ensures state { state_of self.new ≡ with_entry (with_value value (state_of self.old).entry) (state_of self.old) }
+        ensures mode { self.new.mode ≡ self.old.mode }
     {
         match self.taken {
             Taken::None => {
@@ -212,8 +169,8 @@ impl Reader {
         requires rise { IsValueWithin self.old.rise }
         requires fall { IsValueWithin self.old.fall }
         ensures state { OnOk result (state_of self.new ≡ with_rows shape (state_of self.old)) }
+        ensures mode { OnOk result (self.new.mode ≡ self.old.mode) }
     {
-        self.mode = Mode::Entries;
         let from = mem::replace(&mut self.from, Text::new(self.alloc));
         let to = mem::replace(&mut self.to, Text::new(self.alloc));
         match mem::replace(&mut self.instance, None) {
@@ -227,91 +184,71 @@ impl Reader {
         Ok(())
     }
 
-    /// Ends a form inside the one that is passed over, or that one.
-    fn shallower(&mut self, site: Site)
-        ensures { state_of self.new ≡ shallower self.old.depth site (state_of self.old) }
-    {
-        if self.depth > 0 {
-            self.depth -= 1;
-        } else {
-            self.mode = site.mode();
-        }
-    }
-
     /// Keeps the number of a value, if it is one.
-    fn number(&mut self, shape: Shape, word: &[u8]) -> Option<SdfCause>
+    fn number(&mut self, word: &[u8]) -> Option<SdfCause>
         ensures state { (number : Timescale → List ℕ → Option Value) → Decides IsValue number
-            → Steps (numbered_by shape (number self.old.scale word.now) (state_of self.old)) (state_of self.new) result }
-        ensures depth { self.new.depth ≡ self.old.depth }
+            → Steps (numbered_by (number self.old.scale word.now) (state_of self.old)) (state_of self.new) result }
+        ensures mode { self.new.mode ≡ self.old.mode }
     {
         match value_of(self.scale, word) {
             None => Some(SdfCause::BadNumber),
             Some(value) => {
                 self.keep(value);
-                self.mode = Mode::NumberEnd(shape);
                 None
             }
         }
     }
 
-    /// Does what a step says that a token of these bytes makes, or says why the token is refused.
-    fn step(&mut self, step: Step, bytes: &[u8]) -> Result<Option<SdfCause>, OutOfMemory>
-        requires depth { self.old.depth < 2 ^ 42 }
+    /// Does this with a token of these bytes, or says why the token is refused.
+    fn apply(&mut self, action: Action, bytes: &[u8]) -> Result<Option<SdfCause>, OutOfMemory>
         requires room { length self.old.rows + 1 < 2 ^ 32 }
         requires rise { IsValueWithin self.old.rise }
         requires fall { IsValueWithin self.old.fall }
         ensures state { (number : Timescale → List ℕ → Option Value) → Decides IsValue number
-            → IfOk result (Steps (applied number step (state_of self.old) bytes.now) (state_of self.new)) }
-        ensures depth { OnOk result (self.new.depth ≤ self.old.depth + 256) }
+            → IfOk result (Steps (applied number action (state_of self.old) bytes.now) (state_of self.new)) }
+        ensures mode { OnOk result (self.new.mode ≡ self.old.mode) }
     {
-        match step {
-            Step::Refuse(cause) => return Ok(Some(cause)),
-            Step::Go(mode) => self.mode = mode,
-            Step::Divide(byte) => {
-                self.divider = byte;
-                self.mode = Mode::HeadEnd;
+        match action {
+            Action::Nothing => {}
+            Action::Divide(byte) => self.divider = byte,
+            Action::Rescale(scale) => self.scale = scale,
+            Action::SetType => self.cell = meaning(self.alloc, bytes)?,
+            Action::Instance => self.instance = self.instance_of(bytes)?,
+            Action::NoInstance => self.instance = Some(Text::new(self.alloc)),
+            Action::Begin => {
+                self.taken = Taken::None;
+                self.rise = NO_VALUE;
+                self.fall = NO_VALUE;
             }
-            Step::Rescale(scale, mode) => {
-                self.scale = scale;
-                self.mode = mode;
-            }
-            Step::SetType => self.name_type(bytes)?,
-            Step::Instance => self.name_instance(bytes)?,
-            Step::NoInstance => self.leave_out_instance(),
-            Step::Begin(shape) => self.begin(shape),
-            Step::From(shape) => self.name_from(shape, bytes)?,
-            Step::To(shape) => self.name_to(shape, bytes)?,
-            Step::Empty(shape) => {
-                self.keep(NO_VALUE);
-                self.mode = Mode::Values(shape);
-            }
-            Step::Number(shape) => return Ok(self.number(shape, bytes)),
-            Step::Row(shape) => self.end_entry(shape)?,
-            Step::Pass(site, depth) => {
-                self.depth = depth as usize;
-                self.mode = Mode::Over(site);
-            }
-            Step::Deeper => self.depth += 1,
-            Step::Shallower(site) => self.shallower(site),
+            Action::From => self.from = canonical_sdf(self.alloc, bytes, self.divider)?,
+            Action::To => self.to = canonical_sdf(self.alloc, bytes, self.divider)?,
+            Action::Empty => self.keep(NO_VALUE),
+            Action::Number => return Ok(self.number(bytes)),
+            Action::Row(shape) => self.end_entry(shape)?,
         }
         Ok(None)
     }
 
     /// Takes the token of this kind and of these bytes, or says why it cannot stand here.
     fn take_token(&mut self, kind: Kind, bytes: &[u8]) -> Result<Option<SdfCause>, OutOfMemory>
-        requires depth { self.old.depth < 2 ^ 42 }
+        requires depth { depth_of self.old.mode < 2 ^ 42 }
         requires room { length self.old.rows + 1 < 2 ^ 32 }
         requires rise { IsValueWithin self.old.rise }
         requires fall { IsValueWithin self.old.fall }
         ensures state { (number : Timescale → List ℕ → Option Value) → Decides IsValue number
-            → IfOk result (Steps (applied number (does self.old.mode kind bytes.now) (state_of self.old) bytes.now) (state_of self.new)) }
-        ensures depth { OnOk result (self.new.depth ≤ self.old.depth + 256) }
+            → IfOk result (Steps (step number (state_of self.old) kind bytes.now) (state_of self.new)) }
+        ensures depth { OnOk result (depth_of self.new.mode ≤ depth_of self.old.mode + 256) }
         ensures rise { OnTaken result (IsValueWithin self.new.rise) }
         ensures fall { OnTaken result (IsValueWithin self.new.fall) }
         ensures rows { OnTaken result (length self.new.rows ≤ length self.old.rows + 1) }
     {
-        let step = self.mode.next(kind, bytes);
-        self.step(step, bytes)
+        match self.mode.next(kind, bytes) {
+            None => Ok(Some(cause_of(kind))),
+            Some((mode, action)) => {
+                self.mode = mode;
+                self.apply(action, bytes)
+            }
+        }
     }
 }
 

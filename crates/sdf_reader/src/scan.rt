@@ -6,7 +6,7 @@ ghost use Rattle.token_texts.specs.Cuts.{IsWithin};
 use token_texts::{ByteClass, Cut, Escape, comment_at, escaped_run_length, is_blank, quoted_cut};
 
 /// What a token is.
-#[derive(Clone, Copy, PartialEq, Eq, Debug)]
+#[derive(Clone, Copy)]
 pub enum Kind {
     LeftParen,
     RightParen,

@@ -4,7 +4,7 @@ ghost use Rattle.sdf_reader.specs.Timescales.{zeros, unit_power, power_of};
 ghost use Rattle.sdf_reader.specs.ScalePlaces.{tenfold, behind_number, behind_whole, place_after, place_behind};
 
 /// How many of a unit.
-#[derive(Clone, Copy, PartialEq, Eq, Debug)]
+#[derive(Clone, Copy)]
 pub enum Count {
     One,
     Ten,
@@ -12,7 +12,7 @@ pub enum Count {
 }
 
 /// A unit of time.
-#[derive(Clone, Copy, PartialEq, Eq, Debug)]
+#[derive(Clone, Copy)]
 pub enum TimeUnit {
     Second,
     Millisecond,
@@ -23,14 +23,14 @@ pub enum TimeUnit {
 }
 
 /// The unit of a file's numbers.
-#[derive(Clone, Copy, PartialEq, Eq, Debug)]
+#[derive(Clone, Copy)]
 pub struct Timescale {
     pub count: Count,
     pub unit: TimeUnit,
 }
 
 /// A place in the words of a TIMESCALE, by what stands before it.
-#[derive(Clone, Copy, PartialEq, Eq, Debug)]
+#[derive(Clone, Copy)]
 pub enum ScalePlace {
     /// Nothing.
     Start,

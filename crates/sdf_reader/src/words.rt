@@ -3,7 +3,7 @@ ghost use Rattle.std.specs.Prelude.{◌≡◌, map};
 ghost use Rattle.sdf_reader.specs.Keywords.{same_word, lookup, keyword_of};
 
 /// A keyword that the grammar tells from others.
-#[derive(Clone, Copy, PartialEq, Eq, Debug)]
+#[derive(Clone, Copy)]
 pub enum Keyword {
     DelayFile,
     Design,
