@@ -1,5 +1,0 @@
-//! One module a subject.
-mod files;
-mod grids;
-mod names;
-mod streams;

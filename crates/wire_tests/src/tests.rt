@@ -1,2 +1,0 @@
-//! One module a subject.
-mod wires;
