@@ -1,3 +1,4 @@
 //! One module a subject.
+mod graphs;
 mod halves;
 mod netlists;

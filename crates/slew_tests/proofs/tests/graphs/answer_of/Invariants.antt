@@ -1,5 +1,5 @@
 use Rattle.std.proofs.Common.{◌≡◌, ◌<◌, length, All}
-use Rattle.graph_tests.proofs.tests.answer_of.Given as goal
+use Rattle.slew_tests.proofs.tests.graphs.answer_of.Given as goal
 
 abbrev pub invariant-loop-link : goal.invariant-loop-link
 invariant-loop-link l = record {
