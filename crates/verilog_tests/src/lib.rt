@@ -1,4 +1,4 @@
-//! Tests of `verilog_netlist`: what no clause says, against values from outside.
+//! Tests of `verilog_netlist` and `hierarchy`: what no clause says, against values from outside.
 #![tactic(auto)]
 
 #[cfg(test)]
