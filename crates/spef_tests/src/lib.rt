@@ -1,4 +1,4 @@
-//! Tests of `spef_text` and `spef_nets`: what no clause says, against values from outside.
+//! Tests of `spef_text`, `spef_nets`, `rc_tree` and `elmore_pass`: what no clause says, against values from outside.
 #![tactic(auto)]
 
 #[cfg(test)]

@@ -2,7 +2,7 @@
 //! 50 ohm to `t` with 1 and a load of 3 fF. By hand, 100 * 21 + 200 * 7 = 3500 fs and 100 * 21 + 50 * 4 = 2300 fs.
 ghost use Rattle.std.specs.Prelude.{◌≡◌, ◌<◌};
 
-use super::nets::{file_of, head_of, nets_of, pins};
+use super::tree_nets::{file_of, head_of, nets_of, pins};
 use corner_set::Single;
 use delay_units::Femto;
 use edge_io::Steps;

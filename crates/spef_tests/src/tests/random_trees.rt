@@ -2,8 +2,8 @@
 ghost use Rattle.std.specs.Prelude.{◌≡◌, ◌<◌};
 ghost use Rattle.corner_set.specs.Places.{HasRow};
 
-use super::nets::{file_of, head_of, nets_of};
 use super::plain_sums::{Branch, Values, plain};
+use super::tree_nets::{file_of, head_of, nets_of};
 use corner_set::{Pick, Triple};
 use edge_io::Steps;
 use elmore_pass::elmore_into;

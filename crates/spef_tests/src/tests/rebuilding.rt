@@ -1,7 +1,7 @@
 //! One tree and one workspace serve net after net: the worked net, a triangle, and the worked net again.
 ghost use Rattle.std.specs.Prelude.{◌≡◌, ◌<◌};
 
-use super::nets::{file_of, head_of, nets_of, pins};
+use super::tree_nets::{file_of, head_of, nets_of, pins};
 use corner_set::Single;
 use edge_io::Steps;
 use elmore_pass::elmore_into;

@@ -1,7 +1,7 @@
 //! How nets of small files become trees, or why they do not. The expected answers were worked by hand.
 ghost use Rattle.std.specs.Prelude.{◌≡◌, ◌<◌};
 
-use super::nets::{file_of, head_of, nets_of, pins};
+use super::tree_nets::{file_of, head_of, nets_of, pins};
 use corner_set::Single;
 use edge_io::Steps;
 use rc_tree::{ListedPins, RcTree, TreeEnd, build};

@@ -1,4 +1,4 @@
-use Rattle.tree_tests.proofs.tests.delays.worked.Given as goal
+use Rattle.spef_tests.proofs.tests.delays.worked.Given as goal
 
 abbrev pub ghosts-delays : goal.ghosts-delays
 ghosts-delays a = record { name = a.blank.name; parts = a.blank.parts }

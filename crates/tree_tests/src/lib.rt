@@ -1,5 +1,0 @@
-//! Tests of `rc_tree` and `elmore_pass`: what no clause says, against values from outside.
-#![tactic(auto)]
-
-#[cfg(test)]
-mod tests;
