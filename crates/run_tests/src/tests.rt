@@ -1,5 +1,5 @@
-//! Runs over a shelf and sinks in memory: what no clause says is that memory suffices, and that the
-//! definitions mean what they should. The expected texts are worked by hand.
+//! Words and what they ask for, in `asked`; in the other modules runs over a shelf and sinks in memory: what no clause says is that
+//! memory suffices, and that the definitions mean what they should. The expected texts are worked by hand.
 
 ghost use Rattle.std.specs.Prelude.{◌≡◌, ◌<◌};
 
@@ -12,6 +12,7 @@ use std::process::Abort;
 use std::sync::ledger::{Blank, Ledger};
 use std::test::Fail;
 
+mod asked;
 mod calc;
 mod corners;
 mod flat;

@@ -1,4 +1,5 @@
 //! Words, with what they ask for or their first fault. The faults are worked from the tables of commands and keys.
+use super::put_words;
 use corner_set::Pick;
 use edge_io::{OutOfMemory, Text};
 use gdc_words::{
@@ -88,25 +89,9 @@ const FAULTS: [(&[u8], UsageKind, usize); 56] = [
     (b"--version\n--help\n", UsageKind::UnknownWord, 2),
 ];
 
-/// Up to the byte, and behind it; the whole where the byte does not stand.
-fn cut_at(bytes: &[u8], byte: u8) -> (&[u8], &[u8]) {
-    match bytes.iter().position(|b| *b == byte) {
-        Some(place) => (bytes.split_at(place).0, bytes.split_at(place + 1).1),
-        None => (bytes, &[]),
-    }
-}
-
 fn words_of(alloc: Global, lines: &[u8]) -> Result<Words, OutOfMemory> {
     let mut words = Words::new(alloc);
-    let mut rest = lines;
-    for _ in 0..lines.len() {
-        if rest.is_empty() {
-            break;
-        }
-        let (line, after) = cut_at(rest, b'\n');
-        words.push(Text::from_bytes(alloc, line)?)?;
-        rest = after;
-    }
+    put_words(alloc, &mut words, lines)?;
     Ok(words)
 }
 
