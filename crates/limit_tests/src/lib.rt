@@ -1,5 +1,5 @@
-//! Tests of `gdc_run::run` at its limits, over a shelf and sinks in memory. This crate has nothing else. They are
-//! made for the gate, which builds tests by LLVM: they take `rt try` longer than it waits.
+//! Tests of `gdc_run::run` at its limits, over a shelf and sinks in memory, and of `trial_files`, against files by hand and lengths from
+//! another generator. They are made for the gate, which builds tests by LLVM: the large ones take `rt try` longer than it waits.
 #![tactic(auto)]
 
 #[cfg(test)]
