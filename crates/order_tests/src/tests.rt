@@ -1,4 +1,3 @@
 //! One module a subject.
 mod asking;
 mod designs;
-mod library;

@@ -11,6 +11,7 @@ use std::marker::Brand;
 use std::process::Abort;
 use std::sync::ledger::{Blank, Ledger};
 use std::test::Fail;
+use worked_files::SDF_HEAD;
 
 mod asked;
 mod calc;
@@ -206,4 +207,16 @@ fn expects(
     assert_eq!(rt; tried.out.written(), out);
     assert_eq!(rt; tried.status, status);
     Ok(())
+}
+
+/// The run ends well, and has written the SDF text of the design `top` with this behind its head.
+fn expects_sdf(
+    rt: &impl Abort,
+    alloc: Global,
+    plan: &Plan,
+    body: &[u8],
+) -> Result<(), OutOfMemory> {
+    let mut text = Text::from_bytes(alloc, SDF_HEAD)?;
+    text.push_all(body)?;
+    expects(rt, alloc, plan, 0, text.bytes(), b"")
 }

@@ -1,10 +1,11 @@
 //! The models of the cells of all tables, and their first faults.
 use super::cell_faults;
 use super::cell_tables::{CELLS, OUTPUTS, WantedArc, WantedPin};
-use super::library::{LIBRARY, LIBRARY_CELLS};
+use super::library::LIBRARY_CELLS;
 use super::models::{built, built_both, built_in, built_with};
 use std::test::Fail;
 use timing_arcs::{Arc, Cell, CellFault, Direction, Pin};
+use worked_files::LIBRARY;
 
 fn is_pin(pin: &Pin, wanted: &WantedPin<'_>) -> bool {
     pin.name.bytes() == wanted.0 && pin.direction == wanted.1 && pin.cap.0 == wanted.2

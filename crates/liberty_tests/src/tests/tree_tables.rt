@@ -2,7 +2,7 @@
 //! groups in it behind `>`, counted on from `0`, and for each of the names below that it has an attribute of, the name behind
 //! `#` and the values of the last behind `:`.
 
-use super::library::LIBRARY;
+use worked_files::LIBRARY;
 
 /// The names of attributes that are told.
 pub const KEYS: [&[u8]; 17] = [

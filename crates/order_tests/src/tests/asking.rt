@@ -3,7 +3,6 @@ ghost use Rattle.std.specs.Prelude.{◌≡◌, ◌<◌, ◌≤◌, pos, ◌≤�
 ghost use Rattle.slew_order.specs.NetTimes.{Fits, elmore_limit};
 ghost use Rattle.slew_order.specs.Slews.{AreTablesOf};
 
-use crate::tests::library::LIBRARY;
 use cell_models::{Edge, Part};
 use corner_set::Single;
 use delay_core::{Design, read_design};
@@ -16,6 +15,7 @@ use std::alloc::Global;
 use std::marker::Brand;
 use std::sync::ledger::{Blank, Ledger};
 use wire_slews::WireSlew;
+use worked_files::LIBRARY;
 
 /// The design of a netlist over the library.
 pub fn design_of(alloc: Global, netlist: &[u8]) -> Result<Option<Design<Single>>, OutOfMemory> {

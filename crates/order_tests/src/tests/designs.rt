@@ -16,6 +16,7 @@ use std::alloc::Global;
 use std::process::Abort;
 use std::test::Fail;
 use wire_slews::WireSlew;
+use worked_files::INVERTER;
 
 /// A flip-flop with an inverter back to its input D.
 const FLIP_FLOP: &[u8] =
@@ -24,8 +25,6 @@ const FLIP_FLOP: &[u8] =
 /// Two gates that are coupled crosswise.
 const LATCH: &[u8] =
     b"module top (s, r, q, qn); input s, r; output q, qn; NAND2 u1 (.A(s), .B(qn), .Z(q)); NAND2 u2 (.A(r), .B(q), .Z(qn)); endmodule";
-
-const INVERTER: &[u8] = b"module top (a, z); input a; output z; INV u1 (.A(a), .Z(z)); endmodule";
 
 /// A gate with one input that is tied.
 const TIED: &[u8] =

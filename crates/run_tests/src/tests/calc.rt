@@ -1,67 +1,10 @@
 //! `calc`. The rows were worked by hand: at a slew of 20 ps and a load of 2 fF each of the four values of the inverter's tables counts a
 //! quarter.
-use super::{Plan, expects};
+use super::{Plan, expects, expects_sdf};
 use std::test::Fail;
+use worked_files::{INVERTER, LIBRARY};
 
-/// An inverter whose tables have two slews and two loads, an exclusive or of both senses, a flip-flop, a NAND gate, and a cell without an
-/// input. Times are picoseconds, capacitances femtofarads.
-const LIBRARY: &[u8] = b"library (L) {
-  time_unit : \"1ps\";
-  capacitive_load_unit (1, ff);
-  lu_table_template (t22) {
-    variable_1 : input_net_transition;
-    variable_2 : total_output_net_capacitance;
-    index_1 (\"10, 30\"); index_2 (\"1, 3\"); }
-  cell (INV) {
-    pin (A) { direction : input; capacitance : 1; }
-    pin (Z) { direction : output;
-      timing () { related_pin : \"A\"; timing_sense : negative_unate;
-        cell_rise (t22) { values (\"20, 40\", \"30, 60\"); }
-        cell_fall (t22) { values (\"10, 20\", \"16, 32\"); }
-        rise_transition (t22) { values (\"12, 16\", \"20, 28\"); }
-        fall_transition (t22) { values (\"10, 14\", \"18, 22\"); } } } }
-  cell (XOR) {
-    pin (A, B) { direction : input; capacitance : 1; }
-    pin (Z) { direction : output;
-      timing () { related_pin : \"A B\"; timing_sense : positive_unate;
-        cell_rise (scalar) { values (\"50\"); }
-        cell_fall (scalar) { values (\"40\"); }
-        rise_transition (scalar) { values (\"10\"); }
-        fall_transition (scalar) { values (\"10\"); } }
-      timing () { related_pin : \"A B\"; timing_sense : negative_unate;
-        cell_rise (scalar) { values (\"45\"); }
-        cell_fall (scalar) { values (\"60\"); }
-        rise_transition (scalar) { values (\"11\"); }
-        fall_transition (scalar) { values (\"9\"); } } } }
-  cell (DFF) {
-    pin (CK, D) { direction : input; capacitance : 1; }
-    pin (Q) { direction : output;
-      timing () { related_pin : \"CK\"; timing_type : rising_edge;
-        cell_rise (scalar) { values (\"100\"); }
-        cell_fall (scalar) { values (\"110\"); }
-        rise_transition (scalar) { values (\"15\"); }
-        fall_transition (scalar) { values (\"14\"); } } }
-    pin (QN) { direction : output;
-      timing () { related_pin : \"CK\"; timing_type : rising_edge;
-        cell_rise (t22) { values (\"20, 40\", \"30, 60\"); }
-        rise_transition (t22) { values (\"12, 16\", \"20, 28\"); } } } }
-  cell (NAND2) {
-    pin (A, B) { direction : input; capacitance : 1; }
-    pin (Z) { direction : output;
-      timing () { related_pin : \"A B\"; timing_sense : negative_unate;
-        cell_rise (scalar) { values (\"12\"); }
-        cell_fall (scalar) { values (\"11\"); }
-        rise_transition (scalar) { values (\"8\"); }
-        fall_transition (scalar) { values (\"7\"); } } } }
-  cell (TIE) { pin (Z) { direction : output; } }
-}
-";
-
-/// One inverter between two ports.
-pub const INVERTER: &[u8] =
-    b"module top (a, z); input a; output z; INV u1 (.A(a), .Z(z)); endmodule";
-
-/// Its parasitics.
+/// The parasitics of the inverter.
 const SPEF: &[u8] = b"*SPEF \"IEEE 1481-1998\"
 *DIVIDER /
 *DELIMITER :
@@ -131,19 +74,6 @@ const ESCAPED: &[u8] = b"*SPEF \"IEEE 1481-1998\"
 
 /// No parasitics.
 pub const BARE: &[u8] = b"*SPEF \"IEEE 1481-1998\"\n";
-
-/// What each text begins with.
-pub const HEAD: &[u8] = b"(DELAYFILE
-(SDFVERSION \"3.0\")
-(DESIGN \"top\")
-(PROGRAM \"gdc\")
-(VERSION \"1\")
-(DIVIDER /)
-(TIMESCALE 1ps)
-(CELL
-(CELLTYPE \"top\")
-(INSTANCE)
-";
 
 /// Words behind the files, a netlist, parasitics, and what stands behind the head of the text.
 pub const WRITTEN: [(&[u8], &[u8], &[u8], &[u8]); 10] = [
@@ -254,10 +184,7 @@ fn a_design_is_annotated(rt: HostRuntime) -> Result<(), Fail> {
     let alloc = rt.alloc();
     for (words, netlist, spef, body) in WRITTEN {
         let plan = Plan::calc(words, netlist, spef, LIBRARY);
-        let mut text = Vec::new(alloc);
-        text.extend_from_slice(HEAD)?;
-        text.extend_from_slice(body)?;
-        expects(&rt, alloc, &plan, 0, text.as_slice(), b"")?;
+        expects_sdf(&rt, alloc, &plan, body)?;
     }
     Ok(())
 }

@@ -1,7 +1,8 @@
 //! `calc` with a library for each corner. The expected values are worked by hand: the cell has fixed delays in each library, and 100 ohm
 //! lead to a load of 1 fF and a capacitance of 1, 2 or 3 fF.
-use super::{Plan, expects};
+use super::{Plan, expects, expects_sdf};
 use std::test::Fail;
+use worked_files::INVERTER;
 
 /// A library of an inverter at the corner `min`.
 const MIN: &[u8] = b"library (L) {
@@ -71,10 +72,7 @@ const BROKEN: &[u8] = b"library (L) {
     } } cell (INV } } }
 ";
 
-/// One inverter between two ports.
-const INVERTER: &[u8] = b"module top (a, z); input a; output z; INV u1 (.A(a), .Z(z)); endmodule";
-
-/// Its parasitics, of which one is a triple.
+/// The parasitics of the inverter, of which one is a triple.
 const SPEF: &[u8] = b"*SPEF \"IEEE 1481-1998\"
 *DIVIDER /
 *DELIMITER :
@@ -98,18 +96,8 @@ const SPEF: &[u8] = b"*SPEF \"IEEE 1481-1998\"
 *END
 ";
 
-/// The delays of the three corners, side by side.
-const WRITTEN: &[u8] = b"(DELAYFILE
-(SDFVERSION \"3.0\")
-(DESIGN \"top\")
-(PROGRAM \"gdc\")
-(VERSION \"1\")
-(DIVIDER /)
-(TIMESCALE 1ps)
-(CELL
-(CELLTYPE \"top\")
-(INSTANCE)
-(DELAY
+/// The delays of the three corners, side by side, behind the head of the text.
+const WRITTEN: &[u8] = b"(DELAY
 (ABSOLUTE
 (INTERCONNECT a u1/A (0.200:0.300:0.400))
 (INTERCONNECT u1/Z z (0.000:0.000:0.000))
@@ -131,7 +119,7 @@ const WRITTEN: &[u8] = b"(DELAYFILE
 #[test]
 fn each_corner_has_its_delays(rt: HostRuntime) -> Result<(), Fail> {
     let plan = Plan::corners(b"--input-slew\n20\n", INVERTER, SPEF, [MIN, TYP, MAX]);
-    expects(&rt, rt.alloc(), &plan, 0, WRITTEN, b"")?;
+    expects_sdf(&rt, rt.alloc(), &plan, WRITTEN)?;
     Ok(())
 }
 

@@ -1,5 +1,5 @@
 //! The rows of nets. The expected lines are worked by hand or come from an independent calculator.
-use super::{Plan, cut_at, expects, try_plan};
+use super::{Plan, cut_at, expects_sdf, try_plan};
 use edge_io::{OutOfMemory, Text};
 use std::alloc::Global;
 use std::process::Abort;
@@ -20,15 +20,11 @@ const NETS: &[u8] =
 *SPEF \"x\" *DESIGN \"top\" *DIVIDER / *C_UNIT 1 pF *R_UNIT 1 kohm *NAME_MAP *1 n *2 u1/g\\[3\\] *D_NET *1 0 *CONN *P a I *I *2:A I *L 0.001 *CAP 1 *1:1 0.002 *RES 1 a *1:1 0.1 2 *1:1 *2:A 0.05 *END|(INTERCONNECT a u1/g\\[3\\]/A (0.350))|
 ";
 
-const FRONT: &[u8] =
-    b"(DELAYFILE\n(SDFVERSION \"3.0\")\n(DESIGN \"top\")\n(PROGRAM \"gdc\")\n(VERSION \"1\")\n(DIVIDER /)\n(TIMESCALE 1ps)\n(CELL\n(CELLTYPE \"top\")\n(INSTANCE)\n";
-
 const NO_NET: &[u8] = b"*SPEF \"x\" *DESIGN \"top\" *C_UNIT 1 FF *R_UNIT 1 OHM";
 
-/// The text of the design `top` with these rows, each ended by a bar.
-fn text_of(alloc: Global, rows: &[u8]) -> Result<Text, OutOfMemory> {
-    let mut text = Text::from_bytes(alloc, FRONT)?;
-    text.push_all(b"(DELAY\n(ABSOLUTE\n")?;
+/// What stands behind the head of a text with these rows, each ended by a bar.
+fn body_of(alloc: Global, rows: &[u8]) -> Result<Text, OutOfMemory> {
+    let mut text = Text::from_bytes(alloc, b"(DELAY\n(ABSOLUTE\n")?;
     let mut rest = rows;
     for _ in 0..rows.len() {
         if rest.is_empty() {
@@ -49,8 +45,8 @@ fn writes_rows(
     spef: &[u8],
     rows: &[u8],
 ) -> Result<(), OutOfMemory> {
-    let text = text_of(alloc, rows)?;
-    expects(rt, alloc, &Plan::wires(spef), 0, text.bytes(), b"")
+    let body = body_of(alloc, rows)?;
+    expects_sdf(rt, alloc, &Plan::wires(spef), body.bytes())
 }
 
 #[test]
@@ -64,9 +60,7 @@ fn each_net_gives_its_rows(rt: HostRuntime) -> Result<(), Fail> {
         rest = after;
     }
     assert!(rt; rest.is_empty());
-    let mut text = Text::from_bytes(alloc, FRONT)?;
-    text.push_all(b")\n)\n")?;
-    expects(&rt, alloc, &Plan::wires(NO_NET), 0, text.bytes(), b"")?;
+    expects_sdf(&rt, alloc, &Plan::wires(NO_NET), b")\n)\n")?;
     Ok(())
 }
 
@@ -78,11 +72,11 @@ const TRIPLE: &[u8] =
 fn the_member_that_is_asked_for_counts(rt: HostRuntime) -> Result<(), Fail> {
     let alloc = rt.alloc();
     let least = Plan::of(b"wires\n--triple\nmin\n--spef\na.spef\n", TRIPLE);
-    let text = text_of(alloc, b"(INTERCONNECT d s (0.100))|")?;
-    expects(&rt, alloc, &least, 0, text.bytes(), b"")?;
+    let body = body_of(alloc, b"(INTERCONNECT d s (0.100))|")?;
+    expects_sdf(&rt, alloc, &least, body.bytes())?;
     let most = Plan::of(b"wires\n--spef\na.spef\n--triple\nmax\n", TRIPLE);
-    let text = text_of(alloc, b"(INTERCONNECT d s (0.300))|")?;
-    expects(&rt, alloc, &most, 0, text.bytes(), b"")?;
+    let body = body_of(alloc, b"(INTERCONNECT d s (0.300))|")?;
+    expects_sdf(&rt, alloc, &most, body.bytes())?;
     Ok(())
 }
 

@@ -1,6 +1,6 @@
 //! `calc` on files as the usual tools write them, and on the smallest library.
-use super::calc::{BARE, HEAD, WRITTEN};
-use super::{Plan, expects};
+use super::calc::{BARE, WRITTEN};
+use super::{Plan, expects, expects_sdf};
 use std::test::Fail;
 
 /// An inverter whose lists of values stand on two lines each, with a comment before the cell, and an attribute that a line end closes.
@@ -76,11 +76,8 @@ fn files_as_tools_write_them(rt: HostRuntime) -> Result<(), Fail> {
         ),
     ];
     for (netlist, spef, library, body) in rows {
-        let mut text = Vec::new(alloc);
-        text.extend_from_slice(HEAD)?;
-        text.extend_from_slice(body)?;
         let plan = Plan::calc(words, netlist, spef, library);
-        expects(&rt, alloc, &plan, 0, text.as_slice(), b"")?;
+        expects_sdf(&rt, alloc, &plan, body)?;
     }
     Ok(())
 }

@@ -1,6 +1,10 @@
-//! A library of six cells.
+//! Texts that several crates of tests work with: files that are worked by hand, and what stands before what is expected of them. It has
+//! constants alone, and no crate of the program stands on it.
+#![tactic(auto)]
 
-/// An inverter, another with the load first, an exclusive or, a flip-flop, a gate with two inputs, and a cell with an output alone.
+/// A library of six cells: an inverter whose tables have two slews and two loads, another with the load first, an exclusive or of both
+/// senses, a flip-flop whose second output has a rise alone, a gate with two inputs, and a cell with an output alone. Times are
+/// picoseconds, capacitances femtofarads.
 pub const LIBRARY: &[u8] = b"library (L) {
   time_unit : \"1ps\";
   capacitive_load_unit (1, ff);
@@ -63,4 +67,21 @@ pub const LIBRARY: &[u8] = b"library (L) {
         fall_transition (scalar) { values (\"7\"); } } } }
   cell (TIE) { pin (Z) { direction : output; } }
 }
+";
+
+/// One inverter between two ports.
+pub const INVERTER: &[u8] =
+    b"module top (a, z); input a; output z; INV u1 (.A(a), .Z(z)); endmodule";
+
+/// What the SDF text of the design `top` begins with, up to the delays of its wires.
+pub const SDF_HEAD: &[u8] = b"(DELAYFILE
+(SDFVERSION \"3.0\")
+(DESIGN \"top\")
+(PROGRAM \"gdc\")
+(VERSION \"1\")
+(DIVIDER /)
+(TIMESCALE 1ps)
+(CELL
+(CELLTYPE \"top\")
+(INSTANCE)
 ";
