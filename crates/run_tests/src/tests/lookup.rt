@@ -2,49 +2,7 @@
 //! values of a table counts a quarter.
 use super::{Plan, expects};
 use std::test::Fail;
-
-/// An inverter, the same with the load first in its tables, and a flip-flop whose second output has a rise alone.
-const LIBRARY: &[u8] = b"library (L) {
-  time_unit : \"1ps\";
-  capacitive_load_unit (1, ff);
-  lu_table_template (t22) {
-    variable_1 : input_net_transition;
-    variable_2 : total_output_net_capacitance;
-    index_1 (\"10, 30\"); index_2 (\"1, 3\"); }
-  lu_table_template (t22l) {
-    variable_1 : total_output_net_capacitance;
-    variable_2 : input_net_transition;
-    index_1 (\"1, 3\"); index_2 (\"10, 30\"); }
-  cell (INV) {
-    pin (A) { direction : input; capacitance : 1; }
-    pin (Z) { direction : output;
-      timing () { related_pin : \"A\"; timing_sense : negative_unate;
-        cell_rise (t22) { values (\"20, 40\", \"30, 60\"); }
-        cell_fall (t22) { values (\"10, 20\", \"16, 32\"); }
-        rise_transition (t22) { values (\"12, 16\", \"20, 28\"); }
-        fall_transition (t22) { values (\"10, 14\", \"18, 22\"); } } } }
-  cell (INVT) {
-    pin (A) { direction : input; capacitance : 1; }
-    pin (Z) { direction : output;
-      timing () { related_pin : \"A\"; timing_sense : negative_unate;
-        cell_rise (t22l) { values (\"20, 30\", \"40, 60\"); }
-        cell_fall (t22l) { values (\"10, 16\", \"20, 32\"); }
-        rise_transition (t22l) { values (\"12, 20\", \"16, 28\"); }
-        fall_transition (t22l) { values (\"10, 18\", \"14, 22\"); } } } }
-  cell (DFF) {
-    pin (CK, D) { direction : input; capacitance : 1; }
-    pin (Q) { direction : output;
-      timing () { related_pin : \"CK\"; timing_type : rising_edge;
-        cell_rise (scalar) { values (\"100\"); }
-        cell_fall (scalar) { values (\"110\"); }
-        rise_transition (scalar) { values (\"15\"); }
-        fall_transition (scalar) { values (\"14\"); } } }
-    pin (QN) { direction : output;
-      timing () { related_pin : \"CK\"; timing_type : rising_edge;
-        cell_rise (t22) { values (\"20, 40\", \"30, 60\"); }
-        rise_transition (t22) { values (\"12, 16\", \"20, 28\"); } } } }
-}
-";
+use worked_files::LIBRARY;
 
 /// Words behind `lookup --lib a.lib`, one a line, and what comes of them over the library: status, text and line.
 const ROWS: [(&[u8], u8, &[u8], &[u8]); 12] = [
@@ -115,10 +73,10 @@ const ROWS: [(&[u8], u8, &[u8], &[u8]); 12] = [
         b"gdc: E41 outside DFF CK QN rise only delay slew 9000000\n",
     ),
     (
-        b"--cell\nNAND2\n--slew\n20\n--load\n2\n",
+        b"--cell\nNAND3\n--slew\n20\n--load\n2\n",
         1,
         b"",
-        b"gdc: E11 unknown cell NAND2 only\n",
+        b"gdc: E11 unknown cell NAND3 only\n",
     ),
 ];
 
