@@ -1,0 +1,71 @@
+"""The program beside these tools: where it is, and what it answers."""
+import os
+import subprocess
+import tempfile
+
+import files
+
+ROOT = os.path.dirname(os.path.dirname(os.path.realpath(__file__)))
+SCRIPT = os.path.join(ROOT, "gdc")
+# In a repository the script could prove and build the program first, for an hour. By this it takes what is built or released, or ends with 125.
+os.environ.setdefault("GDC_BUILD", "no")
+NO_PROGRAM = 125
+HELP = "the program; else that of the environment variable GDC, else the gdc at the top of this repository, as it is built or released"
+
+
+class CannotRun(Exception):
+    """The program is not there, or ends in another way than by an answer to its files."""
+
+
+def add_program(parser):
+    parser.add_argument("--program", metavar="FILE", help=HELP)
+
+
+def program_path(asked):
+    """The path of the program that is asked for, or of that of this repository. None is built for it."""
+    path = asked or os.environ.get("GDC") or SCRIPT
+    if not os.access(path, os.X_OK):
+        raise CannotRun(f"there is no program at {path}")
+    return path
+
+
+class Program:
+    """The program at a path. Files that are packed, or can be read but once, are written anew into a folder."""
+
+    def __init__(self, path, folder=None):
+        self.path, self.folder = path, folder
+        self.files = {}
+
+    def run(self, *words):
+        """What the program writes, and what it says behind `gdc: `."""
+        try:
+            ran = subprocess.run([self.path, *words], stdin=subprocess.DEVNULL, capture_output=True)
+        except OSError as fault:
+            raise CannotRun(f"the program cannot be started: {fault}") from None
+        if ran.returncode == NO_PROGRAM and self.path == SCRIPT:
+            raise CannotRun(f"the program is neither built nor released here: run {SCRIPT} --version, which proves and builds it, or give --program")
+        if ran.returncode not in (0, 1):
+            raise CannotRun(f"the program ends with status {ran.returncode}: {ran.stderr.decode(errors='replace').strip()}")
+        return ran.stdout, ran.stderr.rstrip(b"\n").removeprefix(b"gdc: ")
+
+    def file(self, path):
+        """The path at which the program can read a file."""
+        if path not in self.files:
+            self.files[path] = path if self.is_plain(path) else self.write(files.read_file(path))
+        return self.files[path]
+
+    def is_plain(self, path):
+        # What a shell opened for this tool is not open in the program.
+        if not os.path.isfile(path) or path.startswith(("/dev/", "/proc/")):
+            return False
+        with open(path, "rb") as file:
+            return file.read(2) != b"\x1f\x8b"
+
+    def read(self, path):
+        return files.read_file(self.file(path))
+
+    def write(self, data):
+        handle, path = tempfile.mkstemp(dir=self.folder)
+        with os.fdopen(handle, "wb") as file:
+            file.write(data)
+        return path
