@@ -1,84 +1,29 @@
-//! The laws of the phases: each has one answer.
+//! The laws of the phases.
 ghost use Rattle.corner_set.specs.declared.pick.Pick.{Pick};
 ghost use Rattle.spef_nets.specs.Drafts.{corners_of};
-ghost use Rattle.delay_core.specs.NetlistPhase.{OneNetlist};
-ghost use Rattle.delay_core.specs.OneAnswer.{OneReading, OneLibrary, OneCell, OneUse, OneModels, OneLink};
-ghost use Rattle.delay_core.specs.OneDesign.{OneFile, OneInputs, OneLinking, OneDesign};
+ghost use Rattle.delay_core.specs.OneAnnotation.{OneAnnotation};
+ghost use Rattle.delay_core.specs.OneTiming.{OneDelays, OneSlews};
 
 use corner_set::CornerSet;
 
-/// The law of SPEF files, which its contract states: the bytes of a file have one answer at each set of corners. They say nets, all of
-/// whose sections are without a fault, or they have one refusal. It does nothing when it is called.
-pub fn one_reading<C: CornerSet>()
-    ensures law { (pick : Pick) → OneReading (corners_of C.COUNT C.number_of C.member_of pick) }
+/// The law of loads and Elmore sums, which its contract states: where the sections of a file are of different nets, a design has one answer
+/// of the phases of its nets. There is one table of loads and Elmore sums, or one refusal, in which one of the resistors of a mesh is
+/// named, and in which an unreached node is told in one of its spellings. It does nothing when it is called.
+#[tactic(auto, using(crate::proofs::OneDelays::one_delays_answer))]
+pub fn one_delays_answer()
+    ensures law { OneDelays }
 {}
 
-/// The law of libraries, which its contract states: the bytes of a file have one tree, or one refusal. It does nothing when it is
-/// called.
-#[tactic(auto, using(crate::proofs::OneLibrary::one_library_lem))]
-pub fn one_library()
-    ensures law { OneLibrary }
+/// The law of slews, which its contract states: a design with its loads and Elmore sums has one answer of the phases of its slews. There is
+/// one table of slews, or one refusal, in which one of the loops is named. It does nothing when it is called.
+#[tactic(auto, using(crate::proofs::OneSlews::one_slews_answer))]
+pub fn one_slews_answer()
+    ensures law { OneSlews }
 {}
 
-/// The law of cells, which its contract states: a cell has one model, or one refusal. It does nothing when it is called.
-#[tactic(auto, using(crate::proofs::OneLibrary::one_cell_lem))]
-pub fn one_cell()
-    ensures law { OneCell }
-{}
-
-/// The law of netlists, which its contract states: the bytes of a file have one list of modules, or one refusal. It does nothing when
-/// it is called.
-#[tactic(auto, using(crate::proofs::OneNetlist::one_netlist_lem))]
-pub fn one_netlist()
-    ensures law { OneNetlist }
-{}
-
-/// The law of used cells, which its contract states: where the names of its modules differ, a design has one list of cells, or one
-/// refusal, in which one of the modules that contain themselves is named. It does nothing when it is called.
-#[tactic(auto, using(crate::proofs::OneInputs::one_use_lem))]
-pub fn one_use_answer()
-    ensures law { OneUse }
-{}
-
-/// The law of models, which its contract states: the cells that are used have one list of models, or one refusal. It does nothing when
-/// it is called.
-#[tactic(auto, using(crate::proofs::OneInputs::one_models_lem))]
-pub fn one_models()
-    ensures law { OneModels }
-{}
-
-/// The law of flat netlists, which its contract states: where the names of its modules and of the cells differ, a design has one flat
-/// netlist, or one refusal. It does nothing when it is called.
-#[tactic(auto, using(crate::proofs::OneInputs::one_link_lem))]
-pub fn one_link()
-    ensures law { OneLink }
-{}
-
-/// The law of files, which its contract states: a file that is told has one text, or one reason why it is not read. It does nothing when
-/// it is called.
-#[tactic(auto, using(crate::proofs::OneText::one_file))]
-pub fn one_file()
-    ensures law { OneFile }
-{}
-
-/// The law of inputs, which its contract states: the bytes of a netlist and the files of its libraries have one answer, the inputs of a
-/// design, or one reason why there are none, in which one of the modules that contain themselves may be named. It does nothing when it is
-/// called.
-#[tactic(auto, using(crate::proofs::OneDesign::one_inputs))]
-pub fn one_inputs()
-    ensures law { OneInputs }
-{}
-
-/// The law of linked designs, which its contract states: inputs that were read have one linked design, or one refusal. It does nothing
-/// when it is called.
-#[tactic(auto, using(crate::proofs::OneDesign::one_linking))]
-pub fn one_linking()
-    ensures law { OneLinking }
-{}
-
-/// The law of designs, which its contract states: the files of a netlist and of its libraries have one answer, a linked design, or one
-/// reason why there is none, in which one of the modules that contain themselves may be named. It does nothing when it is called.
-#[tactic(auto, using(crate::proofs::OneDesign::one_design))]
-pub fn one_design()
-    ensures law { OneDesign }
+/// The law of a design's delays, which its contract states: its files and settings have one answer at each set of corners, where the files
+/// are told. It is the design with its delays, or one reason why it has none, but for which resistor of a mesh, which of the modules that
+/// contain themselves and which loop is named, and for how an unreached node is spelled. It does nothing when it is called.
+pub fn one_annotation<C: CornerSet>()
+    ensures law { (pick : Pick) → OneAnnotation (corners_of C.COUNT C.number_of C.member_of pick) }
 {}

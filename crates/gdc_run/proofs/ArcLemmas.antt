@@ -26,12 +26,12 @@ use Rattle.gdc_run.specs.declared.arc_rows.ArcRow.{ArcRow}
 use Rattle.gdc_run.specs.declared.arc_rows.Looked.{Looked}
 use Rattle.cell_models.specs.declared.edge.Edge.{Edge}
 use Rattle.cell_models.specs.declared.edge.Part.{Part}
-use Rattle.delay_core.specs.declared.refusal.Refusal.{Refusal}
-use Rattle.delay_core.specs.declared.refusal.Refusal.TheVariants as refusal
+use Rattle.refusals.specs.declared.refusal.Refusal.{Refusal}
+use Rattle.refusals.specs.declared.refusal.Refusal.TheVariants as refusal
 use Rattle.gdc_run.specs.ArcRows.{ArcEdge, IsNamed, edges_of, arc_edges, IsArcRow, HasValues, IsEdgeEnd, IsEdgeRefusal, IsFirstRefused, AddsEdges, CellGives, all_valued, some_refused, outside_at, past_time_at}
-use Rattle.delay_core.specs.SpefWork.{is_early}
+use Rattle.refusals.specs.EarlyRefusals.{is_early}
 use Rattle.gdc_run.specs.Looking.{IsLooked, IsRowOf}
-use Rattle.delay_core.specs.Refused.{OnRefusal}
+use Rattle.refusals.specs.Refused.{OnRefusal}
 
 zip_append : {X Y : Type 0} (R : X → Y → Type 0) (xs more : List X) (ys others : List Y) → AllZip R xs ys → AllZip R more others → AllZip R (xs ++ more) (ys ++ others)
 zip_append R [] more [] others are then = then

@@ -18,20 +18,20 @@ use Rattle.gdc_words.specs.declared.commands.Key.{Key}
 use Rattle.gdc_words.specs.declared.commands.Key.TheVariants as asked_key
 use Rattle.gdc_words.specs.declared.commands.Libraries.{Libraries}
 use Rattle.gdc_words.specs.declared.commands.Libraries.TheVariants.{One, EachCorner}
-use Rattle.delay_core.specs.DesignReading.{ReadInputs}
-use Rattle.delay_core.specs.LibraryReading.{library_key}
-use Rattle.delay_core.specs.Refused.{AtReadFault}
-use Rattle.delay_core.specs.SpefPhases.{sole_corner}
-use Rattle.delay_core.specs.SpefWork.{IsWithin}
-use Rattle.delay_core.specs.declared.refusal.FileKey.{FileKey}
-use Rattle.delay_core.specs.declared.refusal.FileKey.TheVariants.{Netlist, Spef}
-use Rattle.delay_core.specs.declared.refusal.Refusal.{Refusal}
-use Rattle.delay_core.proofs.DesignLemmas.{inputs_stop}
-use Rattle.delay_core.proofs.Places.{some_is}
-use Rattle.delay_annotation.specs.Annotation.{AnnotatesFrom, at_spef, Annotates, at_netlist, at_inputs, at_design, files_read, key_of_file, IsAnnotationFault}
-use Rattle.delay_annotation.specs.AnnotationWork.{FilesWork}
-use Rattle.delay_annotation.specs.declared.settings.Files.{Files}
-use Rattle.delay_annotation.specs.declared.settings.Settings.{Settings}
+use Rattle.design_phases.specs.DesignReading.{ReadInputs}
+use Rattle.design_phases.specs.LibraryReading.{library_key}
+use Rattle.refusals.specs.Refused.{AtReadFault}
+use Rattle.wire_phases.specs.SpefPhases.{sole_corner}
+use Rattle.wire_phases.specs.SpefWork.{IsWithin}
+use Rattle.refusals.specs.declared.refusal.FileKey.{FileKey}
+use Rattle.refusals.specs.declared.refusal.FileKey.TheVariants.{Netlist, Spef}
+use Rattle.refusals.specs.declared.refusal.Refusal.{Refusal}
+use Rattle.design_phases.proofs.DesignLemmas.{inputs_stop}
+use Rattle.refusals.proofs.Places.{some_is}
+use Rattle.delay_core.specs.Annotation.{AnnotatesFrom, at_spef, Annotates, at_netlist, at_inputs, at_design, files_read, key_of_file, IsAnnotationFault}
+use Rattle.delay_core.specs.AnnotationWork.{FilesWork}
+use Rattle.delay_core.specs.declared.settings.Files.{Files}
+use Rattle.delay_core.specs.declared.settings.Settings.{Settings}
 use Rattle.gdc_run.specs.Calculation.{each_corner, corner_count, library_names, files_with, settings_at, ReadsSettings, AreSettingsOf, DesignGives, CalcGives, CalcWork, no_settings, of_settings}
 use Rattle.gdc_run.specs.Outcomes.{name_of, place_in_calc, place_for, HasCause}
 use Rattle.gdc_run.specs.Verdict.{CalcOutput}

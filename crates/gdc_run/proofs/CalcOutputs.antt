@@ -8,10 +8,10 @@ use Rattle.verdict_phases.specs.Phases.{Stop, Step, Go, Halt}
 use Rattle.gdc_words.specs.CommandLine.{Request, libraries_of}
 use Rattle.gdc_words.specs.declared.commands.Libraries.{Libraries}
 use Rattle.gdc_words.specs.declared.commands.Libraries.TheVariants.{One, EachCorner}
-use Rattle.delay_core.specs.SpefPhases.{sole_corner}
-use Rattle.delay_core.specs.SpefWork.{IsWithin}
-use Rattle.delay_core.specs.declared.refusal.FileKey.{FileKey}
-use Rattle.delay_core.specs.declared.refusal.Refusal.{Refusal}
+use Rattle.wire_phases.specs.SpefPhases.{sole_corner}
+use Rattle.wire_phases.specs.SpefWork.{IsWithin}
+use Rattle.refusals.specs.declared.refusal.FileKey.{FileKey}
+use Rattle.refusals.specs.declared.refusal.Refusal.{Refusal}
 use Rattle.gdc_run.specs.Calculation.{each_corner, corner_count, files_with, files_from, CalcGives, CalcWork}
 use Rattle.gdc_run.specs.Verdict.{CalcOutput}
 use Rattle.gdc_run.specs.Work.{OutputWork}

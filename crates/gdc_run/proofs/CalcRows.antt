@@ -26,13 +26,13 @@ use Rattle.annotation_rows.specs.SdfEnds.{pin_name}
 use Rattle.annotation_rows.specs.SpelledRows.{AreNamesSpelled, AreRowsSpelled}
 use Rattle.annotation_rows.proofs.PrintedRows.{printed_rows}
 use Rattle.annotation_rows.proofs.SpelledRows.{spelled_rows}
-use Rattle.delay_core.specs.DesignReading.{ReadInputs, LinkedDesign, ReadsInputs, with_inputs, LinksInputs, with_netlist}
-use Rattle.delay_core.specs.LinkPhase.{LinksDesign, is_linked}
-use Rattle.delay_core.specs.NetlistPhase.{ParsesNetlist, is_netlist}
-use Rattle.delay_annotation.specs.AnnotatedDesigns.{AnnotatedDesign, PartsAgree}
-use Rattle.delay_annotation.specs.Annotation.{AnnotatesFrom, with_delays, Annotates, is_annotated}
-use Rattle.delay_annotation.specs.declared.settings.Files.{Files}
-use Rattle.delay_annotation.specs.declared.settings.Settings.{Settings}
+use Rattle.design_phases.specs.DesignReading.{ReadInputs, LinkedDesign, ReadsInputs, with_inputs, LinksInputs, with_netlist}
+use Rattle.design_phases.specs.LinkPhase.{LinksDesign, is_linked}
+use Rattle.design_phases.specs.NetlistPhase.{ParsesNetlist, is_netlist}
+use Rattle.delay_core.specs.AnnotatedDesigns.{AnnotatedDesign, PartsAgree}
+use Rattle.delay_core.specs.Annotation.{AnnotatesFrom, with_delays, Annotates, is_annotated}
+use Rattle.delay_core.specs.declared.settings.Files.{Files}
+use Rattle.delay_core.specs.declared.settings.Settings.{Settings}
 
 -- ---- names
 

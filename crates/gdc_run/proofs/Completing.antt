@@ -11,8 +11,8 @@ use Rattle.gdc_words.specs.declared.commands.Shape.{Shape}
 use Rattle.gdc_words.specs.declared.faults.UsageFault.{UsageFault}
 use Rattle.gdc_words.proofs.Pairs.{one_request}
 use Rattle.spef_nets.specs.Sections.{Corners}
-use Rattle.delay_core.specs.declared.refusal.FileKey.{FileKey}
-use Rattle.delay_core.specs.declared.refusal.FileKey.TheVariants.{Netlist, Lib, LibMin, LibTyp, LibMax, Spef, Sdf}
+use Rattle.refusals.specs.declared.refusal.FileKey.{FileKey}
+use Rattle.refusals.specs.declared.refusal.FileKey.TheVariants.{Netlist, Lib, LibMin, LibTyp, LibMax, Spef, Sdf}
 use Rattle.gdc_run.specs.declared.outcome.Outcome.{Outcome}
 use Rattle.gdc_run.specs.declared.outcome.Outcome.TheVariants.{Done, Refused, Usage, ReadFault, WriteFault, OutOfMemory}
 use Rattle.gdc_words.specs.CommandLine.{Request, Asks, libraries_of}

@@ -11,7 +11,7 @@ use Rattle.netlist_link.specs.FlatPins.{pins_of}
 use Rattle.netlist_link.specs.Linked.{IsLinked}
 use Rattle.netlist_link.specs.declared.ends.End.{End}
 use Rattle.netlist_link.specs.declared.ends.End.TheVariants as end
-use Rattle.delay_core.proofs.Places.{some_is, within, at_contains, map_get, stood}
+use Rattle.refusals.proofs.Places.{some_is, within, at_contains, map_get, stood}
 
 module _ (cells : List NamedCells) (netlist : FlatNetlist) where
   -- an end that the netlist has

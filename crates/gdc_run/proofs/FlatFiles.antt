@@ -8,10 +8,10 @@ use Rattle.gdc_words.specs.CommandLine.{Request, libraries_of, value_of}
 use Rattle.gdc_words.specs.declared.commands.Command.{Command}
 use Rattle.gdc_words.specs.declared.commands.Command.TheVariants.{Flat}
 use Rattle.gdc_words.specs.declared.commands.Key.TheVariants as key
-use Rattle.delay_core.specs.DesignReading.{input_key, IsInputFault}
-use Rattle.delay_core.specs.declared.refusal.FileKey.{FileKey}
-use Rattle.delay_core.proofs.DesignLemmas.{comes_to}
-use Rattle.delay_core.proofs.Places.{some_is}
+use Rattle.design_phases.specs.DesignReading.{input_key, IsInputFault}
+use Rattle.refusals.specs.declared.refusal.FileKey.{FileKey}
+use Rattle.design_phases.proofs.DesignLemmas.{comes_to}
+use Rattle.refusals.proofs.Places.{some_is}
 use Rattle.gdc_run.specs.Outcomes.{name_of, place_for, HasCause}
 use Rattle.gdc_run.specs.Verdict.{FlatGives}
 

@@ -4,7 +4,7 @@ use Rattle.std.specs.Prelude.{slice_get, codes}
 use Rattle.std.proofs.lemmas.Option.{get_or_from_slice_get}
 use Rattle.cell_models.specs.NamedSets.{NamedCells, set_names}
 use Rattle.netlist_link.specs.FlatNetlist.{FlatNetlist, instance_at}
-use Rattle.delay_core.specs.DesignReading.{LinkedDesign}
+use Rattle.design_phases.specs.DesignReading.{LinkedDesign}
 use Rattle.gdc_run.specs.FlatText.{instance_line}
 
 pub instance_written : (design : LinkedDesign) (netlist : FlatNetlist) (cells : List NamedCells) (i cell : ℕ) (text name bytes : List ℕ) → netlist ≡ design.netlist → cells ≡ design.cells → text ≡ (instance_at netlist i).text

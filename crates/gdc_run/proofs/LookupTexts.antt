@@ -5,12 +5,12 @@ use Rattle.nldm_lookup.specs.declared.beyond.Beyond.{Beyond}
 use Rattle.verdict_phases.specs.Phases.{Stop, RefusedBy, Step, Go, Halt, Follows}
 use Rattle.verdict_phases.specs.declared.ends.PhaseEnd.{PhaseEnd}
 use Rattle.verdict_phases.specs.declared.ends.PhaseEnd.TheVariants as phase
-use Rattle.delay_core.specs.InputFiles.{ReadsInput}
-use Rattle.delay_core.specs.declared.refusal.FileKey.{FileKey}
-use Rattle.delay_core.specs.declared.refusal.FileKey.TheVariants.{Lib}
-use Rattle.delay_core.specs.declared.refusal.Refusal.{Refusal}
+use Rattle.refusals.specs.InputFiles.{ReadsInput}
+use Rattle.refusals.specs.declared.refusal.FileKey.{FileKey}
+use Rattle.refusals.specs.declared.refusal.FileKey.TheVariants.{Lib}
+use Rattle.refusals.specs.declared.refusal.Refusal.{Refusal}
 use Rattle.gdc_run.specs.declared.arc_rows.ArcRow.{ArcRow}
-use Rattle.delay_core.specs.Refused.{WithoutFile}
+use Rattle.refusals.specs.Refused.{WithoutFile}
 use Rattle.gdc_run.specs.Verdict.{ReadsArcs, LookupGives, at_library_reading, at_arcs, with_arc_rows}
 
 -- the library of the one corner is read

@@ -15,16 +15,16 @@ use Rattle.verdict_phases.specs.Phases.{Follows}
 use Rattle.verdict_phases.specs.declared.ends.PhaseEnd.{PhaseEnd}
 use Rattle.verdict_phases.specs.declared.ends.PhaseEnd.TheVariants as phase
 use Rattle.gdc_words.specs.declared.commands.Shape.{Shape}
-use Rattle.delay_core.specs.Refused.{AtReadFault}
-use Rattle.delay_core.specs.SpefPhases.{sole_corner}
-use Rattle.delay_core.specs.SpefWork.{IsWithin}
-use Rattle.delay_core.specs.declared.refusal.FileKey.{FileKey}
-use Rattle.delay_core.specs.declared.refusal.Refusal.{Refusal}
-use Rattle.delay_core.proofs.Places.{some_is}
-use Rattle.delay_annotation.specs.Annotation.{files_read, IsAnnotationFault}
-use Rattle.delay_annotation.specs.AnnotationWork.{FilesWork, no_inputs}
-use Rattle.delay_annotation.specs.declared.settings.Files.{Files}
-use Rattle.delay_annotation.specs.declared.settings.Settings.{Settings}
+use Rattle.refusals.specs.Refused.{AtReadFault}
+use Rattle.wire_phases.specs.SpefPhases.{sole_corner}
+use Rattle.wire_phases.specs.SpefWork.{IsWithin}
+use Rattle.refusals.specs.declared.refusal.FileKey.{FileKey}
+use Rattle.refusals.specs.declared.refusal.Refusal.{Refusal}
+use Rattle.refusals.proofs.Places.{some_is}
+use Rattle.delay_core.specs.Annotation.{files_read, IsAnnotationFault}
+use Rattle.delay_core.specs.AnnotationWork.{FilesWork, no_inputs}
+use Rattle.delay_core.specs.declared.settings.Files.{Files}
+use Rattle.delay_core.specs.declared.settings.Settings.{Settings}
 use Rattle.gdc_run.specs.Calculation.{DesignGives}
 use Rattle.gdc_run.specs.Trial.{trial_files, trial_held, trial_names, trial_settings, TrialRows, TrialWork}
 

@@ -12,16 +12,16 @@ use Rattle.gdc_words.specs.declared.commands.Libraries.TheVariants.{One, EachCor
 use Rattle.sdf_writer.specs.SdfText.{SdfRows}
 use Rattle.spef_nets.specs.Sections.{Corners}
 use Rattle.verdict_phases.specs.Phases.{Step}
-use Rattle.delay_core.specs.OneStep.{HasOneAnswer}
-use Rattle.delay_core.specs.SpefPhases.{sole_corner}
-use Rattle.delay_core.specs.declared.refusal.FileKey.{FileKey}
-use Rattle.delay_core.specs.declared.refusal.Refusal.{Refusal}
-use Rattle.delay_core.proofs.OneNet.{AreNumbered, sole_numbered}
-use Rattle.delay_core.proofs.Places.{some_is}
-use Rattle.delay_annotation.specs.Annotation.{Annotates}
-use Rattle.delay_annotation.specs.declared.settings.Files.{Files}
-use Rattle.delay_annotation.specs.declared.settings.Settings.{Settings}
-use Rattle.delay_annotation.proofs.OneAnnotation.{one_annotation}
+use Rattle.refusals.specs.OneStep.{HasOneAnswer}
+use Rattle.wire_phases.specs.SpefPhases.{sole_corner}
+use Rattle.refusals.specs.declared.refusal.FileKey.{FileKey}
+use Rattle.refusals.specs.declared.refusal.Refusal.{Refusal}
+use Rattle.wire_phases.proofs.OneNet.{AreNumbered, sole_numbered}
+use Rattle.refusals.proofs.Places.{some_is}
+use Rattle.delay_core.specs.Annotation.{Annotates}
+use Rattle.delay_core.specs.declared.settings.Files.{Files}
+use Rattle.delay_core.specs.declared.settings.Settings.{Settings}
+use Rattle.delay_core.proofs.OneAnnotation.{one_annotation}
 use Rattle.gdc_run.specs.Calculation.{each_corner, files_with, settings_at, ReadsSettings, CalcGives}
 use Rattle.gdc_run.specs.Putting.{As}
 use Rattle.gdc_run.specs.Verdict.{CalcOutput}

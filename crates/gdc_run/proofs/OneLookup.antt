@@ -29,19 +29,19 @@ use Rattle.gdc_run.specs.declared.arc_rows.ArcRow.{ArcRow}
 use Rattle.cell_models.specs.declared.edge.Edge.{Edge}
 use Rattle.cell_models.specs.declared.edge.Edge.TheVariants.{Rise, Fall}
 use Rattle.cell_models.specs.declared.edge.Part.{Part}
-use Rattle.delay_core.specs.declared.refusal.Refusal.{Refusal}
-use Rattle.delay_core.specs.declared.refusal.Refusal.TheVariants as refusal
+use Rattle.refusals.specs.declared.refusal.Refusal.{Refusal}
+use Rattle.refusals.specs.declared.refusal.Refusal.TheVariants as refusal
 use Rattle.gdc_run.specs.ArcRows.{ArcEdge, edge_of, edges_of, arc_edges, IsNamed, IsArcRow, HasValues, IsEdgeEnd, at_delay, at_transition, IsEdgeRefusal, outside_at, past_time_at, IsFirstRefused, AddsEdges, CellGives, all_valued, some_refused}
-use Rattle.delay_core.specs.LibraryPhases.{ParsesLibrary, ModelsCell, has_model}
-use Rattle.delay_core.specs.LibraryReading.{library_key}
+use Rattle.design_phases.specs.LibraryPhases.{ParsesLibrary, ModelsCell, has_model}
+use Rattle.design_phases.specs.LibraryReading.{library_key}
 use Rattle.gdc_run.specs.Verdict.{ReadsLib, ReadsArcs, at_library, at_cell, of_cell, LookupGives, at_library_reading, at_arcs, with_arc_rows}
-use Rattle.delay_core.specs.OneStep.{HasOneAnswer}
-use Rattle.delay_core.proofs.OneLibrary.{one_library_lem, one_cell_lem}
+use Rattle.refusals.specs.OneStep.{HasOneAnswer}
+use Rattle.design_phases.proofs.OneLibrary.{one_library_lem, one_cell_lem}
 use Rattle.rc_tree.proofs.NetShapes.{first_without}
-use Rattle.delay_core.specs.Refused.{WithoutFile}
-use Rattle.delay_core.proofs.OneChain.{Steps, Then, stops, goes, one_plain, same_answers, one_then, one_by}
-use Rattle.delay_core.proofs.OneText.{one_file}
-use Rattle.delay_core.proofs.Places.{some_is}
+use Rattle.refusals.specs.Refused.{WithoutFile}
+use Rattle.refusals.proofs.OneChain.{Steps, Then, stops, goes, one_plain, same_answers, one_then, one_by}
+use Rattle.refusals.proofs.OneText.{one_file}
+use Rattle.refusals.proofs.Places.{some_is}
 
 -- ---- the slew and the load that are asked for
 

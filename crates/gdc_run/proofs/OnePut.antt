@@ -1,9 +1,9 @@
 -- What is put into what is written is one where the phases have one answer.
 use Rattle.std.proofs.Common.{sym, ap, ◌∙◌}
 use Rattle.verdict_phases.specs.Phases.{Step, Go, Halt}
-use Rattle.delay_core.specs.OneStep.{HasOneAnswer}
-use Rattle.delay_core.specs.declared.refusal.FileKey.{FileKey}
-use Rattle.delay_core.specs.declared.refusal.Refusal.{Refusal}
+use Rattle.refusals.specs.OneStep.{HasOneAnswer}
+use Rattle.refusals.specs.declared.refusal.FileKey.{FileKey}
+use Rattle.refusals.specs.declared.refusal.Refusal.{Refusal}
 use Rattle.gdc_run.specs.Putting.{As}
 
 pub one_put : {A B : Type 0} (put : A → B) (phase : Step Refusal FileKey A → Type 0) → HasOneAnswer phase → HasOneAnswer (As put phase)

@@ -5,13 +5,13 @@ use Rattle.sdf_reader.specs.declared.rows.SdfRow.{SdfRow}
 use Rattle.verdict_phases.specs.Phases.{Step}
 use Rattle.gdc_words.specs.CommandLine.{Request}
 use Rattle.gdc_words.specs.declared.commands.Shape.{Shape}
-use Rattle.delay_core.specs.OneStep.{HasOneAnswer}
-use Rattle.delay_core.specs.SpefPhases.{sole_corner}
-use Rattle.delay_core.specs.declared.refusal.FileKey.{FileKey}
-use Rattle.delay_core.specs.declared.refusal.Refusal.{Refusal}
-use Rattle.delay_core.proofs.OneChain.{Steps, one_by}
-use Rattle.delay_core.proofs.OneNet.{sole_numbered}
-use Rattle.delay_core.proofs.Places.{some_is}
+use Rattle.refusals.specs.OneStep.{HasOneAnswer}
+use Rattle.wire_phases.specs.SpefPhases.{sole_corner}
+use Rattle.refusals.specs.declared.refusal.FileKey.{FileKey}
+use Rattle.refusals.specs.declared.refusal.Refusal.{Refusal}
+use Rattle.refusals.proofs.OneChain.{Steps, one_by}
+use Rattle.wire_phases.proofs.OneNet.{sole_numbered}
+use Rattle.refusals.proofs.Places.{some_is}
 use Rattle.gdc_run.specs.Putting.{As}
 use Rattle.gdc_run.specs.Trial.{trial_files, trial_held, trial_names, trial_settings, TrialRows, TrialGives, is_refused, is_read_back, ReadsTrial}
 use Rattle.gdc_run.specs.declared.output.Output.{Output}

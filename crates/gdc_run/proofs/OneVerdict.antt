@@ -11,18 +11,18 @@ use Rattle.gdc_words.specs.declared.commands.Command.TheVariants.{Wires, Calc, S
 use Rattle.gdc_words.specs.declared.commands.Key.TheVariants as key
 use Rattle.gdc_words.specs.declared.faults.UsageFault.{UsageFault}
 use Rattle.gdc_words.proofs.Pairs.{one_request}
-use Rattle.delay_core.specs.declared.refusal.FileKey.{FileKey}
-use Rattle.delay_core.specs.declared.refusal.FileKey.TheVariants.{Sdf}
-use Rattle.delay_core.specs.declared.refusal.Refusal.{Refusal}
-use Rattle.delay_core.specs.declared.refusal.Refusal.TheVariants.{SdfSyntax}
+use Rattle.refusals.specs.declared.refusal.FileKey.{FileKey}
+use Rattle.refusals.specs.declared.refusal.FileKey.TheVariants.{Sdf}
+use Rattle.refusals.specs.declared.refusal.Refusal.{Refusal}
+use Rattle.refusals.specs.declared.refusal.Refusal.TheVariants.{SdfSyntax}
 use Rattle.gdc_run.specs.declared.output.Output.{Output}
 use Rattle.gdc_run.specs.declared.output.Output.TheVariants as output
-use Rattle.delay_core.specs.OneStep.{HasOneAnswer}
-use Rattle.delay_core.specs.SpefPhases.{sole_corner}
-use Rattle.delay_core.proofs.OneDesign.{one_design}
-use Rattle.delay_core.specs.Refused.{WithoutFile}
-use Rattle.delay_core.proofs.OneChain.{Steps, Then, stops, goes, one_plain, same_answers, one_then, one_made, one_by}
-use Rattle.delay_core.proofs.OneText.{one_file}
+use Rattle.refusals.specs.OneStep.{HasOneAnswer}
+use Rattle.wire_phases.specs.SpefPhases.{sole_corner}
+use Rattle.design_phases.proofs.OneDesign.{one_design}
+use Rattle.refusals.specs.Refused.{WithoutFile}
+use Rattle.refusals.proofs.OneChain.{Steps, Then, stops, goes, one_plain, same_answers, one_then, one_made, one_by}
+use Rattle.refusals.proofs.OneText.{one_file}
 use Rattle.gdc_run.specs.Verdict.{ParsesSdf, is_sdf_file, is_no_sdf_file, ReadsSdf, ShowGives, WiresGives, LookupGives, FlatGives, at_sdf_reading, at_sdf, with_sdf_rows, CommandGives, Faulty, Answers}
 use Rattle.gdc_run.specs.Putting.{As}
 use Rattle.gdc_run.specs.OneVerdict.{OneVerdict}

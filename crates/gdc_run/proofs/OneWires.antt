@@ -7,20 +7,20 @@ use Rattle.sdf_writer.specs.SdfText.{SdfRows}
 use Rattle.spef_text.specs.SpefFiles.{SpefText}
 use Rattle.spef_text.specs.Heads.{HeadText}
 use Rattle.spef_nets.specs.NetElements.{NetElements, AreWhole}
-use Rattle.delay_core.specs.declared.refusal.FileKey.TheVariants.{Spef}
-use Rattle.delay_core.specs.declared.refusal.Refusal.{Refusal}
-use Rattle.delay_core.specs.OneAnswer.{SameAnswer}
-use Rattle.delay_core.specs.SpefPhases.{sole_corner, DesignNets, NetsSpef, are_nets, ReadsNets, through, ReadsSpefFile}
-use Rattle.delay_core.specs.WireNets.{RowsOf}
-use Rattle.delay_core.specs.WireRows.{TextGives, unread, of_design}
+use Rattle.refusals.specs.declared.refusal.FileKey.TheVariants.{Spef}
+use Rattle.refusals.specs.declared.refusal.Refusal.{Refusal}
+use Rattle.refusals.specs.SameAnswers.{SameAnswer}
+use Rattle.wire_phases.specs.SpefPhases.{sole_corner, DesignNets, NetsSpef, are_nets, ReadsNets, through, ReadsSpefFile}
+use Rattle.wire_phases.specs.WireNets.{RowsOf}
+use Rattle.wire_phases.specs.WireRows.{TextGives, unread, of_design}
 use Rattle.gdc_run.specs.Verdict.{WiresGives, at_reading, at_spef, at_nets, with_rows}
-use Rattle.delay_core.specs.OneStep.{HasOneAnswer}
-use Rattle.delay_core.proofs.OneSpefFile.{one_file_refusal, no_design_beside, one_design}
-use Rattle.delay_core.proofs.OneNet.{sole_numbered}
-use Rattle.delay_core.proofs.OneRows.{one_rows}
-use Rattle.delay_core.specs.Refused.{WithoutFile}
-use Rattle.delay_core.proofs.OneChain.{Steps, Then, stops, goes, one_plain, one_then, one_by}
-use Rattle.delay_core.proofs.OneText.{one_file}
+use Rattle.refusals.specs.OneStep.{HasOneAnswer}
+use Rattle.wire_phases.proofs.OneSpefFile.{one_file_refusal, no_design_beside, one_design}
+use Rattle.wire_phases.proofs.OneNet.{sole_numbered}
+use Rattle.wire_phases.proofs.OneRows.{one_rows}
+use Rattle.refusals.specs.Refused.{WithoutFile}
+use Rattle.refusals.proofs.OneChain.{Steps, Then, stops, goes, one_plain, one_then, one_by}
+use Rattle.refusals.proofs.OneText.{one_file}
 
 whole_nets : (pick : Pick) (file : SpefText) (head : HeadText) (nets : List NetElements) → NetsSpef (sole_corner pick) file head (Ok nets) → All (AreWhole 1) nets
 whole_nets pick file head nets (are_nets same faultless are whole) = whole

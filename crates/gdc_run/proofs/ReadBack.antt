@@ -26,18 +26,18 @@ use Rattle.spef_nets.specs.NetElements.{NetElements, AreWhole}
 use Rattle.spef_text.specs.SpefFiles.{SpefText, IsFormed}
 use Rattle.spef_text.specs.Heads.{HeadText}
 use Rattle.verdict_phases.specs.Phases.{Go}
-use Rattle.delay_core.specs.AnnotationRows.{Wire, IsWireDelay, IsAnnotationRow}
+use Rattle.wire_phases.specs.AnnotationRows.{Wire, IsWireDelay, IsAnnotationRow}
 use Rattle.gdc_run.specs.Outcomes.{OnDone, GivesText, GivesFit, GivesReadable}
 use Rattle.gdc_run.specs.ReadBack.{HasNoComment, IsFitFor, IsReadable, IsAlwaysReadable}
-use Rattle.delay_core.specs.SpefPhases.{sole_corner, DesignNets, ParsesSpef, is_spef, NetsSpef, are_nets, ReadsNets, through}
+use Rattle.wire_phases.specs.SpefPhases.{sole_corner, DesignNets, ParsesSpef, is_spef, NetsSpef, are_nets, ReadsNets, through}
 use Rattle.gdc_run.specs.Verdict.{WiresGives, with_rows, CommandGives}
-use Rattle.delay_core.specs.WireNets.{HasDriver, NetGives, is_tree, NetsGive, no_net, and_net}
+use Rattle.wire_phases.specs.WireNets.{HasDriver, NetGives, is_tree, NetsGive, no_net, and_net}
 use Rattle.gdc_run.specs.declared.outcome.Outcome.{Outcome}
 use Rattle.gdc_run.specs.declared.outcome.Outcome.TheVariants.{Done, Refused, Usage, ReadFault, WriteFault, OutOfMemory}
 use Rattle.gdc_run.specs.declared.output.Output.{Output}
 use Rattle.gdc_run.specs.declared.output.Output.TheVariants as output
-use Rattle.delay_core.proofs.OneRows.{IsNamed, driver_named, sinks_named}
-use Rattle.delay_core.proofs.Places.{at_contains}
+use Rattle.wire_phases.proofs.OneRows.{IsNamed, driver_named, sinks_named}
+use Rattle.refusals.proofs.Places.{at_contains}
 use Rattle.gdc_run.proofs.SettledNames.{Settles, nets_settle}
 use Rattle.gdc_run.proofs.SmallDelays.{delay_within}
 

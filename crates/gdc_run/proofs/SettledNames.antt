@@ -19,8 +19,8 @@ use Rattle.spef_nets.specs.Nodes.{name_in, indexed_node, named, node_at}
 use Rattle.spef_nets.specs.NetElements.{NetElements, AreWhole}
 use Rattle.spef_nets.specs.Sections.{AreNets}
 use Rattle.spef_nets.proofs.EveryNode.{every_node}
-use Rattle.delay_core.specs.SpefPhases.{sole_corner}
-use Rattle.delay_core.proofs.Places.{some_is, got_below, index_is}
+use Rattle.wire_phases.specs.SpefPhases.{sole_corner}
+use Rattle.refusals.proofs.Places.{some_is, got_below, index_is}
 
 abbrev pub Settles : NodeName → Type 0
 Settles node = begins_comment node.sdf ≡ false → IsSettled node.sdf

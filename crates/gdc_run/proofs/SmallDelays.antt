@@ -24,7 +24,7 @@ use Rattle.rc_tree.specs.Nodes.{Node, node_of}
 use Rattle.rc_tree.specs.Pins.{Pins}
 use Rattle.rc_tree.specs.SectionNets.{section_node, sink_node, joint_at, on_net, net_elements}
 use Rattle.rc_tree.specs.Values.{farads_at, ohms_at}
-use Rattle.delay_core.specs.AnnotationRows.{IsWireDelay}
+use Rattle.wire_phases.specs.AnnotationRows.{IsWireDelay}
 
 -- a quotient of a small number is small, rounded
 rounded_small : (n : ℕ) (v : ℤ) → n ≤ 10 ^ 38 → IsRounding (pos n) (pos (10 ^ 12)) v → unsigned_abs v ≤ 10 ^ 27

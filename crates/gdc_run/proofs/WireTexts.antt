@@ -6,12 +6,12 @@ use Rattle.spef_nets.specs.Sections.{Corners}
 use Rattle.verdict_phases.specs.Phases.{RefusedBy, Go, Halt, Follows}
 use Rattle.verdict_phases.specs.declared.ends.PhaseEnd.{PhaseEnd}
 use Rattle.verdict_phases.specs.declared.ends.PhaseEnd.TheVariants as phase
-use Rattle.delay_core.specs.declared.refusal.FileKey.{FileKey}
-use Rattle.delay_core.specs.declared.refusal.Refusal.{Refusal}
-use Rattle.delay_core.specs.WireRows.{TextGives, unread, of_design}
-use Rattle.delay_core.specs.Refused.{WithoutFile}
+use Rattle.refusals.specs.declared.refusal.FileKey.{FileKey}
+use Rattle.refusals.specs.declared.refusal.Refusal.{Refusal}
+use Rattle.wire_phases.specs.WireRows.{TextGives, unread, of_design}
+use Rattle.refusals.specs.Refused.{WithoutFile}
 use Rattle.gdc_run.specs.Verdict.{WiresGives, at_spef, at_nets, with_rows}
-use Rattle.delay_core.specs.SpefPhases.{ReadsSpefFile}
+use Rattle.wire_phases.specs.SpefPhases.{ReadsSpefFile}
 
 text_refused : {I : Type 0} (corners : Corners I) (held : Option Held) (name bytes : List ℕ) (refusal : Refusal) → ReadsSpefFile held name (Go bytes) → TextGives corners bytes (Err refusal) → WiresGives corners held name (Halt (RefusedBy refusal))
 text_refused corners held name bytes refusal reads (unread its faulty) = at_spef bytes refusal reads faulty

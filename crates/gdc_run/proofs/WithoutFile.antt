@@ -3,9 +3,9 @@ use Rattle.std.proofs.Common.{Result, Ok, Err}
 use Rattle.verdict_phases.specs.Phases.{Follows}
 use Rattle.verdict_phases.specs.declared.ends.PhaseEnd.{PhaseEnd}
 use Rattle.verdict_phases.specs.declared.ends.PhaseEnd.TheVariants as phase
-use Rattle.delay_core.specs.declared.refusal.FileKey.{FileKey}
-use Rattle.delay_core.specs.declared.refusal.Refusal.{Refusal}
-use Rattle.delay_core.specs.Refused.{AtReadFault, WithoutFile}
+use Rattle.refusals.specs.declared.refusal.FileKey.{FileKey}
+use Rattle.refusals.specs.declared.refusal.Refusal.{Refusal}
+use Rattle.refusals.specs.Refused.{AtReadFault, WithoutFile}
 
 pub unfaulted : {A : Type 0} (gives : Result A Refusal → Type 0) (fact : FileKey → Type 0) (result : Result A (PhaseEnd Refusal FileKey)) → Follows (WithoutFile gives) result → AtReadFault result fact
 unfaulted gives fact (Ok value) follows = tt

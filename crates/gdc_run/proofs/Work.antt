@@ -16,12 +16,12 @@ use Rattle.cell_models.specs.Cells.{TimedCell}
 use Rattle.gdc_run.specs.Calculation.{no_settings}
 use Rattle.gdc_run.specs.ArcRows.{arc_edges}
 use Rattle.spef_nets.specs.Sections.{Corners}
-use Rattle.delay_core.specs.LibraryPhases.{ParsesLibrary, ModelsCell}
+use Rattle.design_phases.specs.LibraryPhases.{ParsesLibrary, ModelsCell}
 use Rattle.gdc_run.specs.Trial.{TrialWork}
-use Rattle.delay_core.specs.SpefWork.{TextWork, IsWithin}
+use Rattle.wire_phases.specs.SpefWork.{TextWork, IsWithin}
 use Rattle.gdc_run.proofs.LookupTexts.{ReadsSoleLibrary}
 use Rattle.gdc_run.specs.Work.{WiresWork, no_file, of_file, CellWork, no_model_yet, of_model, LookupWork, no_library, of_library, OutputWork, not_made, of_made, CommandWork, WordsWork, no_words, of_words}
-use Rattle.delay_core.specs.SpefPhases.{ReadsSpefFile}
+use Rattle.wire_phases.specs.SpefPhases.{ReadsSpefFile}
 
 pub no_file_work : {I : Type 0} (corners : Corners I) (held : Option Held) (name : List ℕ) (steps : ℕ) → IsWithin (WiresWork corners held name) steps steps
 no_file_work corners held name steps = record { work = 0; given = no_file; bound = omega arith }

@@ -19,8 +19,8 @@ use Rattle.cell_models.specs.declared.edge.Edge.{Edge}
 use Rattle.cell_models.specs.declared.edge.Edge.TheVariants.{Rise, Fall}
 use Rattle.cell_models.specs.declared.edge.Part.{Part}
 use Rattle.cell_models.specs.declared.edge.Part.TheVariants.{Delay, Transition}
-use Rattle.delay_core.specs.declared.refusal.Refusal.{Refusal}
-use Rattle.delay_core.specs.declared.refusal.Refusal.TheVariants as refusal
+use Rattle.refusals.specs.declared.refusal.Refusal.{Refusal}
+use Rattle.refusals.specs.declared.refusal.Refusal.TheVariants as refusal
 
 -- an edge that an arc has, with its tables
 pub record ArcEdge : Type 0 where

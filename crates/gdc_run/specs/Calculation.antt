@@ -11,12 +11,12 @@ use Rattle.gdc_words.specs.declared.commands.Libraries.TheVariants.{One, EachCor
 use Rattle.sdf_writer.specs.SdfText.{SdfRows}
 use Rattle.spef_nets.specs.Sections.{Corners}
 use Rattle.verdict_phases.specs.Phases.{Step}
-use Rattle.delay_core.specs.declared.refusal.FileKey.{FileKey}
-use Rattle.delay_core.specs.declared.refusal.Refusal.{Refusal}
-use Rattle.delay_annotation.specs.Annotation.{Annotates}
-use Rattle.delay_annotation.specs.AnnotationWork.{FilesWork}
-use Rattle.delay_annotation.specs.declared.settings.Files.{Files}
-use Rattle.delay_annotation.specs.declared.settings.Settings.{Settings}
+use Rattle.refusals.specs.declared.refusal.FileKey.{FileKey}
+use Rattle.refusals.specs.declared.refusal.Refusal.{Refusal}
+use Rattle.delay_core.specs.Annotation.{Annotates}
+use Rattle.delay_core.specs.AnnotationWork.{FilesWork}
+use Rattle.delay_core.specs.declared.settings.Files.{Files}
+use Rattle.delay_core.specs.declared.settings.Settings.{Settings}
 use Rattle.gdc_run.specs.Putting.{As}
 
 -- the corners `min`, `typ` and `max`, at each of which its own member of a triple counts, whichever is picked

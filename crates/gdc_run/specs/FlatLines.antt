@@ -1,7 +1,7 @@
 -- The lines of the text of a flat netlist, by the numbers of their instances and nets.
 use Rattle.std.specs.Prelude.{ℕ, ◌<◌, List, length}
 use Rattle.netlist_link.specs.FlatNetlist.{instance_at, net_at}
-use Rattle.delay_core.specs.DesignReading.{LinkedDesign}
+use Rattle.design_phases.specs.DesignReading.{LinkedDesign}
 use Rattle.gdc_run.specs.FlatText.{instance_line, net_line}
 use Rattle.gdc_run.specs.declared.flat_lines.Line.{Line}
 use Rattle.gdc_run.specs.declared.flat_lines.Line.TheVariants.{Instance, Net}

@@ -6,8 +6,8 @@ use Rattle.netlist_link.specs.FlatNetlist.{FlatInstance, FlatNet, instance_at, p
 use Rattle.netlist_link.specs.FlatPins.{pins_of}
 use Rattle.netlist_link.specs.declared.ends.End.{End}
 use Rattle.netlist_link.specs.declared.ends.End.TheVariants.{Port, Pin}
-use Rattle.delay_core.specs.DesignReading.{LinkedDesign}
-use Rattle.delay_core.specs.RefusalLine.{pin_text}
+use Rattle.design_phases.specs.DesignReading.{LinkedDesign}
+use Rattle.refusals.specs.RefusalLine.{pin_text}
 
 -- the name of a net; and how many sinks it has
 abbrev pub net_head : FlatNet → List ℕ

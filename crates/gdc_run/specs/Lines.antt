@@ -4,7 +4,7 @@ use Rattle.gdc_words.specs.declared.faults.UsageKind.{UsageKind}
 use Rattle.gdc_words.specs.declared.faults.UsageKind.TheVariants.{NoCommand, UnknownCommand, UnknownWord, Repeated, MissingValue, BadValue, Mixed, MissingKey}
 use Rattle.gdc_run.specs.declared.outcome.Outcome.{Outcome}
 use Rattle.gdc_run.specs.declared.outcome.Outcome.TheVariants.{Done, Refused, Usage, ReadFault, WriteFault, OutOfMemory}
-use Rattle.delay_core.specs.RefusalLine.{key_text, refusal_line}
+use Rattle.refusals.specs.RefusalLine.{key_text, refusal_line}
 
 -- the words of a fault of the command line
 abbrev pub kind_text : UsageKind → List ℕ

@@ -1,7 +1,7 @@
 -- That the verdict is one: what two verdicts on the same words and on the same files have in common.
 use Rattle.std.specs.Prelude.{◌≡◌, ℕ, List, Some}
 use Rattle.edge_io.specs.Holding.{Held}
-use Rattle.delay_core.specs.OneStep.{IsDecided, SameStep}
+use Rattle.refusals.specs.OneStep.{IsDecided, SameStep}
 use Rattle.gdc_run.specs.Verdict.{Verdict, Faulty, Answers, Gives}
 
 abbrev pub IsDecidedVerdict : Verdict → Type 0

@@ -9,7 +9,7 @@ use Rattle.gdc_run.specs.declared.output.Output.{Output}
 use Rattle.gdc_run.specs.declared.output.Output.TheVariants.{Sdf, SdfOfCorners, Listing, Summary, Arcs, Flat, Help, Version}
 use Rattle.gdc_run.specs.declared.arc_rows.ArcRow.{ArcRow}
 use Rattle.gdc_run.specs.FlatText.{flat_text}
-use Rattle.delay_core.specs.RefusalLine.{edge_text}
+use Rattle.refusals.specs.RefusalLine.{edge_text}
 
 -- the lines of rows, and then their summary
 abbrev pub listing_text : List SdfRow → List ℕ

@@ -21,12 +21,12 @@ use Rattle.gdc_words.specs.Sizes.{IsSize}
 use Rattle.gdc_words.specs.declared.commands.Key.TheVariants as key
 use Rattle.gdc_words.specs.declared.commands.Shape.{Shape}
 use Rattle.gdc_words.specs.declared.commands.Shape.TheVariants.{Chain, Block}
-use Rattle.delay_core.specs.SpefPhases.{sole_corner}
-use Rattle.delay_core.specs.declared.refusal.FileKey.{FileKey}
-use Rattle.delay_core.specs.declared.refusal.Refusal.{Refusal}
-use Rattle.delay_annotation.specs.AnnotationWork.{FilesWork}
-use Rattle.delay_annotation.specs.declared.settings.Files.{Files}
-use Rattle.delay_annotation.specs.declared.settings.Settings.{Settings}
+use Rattle.wire_phases.specs.SpefPhases.{sole_corner}
+use Rattle.refusals.specs.declared.refusal.FileKey.{FileKey}
+use Rattle.refusals.specs.declared.refusal.Refusal.{Refusal}
+use Rattle.delay_core.specs.AnnotationWork.{FilesWork}
+use Rattle.delay_core.specs.declared.settings.Files.{Files}
+use Rattle.delay_core.specs.declared.settings.Settings.{Settings}
 use Rattle.gdc_run.specs.Calculation.{DesignGives}
 
 -- the files of a shape and a size

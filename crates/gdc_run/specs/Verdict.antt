@@ -15,14 +15,14 @@ use Rattle.gdc_words.specs.declared.commands.Key.TheVariants as key
 use Rattle.gdc_words.specs.declared.commands.Libraries.{Libraries}
 use Rattle.gdc_words.specs.declared.commands.Libraries.TheVariants.{One, EachCorner}
 use Rattle.gdc_words.specs.declared.faults.UsageFault.{UsageFault}
-use Rattle.delay_core.specs.declared.refusal.FileKey.{FileKey}
-use Rattle.delay_core.specs.declared.refusal.FileKey.TheVariants.{Sdf}
-use Rattle.delay_core.specs.declared.refusal.Refusal.{Refusal}
-use Rattle.delay_core.specs.declared.refusal.Refusal.TheVariants.{SdfSyntax}
+use Rattle.refusals.specs.declared.refusal.FileKey.{FileKey}
+use Rattle.refusals.specs.declared.refusal.FileKey.TheVariants.{Sdf}
+use Rattle.refusals.specs.declared.refusal.Refusal.{Refusal}
+use Rattle.refusals.specs.declared.refusal.Refusal.TheVariants.{SdfSyntax}
 use Rattle.gdc_words.specs.CommandLine.{Request, Asks, libraries_of, value_of, pick_from, beyond_from}
-use Rattle.delay_core.specs.DesignReading.{LinkedDesign, ReadsDesign}
-use Rattle.delay_core.specs.InputFiles.{ReadsInput}
-use Rattle.delay_core.specs.SpefPhases.{sole_corner, DesignNets, ReadsNets, ReadsSpefFile}
+use Rattle.design_phases.specs.DesignReading.{LinkedDesign, ReadsDesign}
+use Rattle.refusals.specs.InputFiles.{ReadsInput}
+use Rattle.wire_phases.specs.SpefPhases.{sole_corner, DesignNets, ReadsNets, ReadsSpefFile}
 use Rattle.gdc_words.specs.Decimals.{IsGrains}
 use Rattle.liberty_groups.specs.Groups.{Group}
 use Rattle.nldm_lookup.specs.declared.beyond.Beyond.{Beyond}
@@ -32,10 +32,10 @@ use Rattle.gdc_run.specs.ArcRows.{CellGives}
 use Rattle.gdc_run.specs.Calculation.{each_corner, files_with, CalcGives}
 use Rattle.gdc_run.specs.Putting.{As}
 use Rattle.gdc_run.specs.Trial.{TrialGives, ReadsTrial}
-use Rattle.delay_core.specs.LibraryPhases.{ParsesLibrary, ModelsCell}
-use Rattle.delay_core.specs.LibraryReading.{library_key}
+use Rattle.design_phases.specs.LibraryPhases.{ParsesLibrary, ModelsCell}
+use Rattle.design_phases.specs.LibraryReading.{library_key}
 use Rattle.gdc_run.specs.declared.arc_rows.ArcRow.{ArcRow}
-use Rattle.delay_core.specs.WireNets.{RowsOf}
+use Rattle.wire_phases.specs.WireNets.{RowsOf}
 use Rattle.gdc_run.specs.declared.output.Output.{Output}
 use Rattle.gdc_run.specs.declared.output.Output.TheVariants as output
 

@@ -9,12 +9,13 @@ use Rattle.gdc_words.specs.declared.commands.Key.TheVariants as key
 use Rattle.gdc_words.specs.declared.commands.Libraries.{Libraries}
 use Rattle.gdc_words.specs.declared.commands.Libraries.TheVariants.{One, EachCorner}
 use Rattle.gdc_words.specs.CommandLine.{Request, Asks, libraries_of, value_of, pick_from}
-use Rattle.delay_core.specs.SpefPhases.{sole_corner, ReadsSpefFile}
+use Rattle.wire_phases.specs.SpefPhases.{sole_corner, ReadsSpefFile}
 use Rattle.gdc_run.specs.declared.outcome.Outcome.{Outcome}
 use Rattle.gdc_run.specs.declared.outcome.Outcome.TheVariants as outcome
 use Rattle.gdc_run.specs.declared.top.End.{End}
 use Rattle.gdc_run.specs.declared.top.End.TheVariants as end
-use Rattle.delay_core.specs.SpefWork.{TextWork, is_early}
+use Rattle.refusals.specs.EarlyRefusals.{is_early}
+use Rattle.wire_phases.specs.SpefWork.{TextWork}
 use Rattle.gdc_run.specs.Calculation.{each_corner, files_with, CalcWork}
 use Rattle.gdc_run.specs.Trial.{TrialWork, ReadsTrial}
 use Rattle.gdc_run.specs.Verdict.{ReadsLib}
@@ -22,7 +23,7 @@ use Rattle.liberty_groups.specs.Groups.{Group}
 use Rattle.cell_models.specs.Cells.{TimedCell}
 use Rattle.spef_nets.specs.Sections.{Corners}
 use Rattle.gdc_run.specs.ArcRows.{arc_edges}
-use Rattle.delay_core.specs.LibraryPhases.{ParsesLibrary, ModelsCell}
+use Rattle.design_phases.specs.LibraryPhases.{ParsesLibrary, ModelsCell}
 
 -- the work of `wires` at these corners: none before the SPEF file is read, and then that of its bytes
 pub data WiresWork {I : Type 0} (corners : Corners I) (held : Option Held) (name : List ℕ) : ℕ → Type 0 where

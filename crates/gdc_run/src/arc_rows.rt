@@ -2,15 +2,15 @@
 ghost use Rattle.std.specs.Prelude.{◌≡◌, ◌+◌, ◌*◌, ◌<◌, ◌≤◌, [], ◌∷◌, ◌++◌, ℤ, pos, ◌≤ℤ◌, length, unsigned_abs, IfOk, IfErr, OnOk};
 ghost use Rattle.verdict_phases.specs.Phases.{FollowsNoFile};
 ghost use Rattle.nldm_lookup.specs.Axes.{most};
-ghost use Rattle.delay_core.specs.Refused.{OnRefusal};
+ghost use Rattle.refusals.specs.Refused.{OnRefusal};
 ghost use Rattle.gdc_run.specs.ArcRows.{arc_edges, edge_of, edges_of, IsEdgeEnd, IsEdgeRefusal, IsFirstRefused, AddsEdges, CellGives};
 ghost use Rattle.gdc_run.specs.Looking.{IsLooked, IsRowOf};
 
 use cell_models::{Edge, Part};
-use delay_core::Refusal;
 use delay_units::{Atto, Farads};
 use edge_io::{OutOfMemory, Steps, Text};
 use nldm_lookup::{Beyond, Grain, LookupEnd};
+use refusals::Refusal;
 use std::alloc::Global;
 use std::marker::Model;
 use std::sync::ledger::Ledger;

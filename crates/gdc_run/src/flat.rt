@@ -1,13 +1,14 @@
 //! The command `flat`: the flat netlist of a design.
 ghost use Rattle.std.specs.Prelude.{◌≡◌, [], ◌∷◌, IfOk};
 ghost use Rattle.verdict_phases.specs.Phases.{Follows};
-ghost use Rattle.delay_core.specs.DesignReading.{IsInputFault};
-ghost use Rattle.delay_core.specs.Refused.{AtReadFault};
+ghost use Rattle.design_phases.specs.DesignReading.{IsInputFault};
+ghost use Rattle.refusals.specs.Refused.{AtReadFault};
 ghost use Rattle.gdc_run.specs.Verdict.{FlatGives};
 
 use corner_set::Single;
-use delay_core::{Design, FileKey, Refusal, read_design};
+use design_phases::{Design, read_design};
 use edge_io::{OutOfMemory, Shelf, Text, TextList};
+use refusals::{FileKey, Refusal};
 use std::alloc::Global;
 use verdict_phases::PhaseEnd;
 

@@ -8,7 +8,7 @@ ghost use Rattle.gdc_run.specs.FlatText.{net_head, net_end, instance_line, drive
 ghost use Rattle.gdc_run.specs.FlatLines.{HasLine, line_text};
 
 use corner_set::Single;
-use delay_core::Design;
+use design_phases::Design;
 use edge_io::{Failed, Sink, write_3, write_5, write_all};
 use itoa::Buffer;
 use netlist_link::End;

@@ -7,7 +7,7 @@ ghost use Rattle.gdc_run.specs.FlatLines.{HasLine, line_text};
 
 use crate::flat_lines::{Line, write_line};
 use corner_set::Single;
-use delay_core::Design;
+use design_phases::Design;
 use edge_io::{Failed, Sink, WaitingBytes};
 
 // Puts a line behind the bytes that wait, where there is room for all of it.

@@ -4,10 +4,10 @@ ghost use Rattle.edge_io.specs.Writing.{Writes};
 ghost use Rattle.gdc_run.specs.Lines.{kind_text, usage_line, line_of};
 
 use crate::outcome::Outcome;
-use delay_core::write_refusal;
 use edge_io::{Failed, Sink, write_2, write_3, write_5};
 use gdc_words::{UsageFault, UsageKind};
 use itoa::Buffer;
+use refusals::write_refusal;
 
 /// The words that the line has for a kind of fault.
 fn kind_text(kind: UsageKind) -> &'static [u8]

@@ -2,8 +2,8 @@
 ghost use Rattle.std.specs.Prelude.{◌≡◌};
 ghost use Rattle.gdc_run.specs.Statuses.{status_of};
 
-use delay_core::{FileKey, Refusal};
 use gdc_words::UsageFault;
+use refusals::{FileKey, Refusal};
 
 /// How a run ends.
 #[derive(Debug, Drop)]

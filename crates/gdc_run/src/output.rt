@@ -2,16 +2,17 @@
 ghost use Rattle.edge_io.specs.Writing.{Writes};
 ghost use Rattle.std.specs.Prelude.{◌≡◌, ◌≤◌, ◌^◌, ◌∷◌, ◌++◌, [], codes, take, unsigned_abs, flat_map};
 ghost use Rattle.delay_units.specs.Printing.{signed_fixed_text, atto_text};
-ghost use Rattle.delay_core.specs.RefusalLine.{edge_text};
+ghost use Rattle.refusals.specs.RefusalLine.{edge_text};
 ghost use Rattle.gdc_run.specs.Outputs.{listing_text, names_text, times_text, arc_line, arcs_text, output_text};
 
 use crate::arc_rows::{ArcRow, ArcRows};
 use crate::flat_text::write_flat;
 use corner_set::{Single, Triple};
-use delay_core::{Design, edge_word};
 use delay_units::{Femto, Text32, write_atto, write_femto};
+use design_phases::Design;
 use edge_io::{Failed, Sink, write_5, write_all};
 use gdc_words::{help_text, version_text};
+use refusals::edge_word;
 use sdf_reader::{SdfRows, print_rows, print_summary};
 use sdf_writer::{Rows, write};
 

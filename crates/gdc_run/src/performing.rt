@@ -1,12 +1,13 @@
 //! What each command does.
 ghost use Rattle.std.specs.Prelude.{◌≡◌, IfOk};
 ghost use Rattle.verdict_phases.specs.Phases.{Follows};
-ghost use Rattle.delay_core.specs.Refused.{AtReadFault};
+ghost use Rattle.refusals.specs.Refused.{AtReadFault};
 ghost use Rattle.gdc_words.specs.declared.commands.Command.TheVariants.{Trial};
 ghost use Rattle.gdc_run.specs.Outcomes.{HasCause};
 ghost use Rattle.gdc_run.specs.ReadBack.{IsFitFor};
 ghost use Rattle.gdc_run.specs.Verdict.{CommandGives};
-ghost use Rattle.delay_core.specs.SpefWork.{IsWithin, OnEarly};
+ghost use Rattle.refusals.specs.EarlyRefusals.{OnEarly};
+ghost use Rattle.wire_phases.specs.SpefWork.{IsWithin};
 ghost use Rattle.gdc_run.specs.Work.{CommandWork};
 
 use crate::arc_rows::Point;
@@ -17,9 +18,9 @@ use crate::output::Output;
 use crate::show::show;
 use crate::trial::trial;
 use crate::wires::wires;
-use delay_core::{FileKey, Refusal};
 use edge_io::{Shelf, Steps};
 use gdc_words::{Asked, Command, Key};
+use refusals::{FileKey, Refusal};
 use std::alloc::Global;
 use std::sync::ledger::Ledger;
 use verdict_phases::PhaseEnd;

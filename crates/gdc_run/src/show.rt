@@ -3,12 +3,12 @@ ghost use Rattle.std.specs.Prelude.{◌≡◌, ◌<◌, ◌≤◌, ◌^◌, ◌�
 ghost use Rattle.edge_io.specs.Counts.{Rose, RoseBy};
 ghost use Rattle.edge_io.specs.Holding.{TellsMissing};
 ghost use Rattle.verdict_phases.specs.Phases.{Follows, FollowsNoFile};
-ghost use Rattle.delay_core.specs.Refused.{AtReadFault};
+ghost use Rattle.refusals.specs.Refused.{AtReadFault};
 ghost use Rattle.gdc_run.specs.Verdict.{ParsesSdf, ShowGives};
-ghost use Rattle.delay_core.specs.declared.refusal.FileKey.TheVariants.{Sdf};
+ghost use Rattle.refusals.specs.declared.refusal.FileKey.TheVariants.{Sdf};
 
-use delay_core::{FileKey, Refusal, read_input};
 use edge_io::{Shelf, Text};
+use refusals::{FileKey, Refusal, read_input};
 use sdf_reader::{SdfEnd, SdfRows, read};
 use std::alloc::Global;
 use verdict_phases::{NoFileEnd, PhaseEnd};

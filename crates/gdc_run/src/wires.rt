@@ -3,21 +3,23 @@ ghost use Rattle.std.specs.Prelude.{◌≡◌, ◌^◌, ◌<◌, ◌⊎◌, leng
 ghost use Rattle.edge_io.specs.Counts.{Rose, RoseBy};
 ghost use Rattle.edge_io.specs.Holding.{TellsMissing};
 ghost use Rattle.verdict_phases.specs.Phases.{Follows};
-ghost use Rattle.delay_core.specs.Refused.{AtReadFault, WithoutFile};
-ghost use Rattle.delay_core.specs.declared.refusal.FileKey.TheVariants.{Spef};
+ghost use Rattle.refusals.specs.Refused.{AtReadFault, WithoutFile};
+ghost use Rattle.refusals.specs.declared.refusal.FileKey.TheVariants.{Spef};
 ghost use Rattle.gdc_run.specs.Verdict.{WiresGives};
-ghost use Rattle.delay_core.specs.SpefPhases.{sole_corner};
-ghost use Rattle.delay_core.specs.SpefWork.{TextWork, IsWithin, OnEarly};
-ghost use Rattle.delay_core.specs.WireRows.{TextGives};
+ghost use Rattle.wire_phases.specs.SpefPhases.{sole_corner};
+ghost use Rattle.refusals.specs.EarlyRefusals.{OnEarly};
+ghost use Rattle.wire_phases.specs.SpefWork.{TextWork, IsWithin};
+ghost use Rattle.wire_phases.specs.WireRows.{TextGives};
 ghost use Rattle.gdc_run.specs.Work.{WiresWork};
 
 use corner_set::{Pick, Single};
-use delay_core::{FileKey, Refusal, read_input, wire_rows_of_file};
 use edge_io::{Shelf, Steps, Text};
+use refusals::{FileKey, Refusal, read_input};
 use sdf_writer::Rows;
 use std::alloc::Global;
 use std::sync::ledger::Ledger;
 use verdict_phases::PhaseEnd;
+use wire_phases::wire_rows_of_file;
 
 // The rows of the wires of a SPEF file's text, where this member of each triple counts. No file is read here, so no end is a read fault.
 fn wires_of_text<L: Ledger>(

@@ -5,7 +5,7 @@ ghost use Rattle.slew_order.specs.Slews.{AreTablesOf};
 
 use cell_models::{Edge, Part};
 use corner_set::Single;
-use delay_core::{Design, read_design};
+use design_phases::{Design, read_design};
 use delay_units::{Atto, Farads};
 use edge_io::{MemShelf, OutOfMemory, Steps, Text, TextList};
 use netlist_link::Netlist;

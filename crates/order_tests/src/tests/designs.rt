@@ -8,7 +8,7 @@ use crate::tests::asking::{
 };
 use cell_models::{Edge, Part};
 use corner_set::Single;
-use delay_core::Design;
+use design_phases::Design;
 use edge_io::{OutOfMemory, Text};
 use nldm_lookup::{Beyond, Which};
 use slew_order::{ArcAt, NetDelays, SlewEnd, Slews};

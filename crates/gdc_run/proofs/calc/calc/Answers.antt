@@ -2,8 +2,8 @@
 use Rattle.sdf_writer.specs.SdfText.{SdfRows}
 use Rattle.gdc_words.specs.CommandLine.{libraries_of}
 use Rattle.gdc_words.specs.declared.commands.Libraries.TheVariants.{One, EachCorner}
-use Rattle.delay_core.specs.SpefPhases.{sole_corner}
-use Rattle.delay_core.proofs.LibraryLemmas.{halted}
+use Rattle.wire_phases.specs.SpefPhases.{sole_corner}
+use Rattle.design_phases.proofs.LibraryLemmas.{halted}
 use Rattle.gdc_run.specs.Calculation.{each_corner, files_from, CalcGives}
 use Rattle.gdc_run.specs.Verdict.{CalcOutput}
 use Rattle.gdc_run.specs.declared.output.Output.{Output}

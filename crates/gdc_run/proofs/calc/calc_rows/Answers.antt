@@ -2,7 +2,7 @@
 use Rattle.std.proofs.Common.{◌∙◌, length, sym, ap}
 use Rattle.spef_nets.specs.Drafts.{corners_of}
 use Rattle.gdc_words.specs.CommandLine.{libraries_of}
-use Rattle.delay_annotation.specs.declared.settings.Files.{Files}
+use Rattle.delay_core.specs.declared.settings.Files.{Files}
 use Rattle.gdc_run.specs.Calculation.{files_from}
 use Rattle.gdc_run.proofs.CalcFiles.{names_long, calc_follows, calc_fault, calc_work}
 use Rattle.gdc_run.proofs.calc.calc_rows.Goals as goal

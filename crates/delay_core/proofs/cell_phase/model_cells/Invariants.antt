@@ -1,8 +1,0 @@
--- The models of the cells before this one are made.
-use Rattle.std.proofs.Common.{map}
-use Rattle.liberty_groups.specs.Tables.{tree_of}
-use Rattle.delay_core.specs.CellPhase.{AreFirstCells}
-use Rattle.delay_core.proofs.cell_phase.model_cells.Given as goal
-
-abbrev pub invariant-loop-name : goal.invariant-loop-name
-invariant-loop-name g l = AreFirstCells (map tree_of l.libraries) l.used l.name-index l.cells

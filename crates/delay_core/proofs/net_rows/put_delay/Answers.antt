@@ -1,6 +1,0 @@
-use Rattle.std.proofs.Common.{◌∙◌}
-use Rattle.delay_core.proofs.Places.{sole_set}
-use Rattle.delay_core.proofs.net_rows.put_delay.Goals as goal
-
-pub returns : goal.returns
-returns c = c.set.ensures.written ∙ sole_set c.args.delay.now.values c.args.time c.requires

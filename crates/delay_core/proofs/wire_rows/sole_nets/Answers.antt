@@ -1,5 +1,0 @@
--- One corner is the corners of a run that has one.
-use Rattle.delay_core.proofs.wire_rows.sole_nets.Goals as goal
-
-pub returns : goal.returns
-returns c = record { follows = c.nets_of.ensures.follows }

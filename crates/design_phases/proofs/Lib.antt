@@ -1,0 +1,9 @@
+pub mod CellLemmas
+pub mod DesignLemmas
+pub mod InTurn
+pub mod LibraryLemmas
+pub mod ModuleNames
+pub mod OneDesign
+pub mod OneInputs
+pub mod OneLibrary
+pub mod OneNetlist

@@ -1,0 +1,9 @@
+pub mod CellPhase
+pub mod DesignReading
+pub mod LibraryPhases
+pub mod LibraryReading
+pub mod LinkPhase
+pub mod NetlistPhase
+pub mod OneAnswer
+pub mod OneDesign
+pub mod UsePhase

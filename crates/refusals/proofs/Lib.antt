@@ -1,0 +1,4 @@
+pub mod LineLemmas
+pub mod OneChain
+pub mod OneText
+pub mod Places

@@ -1,0 +1,7 @@
+pub mod EarlyRefusals
+pub mod InputFiles
+pub mod OneStep
+pub mod RefusalLine
+pub mod Refused
+pub mod SameAnswers
+pub mod Words

@@ -1,0 +1,9 @@
+pub mod NetRows
+pub mod NetsApart
+pub mod OneNet
+pub mod OneRows
+pub mod OneSpefFile
+pub mod PinLists
+pub mod SpefWork
+pub mod TreeRows
+pub mod WireRows
