@@ -8,7 +8,7 @@ use nldm_lookup::Table;
 use std::marker::Model;
 
 /// Where a pin's value comes from (Liberty, `direction`).
-#[derive(Clone, Copy, PartialEq, Eq, Debug)]
+#[derive(Clone, Copy)]
 pub enum Direction {
     Input,
     Output,
@@ -17,7 +17,7 @@ pub enum Direction {
 }
 
 /// Which edges of the input an edge of the output follows (Liberty, `timing_sense` and `timing_type`).
-#[derive(Clone, Copy, PartialEq, Eq, Debug)]
+#[derive(Clone, Copy)]
 pub enum ArcKind {
     /// The same edge.
     Positive,

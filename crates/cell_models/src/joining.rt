@@ -12,7 +12,7 @@ use edge_io::OutOfMemory;
 use std::alloc::Global;
 
 /// Why the models of the corners are not those of one cell.
-#[derive(Drop, Debug)]
+#[derive(Drop)]
 pub enum JoinEnd {
     /// The shape at a corner is another than at the first corner.
     Shape(ShapeFault),

@@ -8,7 +8,7 @@ use edge_io::{OutOfMemory, Text};
 use std::alloc::Global;
 
 /// An entry of the shape of a cell.
-#[derive(Drop, Debug)]
+#[derive(Drop)]
 pub enum Entry {
     /// A pin, but for its capacitance.
     Pin {
@@ -27,7 +27,7 @@ pub enum Entry {
 }
 
 /// Where the shape of a cell at one corner first differs from its shape at the first corner.
-#[derive(Drop, Debug)]
+#[derive(Drop)]
 pub struct ShapeFault {
     /// The number of the corner, from 0.
     pub corner: usize,

@@ -73,7 +73,7 @@ pub fn first_corner<C: CornerSet>() -> C::Index
 }
 
 /// One corner alone, which takes of a triple the member that was picked.
-#[derive(Clone, Copy, Debug, PartialEq, Eq)]
+#[derive(Clone, Copy)]
 pub struct Single;
 
 impl CornerSet for Single {

@@ -6,7 +6,7 @@ use crate::corner::CornerSet;
 use crate::pick::Pick;
 
 /// Three corners: the smallest, the typical and the largest member of each triple, numbered in this order.
-#[derive(Clone, Copy, Debug, PartialEq, Eq)]
+#[derive(Clone, Copy)]
 pub struct Triple;
 
 impl CornerSet for Triple {

@@ -4,7 +4,7 @@ ghost use Rattle.std.specs.Prelude.{◌^◌, ◌<◌, ◌≤◌, unsigned_abs};
 use thiserror::Error;
 
 /// The number `digits * 10^exponent`.
-#[derive(Clone, Copy, PartialEq, Eq, Debug)]
+#[derive(Clone, Copy)]
 pub struct Decimal {
     /// Below 10^30 in size.
     pub digits: i128,
@@ -15,7 +15,7 @@ pub struct Decimal {
 }
 
 /// A unit of `mantissa * 10^exponent` grains.
-#[derive(Clone, Copy, PartialEq, Eq, Debug)]
+#[derive(Clone, Copy)]
 pub struct Unit {
     /// From 1 to 9,999,999.
     pub mantissa: u32,
@@ -27,7 +27,7 @@ pub struct Unit {
 }
 
 /// Why a text is not read as a number.
-#[derive(Clone, Copy, PartialEq, Eq, Debug, Error)]
+#[derive(Clone, Copy, Debug, Error)]
 pub enum NumberFault {
     /// No decimal literal: the length of the longest front that begins one.
     #[error("no number: {0} bytes begin one")]

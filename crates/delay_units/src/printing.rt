@@ -6,7 +6,7 @@ use crate::quantities::{Atto, Femto};
 use itoa::Buffer;
 
 /// A text of at most 32 bytes: the first `length` of `bytes`.
-#[derive(Clone, Copy, PartialEq, Eq, Debug)]
+#[derive(Clone, Copy)]
 pub struct Text32 {
     /// The bytes of the text, and behind them any others.
     pub bytes: [u8; 32],

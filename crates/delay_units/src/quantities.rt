@@ -1,7 +1,7 @@
 //! The quantities, each a whole number of grains.
 
 /// A resistance in grains of 10^-6 ohm; one resistor has at most [`Ohms::MOST`].
-#[derive(Clone, Copy, PartialEq, Eq, PartialOrd, Ord, Hash, Debug, Default)]
+#[derive(Clone, Copy)]
 pub struct Ohms(pub u64);
 
 impl Ohms {
@@ -14,7 +14,7 @@ impl Ohms {
 }
 
 /// A capacitance in grains of 10^-21 F; one capacitor has at most [`Farads::MOST`].
-#[derive(Clone, Copy, PartialEq, Eq, PartialOrd, Ord, Hash, Debug, Default)]
+#[derive(Clone, Copy)]
 pub struct Farads(pub u64);
 
 impl Farads {
@@ -27,7 +27,7 @@ impl Farads {
 }
 
 /// A time in grains of 10^-18 s.
-#[derive(Clone, Copy, PartialEq, Eq, PartialOrd, Ord, Hash, Debug, Default)]
+#[derive(Clone, Copy)]
 pub struct Atto(pub i64);
 
 impl Atto {
@@ -41,7 +41,7 @@ impl Atto {
 
 /// A time in grains of 10^-15 s. One ohm times one femtofarad is one of them (Elmore 1948: a delay is a sum of
 /// products of resistance and capacitance).
-#[derive(Clone, Copy, PartialEq, Eq, PartialOrd, Ord, Hash, Debug, Default)]
+#[derive(Clone, Copy, PartialEq)]
 pub struct Femto(pub i128);
 
 impl Femto {

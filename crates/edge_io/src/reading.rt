@@ -10,7 +10,7 @@ use crate::texts::Text;
 use std::alloc::{AllocError, Global};
 
 /// Why a file was not read to its end.
-#[derive(Clone, Copy, Debug, PartialEq, Eq)]
+#[derive(Clone, Copy)]
 pub enum ReadEnd {
     /// The outside failed, or there is no file of that name.
     ReadFault,

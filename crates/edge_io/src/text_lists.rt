@@ -7,7 +7,7 @@ use std::alloc::Global;
 use std::marker::Model;
 
 /// Texts in order, as the words of a command line. Contracts see the list of the texts.
-#[derive(Debug, Drop)]
+#[derive(Drop)]
 pub struct TextList {
     texts: Vec<Text>,
 }

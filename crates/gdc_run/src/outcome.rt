@@ -6,7 +6,7 @@ use gdc_words::UsageFault;
 use refusals::{FileKey, Refusal};
 
 /// How a run ends.
-#[derive(Debug, Drop)]
+#[derive(Drop)]
 pub enum Outcome {
     /// The text was written.
     Done,

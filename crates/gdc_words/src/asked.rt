@@ -20,7 +20,7 @@ use std::marker::Model;
 use wire_slews::WireSlew;
 
 /// A key that stands, and its value.
-#[derive(Debug, Drop)]
+#[derive(Drop)]
 pub struct Given {
     pub key: Key,
     pub value: Text,
@@ -99,7 +99,7 @@ pub(crate) fn first_missing(command: Command, given: &[Given]) -> Option<Key>
 
 /// What the words ask for: a command, and each key that stands with its value. Every key that the command needs stands, no two stand
 /// that do not stand together, and each value has the form that its key wants.
-#[derive(Debug, Drop)]
+#[derive(Drop)]
 pub struct Asked {
     pub(crate) command: Command,
     pub(crate) given: Vec<Given>,

@@ -10,7 +10,7 @@ use nldm_lookup::Beyond;
 use wire_slews::WireSlew;
 
 /// A command of the program, which is its first word.
-#[derive(Clone, Copy, Debug, PartialEq, Eq)]
+#[derive(Clone, Copy)]
 pub enum Command {
     /// `wires`: the delays of the wires of a SPEF file.
     Wires,
@@ -31,7 +31,7 @@ pub enum Command {
 }
 
 /// A key, which stands before its value.
-#[derive(Clone, Copy, Debug, PartialEq, Eq)]
+#[derive(Clone, Copy)]
 pub enum Key {
     /// `--spef`: the name of a SPEF file.
     Spef,
@@ -74,7 +74,7 @@ pub enum Key {
 }
 
 /// The shape of a trial.
-#[derive(Clone, Copy, Debug, PartialEq, Eq)]
+#[derive(Clone, Copy)]
 pub enum Shape {
     /// Two inverters, with so many resistors between them, one behind the other.
     Chain,
@@ -83,7 +83,7 @@ pub enum Shape {
 }
 
 /// The libraries that the words name.
-#[derive(Clone, Copy, Debug, PartialEq, Eq)]
+#[derive(Clone, Copy)]
 pub enum Libraries {
     /// One library, of the key `--lib`.
     One,

@@ -5,7 +5,7 @@ ghost use Rattle.gdc_words.specs.CommandLine.{fault_at};
 use edge_io::{OutOfMemory, Text};
 
 /// What is wrong with the words.
-#[derive(Clone, Copy, Debug, PartialEq, Eq)]
+#[derive(Clone, Copy)]
 pub enum UsageKind {
     NoCommand,
     UnknownCommand,
@@ -18,7 +18,7 @@ pub enum UsageKind {
 }
 
 /// The first fault of the words.
-#[derive(Debug, Drop)]
+#[derive(Drop)]
 pub struct UsageFault {
     pub kind: UsageKind,
     /// The number of the word, from 1, or 0 where the fault has no place.
@@ -28,7 +28,7 @@ pub struct UsageFault {
 }
 
 /// Why the words were not read.
-#[derive(Debug, Drop)]
+#[derive(Drop)]
 pub enum WordsEnd {
     Usage(UsageFault),
     OutOfMemory,

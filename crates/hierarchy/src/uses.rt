@@ -31,7 +31,7 @@ const MOST_NAME_BITS: usize = 4_194_304;
 const MOST_CONNECTIONS: usize = 4_194_304;
 
 /// A limit of a design.
-#[derive(Clone, Copy, Debug, PartialEq, Eq)]
+#[derive(Clone, Copy)]
 pub enum Count {
     /// Modules stand in each other at most 64 deep, the top being 1.
     Depth,
@@ -44,7 +44,7 @@ pub enum Count {
 }
 
 /// Why a design cannot be walked through.
-#[derive(Debug, Drop)]
+#[derive(Drop)]
 pub enum UseEnd {
     /// The file has no module of the top's name.
     NoTop,

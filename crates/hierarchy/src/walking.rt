@@ -13,7 +13,7 @@ use verilog_netlist::Modules;
 
 /// A visited module: the number of the visit of the module around it, the instance of that module that it is, and which module it is.
 /// The first visit is that of the top, whose other numbers are 0.
-#[derive(Clone, Copy, Debug, PartialEq, Eq)]
+#[derive(Clone, Copy)]
 pub struct Visit {
     pub parent: u32,
     pub instance: u32,
@@ -22,7 +22,7 @@ pub struct Visit {
 
 /// An instance that the walk meets: the visit of the module in which it stands, its number there, and the visit of it where it is an
 /// instance of a module.
-#[derive(Clone, Copy, Debug, PartialEq, Eq)]
+#[derive(Clone, Copy)]
 pub struct MetInstance {
     pub visit: u32,
     pub instance: u32,

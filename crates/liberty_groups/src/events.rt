@@ -2,7 +2,7 @@
 use edge_io::Text;
 
 /// What a token adds.
-#[derive(Debug, Drop)]
+#[derive(Drop)]
 pub enum Event {
     /// An argument.
     Part(Text),

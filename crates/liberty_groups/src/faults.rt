@@ -2,7 +2,7 @@
 use edge_io::OutOfMemory;
 
 /// Why a token cannot stand where it stands.
-#[derive(Clone, Copy, PartialEq, Eq, Debug)]
+#[derive(Clone, Copy)]
 pub enum Cause {
     /// A byte that begins no token, and is no blank.
     BadByte,
@@ -27,7 +27,7 @@ pub enum Cause {
 }
 
 /// The first token with which no text of the grammar goes on.
-#[derive(Clone, Copy, PartialEq, Eq, Debug)]
+#[derive(Clone, Copy)]
 pub struct SyntaxFault {
     /// Its number, from 1; at the end of the file one more than there are tokens.
     pub token: u64,
@@ -38,7 +38,7 @@ pub struct SyntaxFault {
 }
 
 /// Why there is no tree.
-#[derive(Clone, Copy, PartialEq, Eq, Debug)]
+#[derive(Clone, Copy)]
 pub enum ParseEnd {
     Syntax(SyntaxFault),
     OutOfMemory,

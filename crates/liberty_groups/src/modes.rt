@@ -8,7 +8,7 @@ use crate::faults::Cause;
 use crate::scan::Kind;
 
 /// What is waited for.
-#[derive(Clone, Copy, PartialEq, Eq, Debug)]
+#[derive(Clone, Copy)]
 pub enum Mode {
     /// The word `library`.
     Start,
@@ -41,7 +41,7 @@ pub enum Mode {
 }
 
 /// What a token does.
-#[derive(Clone, Copy, PartialEq, Eq, Debug)]
+#[derive(Clone, Copy)]
 pub enum Step {
     /// It cannot stand here.
     Refuse(Cause),

@@ -8,7 +8,7 @@ use crate::scan::{Kind, goes_on, is_plain, mark_of, opened_behind};
 use token_texts::{Cut, Escape, is_blank, takes};
 
 /// Where the scan of some bytes stands that begin a token or a comment and do not end it.
-#[derive(Clone, Copy, PartialEq, Eq, Debug)]
+#[derive(Clone, Copy)]
 pub enum Place {
     /// In a word, of which so many `[` are not closed.
     Word(usize),
@@ -31,7 +31,7 @@ pub enum Place {
 }
 
 /// What a scan of some bytes has shown.
-#[derive(Clone, Copy, PartialEq, Eq, Debug)]
+#[derive(Clone, Copy)]
 pub enum Scanned {
     /// What stands at their front, whatever comes behind them.
     Ended(Cut<Kind>),

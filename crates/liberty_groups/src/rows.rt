@@ -5,15 +5,15 @@ use edge_io::{OutOfMemory, Text};
 use name_table::NameId;
 
 /// The number of a group in its tree.
-#[derive(Clone, Copy, PartialEq, Eq, Debug)]
+#[derive(Clone, Copy, PartialEq)]
 pub struct GroupId(pub u32);
 
 /// The number of an attribute in its tree.
-#[derive(Clone, Copy, PartialEq, Eq, Debug)]
+#[derive(Clone, Copy)]
 pub struct AttrId(pub u32);
 
 /// A part of a table.
-#[derive(Clone, Copy, Debug)]
+#[derive(Clone, Copy)]
 pub struct Span {
     pub from: u32,
     pub end: u32,
@@ -30,14 +30,14 @@ impl Span {
 }
 
 /// An attribute: the number of its name, and where its values stand among the texts.
-#[derive(Clone, Copy, Debug)]
+#[derive(Clone, Copy)]
 pub struct AttributeRow {
     pub name: NameId,
     pub values: Span,
 }
 
 /// A group, and where its arguments, its attributes and the groups in it stand.
-#[derive(Debug, Drop)]
+#[derive(Drop)]
 pub struct GroupRow {
     pub name: Text,
     pub args: Span,
@@ -46,7 +46,7 @@ pub struct GroupRow {
 }
 
 /// A group that has not ended.
-#[derive(Debug, Drop)]
+#[derive(Drop)]
 pub struct OpenGroup {
     pub name: Text,
     pub args: Span,

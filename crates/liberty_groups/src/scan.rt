@@ -11,7 +11,7 @@ use memchr::memchr;
 use token_texts::{Cut, Escape, begins_with, comment_at, is_blank, quoted_cut};
 
 /// What a token is.
-#[derive(Clone, Copy, PartialEq, Eq, Debug)]
+#[derive(Clone, Copy)]
 pub enum Kind {
     Word,
 

@@ -5,7 +5,7 @@ use edge_io::OutOfMemory;
 
 /// Why a cell of a library has no timing model. Of several faults that which is looked for first is answered: those of the
 /// units, then those of each pin in order, then those of each delay group in order.
-#[derive(Clone, Copy, PartialEq, Eq, Debug)]
+#[derive(Clone, Copy)]
 pub enum CellFault {
     /// The library has no `cell` group with this first argument.
     NoSuchCell,

@@ -22,7 +22,7 @@ use nldm_lookup::{Axis, Which};
 use std::alloc::Global;
 
 /// The variables of a template, which have the axes of its tables, in order.
-#[derive(Clone, Copy, Debug)]
+#[derive(Clone, Copy)]
 pub struct Variables {
     pub first: Option<Which>,
     pub second: Option<Which>,

@@ -8,7 +8,7 @@ use std::alloc::Global;
 use std::marker::Model;
 
 /// The number of a text in a table of names, counted from 0.
-#[derive(Clone, Copy, Debug, PartialEq, Eq)]
+#[derive(Clone, Copy)]
 pub struct NameId(pub u32);
 
 /// Distinct texts, numbered in the order in which they came. Contracts see the list of them.

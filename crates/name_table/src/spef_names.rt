@@ -16,7 +16,7 @@ use std::alloc::Global;
 /// The marks of a SPEF file: what divides the parts of a path, what stands between a node's name and its
 /// pin, and what stands round the number of a bit. Where marks are one byte the divider counts, then the
 /// left one.
-#[derive(Clone, Copy, Debug, PartialEq, Eq)]
+#[derive(Clone, Copy)]
 pub struct SpefMarks {
     pub divider: u8,
     pub delimiter: u8,
@@ -26,7 +26,7 @@ pub struct SpefMarks {
 
 /// A node's name: what stands before its last delimiter and after it, or the whole of it as a head alone;
 /// and its spelling in SDF, in which head and tail are joined by `/`.
-#[derive(Debug, Drop)]
+#[derive(Drop)]
 pub struct NodeName {
     pub head: Text,
     pub tail: Option<Text>,

@@ -11,7 +11,7 @@ use edge_io::{OutOfMemory, Text};
 use std::alloc::Global;
 
 /// A node's name that stands as it is written: its head and its tail are parts of the word, and no byte of them means another.
-#[derive(Clone, Copy, Debug)]
+#[derive(Clone, Copy)]
 pub struct WrittenName<'w> {
     pub head: &'w [u8],
     pub tail: Option<&'w [u8]>,

@@ -5,7 +5,7 @@ use edge_io::OutOfMemory;
 use rc_tree::TreeEnd;
 
 /// What a net is that has a driver and a sink but no section in the SPEF file.
-#[derive(Clone, Copy, Debug, PartialEq, Eq)]
+#[derive(Clone, Copy)]
 pub enum Missing {
     /// It is refused.
     Refuse,
@@ -14,7 +14,7 @@ pub enum Missing {
 }
 
 /// Why the nets of a netlist have no loads and no Elmore sums. Nets are given by their numbers, from 0.
-#[derive(Debug, Drop)]
+#[derive(Drop)]
 pub enum ParasiticsEnd {
     /// The first net that has a driver and a sink but no section, where that is refused. It is told before any tree is built.
     MissingNet { net: usize },

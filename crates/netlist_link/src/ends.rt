@@ -3,14 +3,14 @@
 use edge_io::{OutOfMemory, Text};
 
 /// An end of a net: a bit of a port of the design, or a pin of an instance of a cell. All count from 0.
-#[derive(Clone, Copy, Debug, PartialEq, Eq)]
+#[derive(Clone, Copy)]
 pub enum End {
     Port(usize),
     Pin { instance: usize, pin: usize },
 }
 
 /// Why a design has no flat netlist. Connections are asked first, along the walk and as written.
-#[derive(Debug, Drop)]
+#[derive(Drop)]
 pub enum LinkEnd {
     /// A connection names no port of the module, or no pin of the cell.
     UnknownPort {

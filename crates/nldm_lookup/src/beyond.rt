@@ -2,7 +2,7 @@
 
 /// What a lookup does where a quantity is past an axis: below its first point or above its last. An axis of one point has no ends
 /// to pass.
-#[derive(Clone, Copy, PartialEq, Eq, Debug)]
+#[derive(Clone, Copy)]
 pub enum Beyond {
     /// It is refused.
     Refuse,

@@ -3,7 +3,7 @@
 use thiserror::Error;
 
 /// Why some points are no axis. They are asked in this order: `Empty`, `TooLong`, `NotRising`.
-#[derive(Clone, Copy, PartialEq, Eq, Debug, Error)]
+#[derive(Clone, Copy, Debug, Error)]
 pub enum AxisFault {
     /// There is no point.
     #[error("an axis without a point")]
@@ -23,7 +23,7 @@ pub enum AxisFault {
 }
 
 /// Why some values are no table over two axes.
-#[derive(Clone, Copy, PartialEq, Eq, Debug, Error)]
+#[derive(Clone, Copy, Debug, Error)]
 pub enum TableFault {
     /// There are not as many values as the axes have points, multiplied.
     #[error("a table of {got} values, where the axes want {want}")]
@@ -35,21 +35,21 @@ pub enum TableFault {
 }
 
 /// An axis of a table.
-#[derive(Clone, Copy, PartialEq, Eq, Debug)]
+#[derive(Clone, Copy)]
 pub enum Which {
     Slew,
     Load,
 }
 
 /// A quantity that a table does not reach: its axis, and the quantity in grains, attoseconds of a slew and 10^-21 F of a load.
-#[derive(Clone, Copy, PartialEq, Eq, Debug)]
+#[derive(Clone, Copy)]
 pub struct Outside {
     pub axis: Which,
     pub value: u64,
 }
 
 /// Why a lookup has no value.
-#[derive(Clone, Copy, PartialEq, Eq, Debug)]
+#[derive(Clone, Copy)]
 pub enum LookupEnd {
     /// A quantity is past an axis, and `Beyond::Refuse` is asked for.
     Outside(Outside),

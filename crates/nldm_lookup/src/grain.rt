@@ -3,7 +3,7 @@ ghost use Rattle.std.specs.Prelude.{◌≡◌, ◌≤◌};
 ghost use Rattle.nldm_lookup.specs.Interpolant.{attos_in, most_in};
 
 /// What a value is rounded to: attoseconds, as slews are, or femtoseconds, as delays are.
-#[derive(Clone, Copy, PartialEq, Eq, Debug)]
+#[derive(Clone, Copy)]
 pub enum Grain {
     Atto,
     Femto,

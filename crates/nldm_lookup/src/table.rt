@@ -21,7 +21,7 @@ use std::rc::RcSlice;
 use std::sync::ledger::Ledger;
 
 /// Which variable is the first of a table's template, whose index changes slowest in the list of values.
-#[derive(Clone, Copy, PartialEq, Eq, Debug)]
+#[derive(Clone, Copy)]
 pub enum Order {
     SlewFirst,
     LoadFirst,

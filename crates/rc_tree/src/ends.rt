@@ -4,7 +4,7 @@ use edge_io::OutOfMemory;
 use name_table::NodeName;
 
 /// Why a net has no tree. They are asked in this order, but for the last.
-#[derive(Debug, Drop)]
+#[derive(Drop)]
 pub enum TreeEnd {
     /// The first connection of the section that is neither the driver nor a sink.
     StrangePin(NodeName),

@@ -11,7 +11,7 @@ use name_table::NodeName;
 use nldm_lookup::Which;
 
 /// Names a file of the command line by its key.
-#[derive(Clone, Copy, Debug, PartialEq, Eq)]
+#[derive(Clone, Copy)]
 pub enum FileKey {
     /// The file of `--netlist`.
     Netlist,
@@ -30,7 +30,7 @@ pub enum FileKey {
 }
 
 /// A limit that an input passes.
-#[derive(Debug, Drop)]
+#[derive(Drop)]
 pub enum LimitKind {
     /// The bytes of a file, of which at most 2^28 are read.
     File(FileKey),
@@ -47,7 +47,7 @@ pub enum LimitKind {
 }
 
 /// What is wrong with a number of a SPEF file.
-#[derive(Clone, Copy, Debug, PartialEq, Eq)]
+#[derive(Clone, Copy)]
 pub enum NumberKind {
     /// The number or the word of a unit.
     BadUnit,
@@ -58,7 +58,7 @@ pub enum NumberKind {
 }
 
 /// What is wrong with an index of a SPEF file's name map.
-#[derive(Clone, Copy, Debug, PartialEq, Eq)]
+#[derive(Clone, Copy)]
 pub enum IndexKind {
     /// It is not in the map.
     Unknown,
@@ -68,7 +68,7 @@ pub enum IndexKind {
 
 /// Why an input is refused. Tokens count from 1, and are those of the file, comments and blanks left out. A corner is its number, which
 /// is 0 where a run has one.
-#[derive(Debug, Drop)]
+#[derive(Drop)]
 pub enum Refusal {
     /// E01: no Verilog file begins with the tokens up to this one, or the file ends in front of it.
     NetlistSyntax {

@@ -2,7 +2,7 @@
 use edge_io::OutOfMemory;
 
 /// Why a token cannot stand where it stands.
-#[derive(Clone, Copy, PartialEq, Eq, Debug)]
+#[derive(Clone, Copy)]
 pub enum SdfCause {
     /// A byte that begins no token, and is no blank: a control byte, or a backslash at the end of the file.
     BadByte,
@@ -24,7 +24,7 @@ pub enum SdfCause {
 }
 
 /// Why there are no rows.
-#[derive(Clone, Copy, PartialEq, Eq, Debug)]
+#[derive(Clone, Copy)]
 pub enum SdfEnd {
     /// The first token with which no text of the grammar goes on, by its number from 1, comments and blanks left out. At the
     /// end of the file it is one more than there are tokens.

@@ -8,7 +8,7 @@ use std::alloc::Global;
 use std::marker::Model;
 
 /// A value: its least, its typical and its largest time, each of which may be left out. A single number is all three.
-#[derive(Clone, Copy, PartialEq, Eq, Debug)]
+#[derive(Clone, Copy)]
 pub struct Value {
     pub min: Option<Femto>,
     pub typ: Option<Femto>,
@@ -16,7 +16,7 @@ pub struct Value {
 }
 
 /// One row. Names are in their canonical spelling, with `/` between the parts of a path.
-#[derive(Debug, Drop)]
+#[derive(Drop)]
 pub enum SdfRow {
     /// An INTERCONNECT. Its ends have the instance of their cell in front of them.
     Wire {
@@ -39,7 +39,7 @@ pub enum SdfRow {
 
 /// The rows of a file, in its order: fewer than 2^32, and each of their times is at most 10^27 femtoseconds in size.
 /// Contracts see the list of them.
-#[derive(Debug, Drop)]
+#[derive(Drop)]
 pub struct SdfRows {
     pub(crate) rows: Vec<SdfRow>,
 }

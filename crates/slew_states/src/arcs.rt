@@ -22,7 +22,7 @@ pub struct FlatArc {
 }
 
 /// What drives a net.
-#[derive(Clone, Copy, PartialEq, Eq, Debug)]
+#[derive(Clone, Copy)]
 pub enum Driver {
     /// Nothing does.
     Nothing,

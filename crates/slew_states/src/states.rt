@@ -3,7 +3,7 @@
 use cell_models::Edge;
 
 /// The state of a pin or a net at an edge.
-#[derive(Clone, Copy, PartialEq, Eq, Debug)]
+#[derive(Clone, Copy)]
 pub enum PinState {
     /// No edge comes there.
     Absent,
@@ -14,7 +14,7 @@ pub enum PinState {
 }
 
 /// The states at both edges.
-#[derive(Clone, Copy, PartialEq, Eq, Debug)]
+#[derive(Clone, Copy)]
 pub struct EdgeStates {
     pub rise: PinState,
     pub fall: PinState,

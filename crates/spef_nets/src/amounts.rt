@@ -9,7 +9,7 @@ use corner_set::Pick;
 use delay_units::{Amount, Unit, read_amount, read_leading_amount, strip};
 
 /// Why a member of a value is refused.
-#[derive(Clone, Copy, PartialEq, Eq, Debug)]
+#[derive(Clone, Copy)]
 pub enum AmountFault {
     /// It has more than 30 significant digits, or an exponent past 99 in size, or reads below 0.
     BadNumber,
@@ -32,7 +32,7 @@ fn reading(amount: Amount) -> Result<u64, AmountFault>
 }
 
 /// The readings of all three members.
-#[derive(Clone, Copy, PartialEq, Eq, Debug)]
+#[derive(Clone, Copy)]
 pub struct Grains {
     pub min: u64,
     pub typ: u64,

@@ -6,7 +6,7 @@ use edge_io::{OutOfMemory, Text};
 
 /// Why the sections of a file are refused. Tokens count from 1. The fault with the least token is told; at one token they come
 /// in this order.
-#[derive(Debug, Drop)]
+#[derive(Drop)]
 pub enum SectionEnd {
     /// The index at this token is not in the name map.
     UnknownIndex { token: u64 },

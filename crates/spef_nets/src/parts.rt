@@ -6,7 +6,7 @@ use edge_io::OutOfMemory;
 use edge_io::lists::to_u32;
 
 /// A connection of a net: a port of the design, or a pin of an instance.
-#[derive(Clone, Copy, PartialEq, Eq, Debug)]
+#[derive(Clone, Copy)]
 pub struct Listed {
     /// The number of its node.
     pub node: usize,
@@ -19,7 +19,7 @@ pub struct Listed {
 }
 
 /// A resistor at one corner, between two nodes.
-#[derive(Clone, Copy, PartialEq, Eq, Debug)]
+#[derive(Clone, Copy)]
 pub struct Resistor {
     pub a: usize,
     pub b: usize,
@@ -27,7 +27,7 @@ pub struct Resistor {
 }
 
 /// The nodes of a resistor.
-#[derive(Clone, Copy, PartialEq, Eq, Debug)]
+#[derive(Clone, Copy)]
 pub struct Ends {
     pub a: u32,
     pub b: u32,

@@ -3,7 +3,7 @@ ghost use Rattle.std.specs.Prelude.{◌≡◌};
 ghost use Rattle.spef_text.specs.Modes.{conn_of, cap_of, res_of};
 
 /// A connection of a net: a port of the design, or a pin of an instance.
-#[derive(Clone, Copy, PartialEq, Eq, Debug)]
+#[derive(Clone, Copy)]
 pub struct Conn {
     /// Whether it is a port, `*P`, and no pin, `*I`.
     pub port: bool,
@@ -19,7 +19,7 @@ pub struct Conn {
 }
 
 /// A capacitance from a node to ground, or to a second node.
-#[derive(Clone, Copy, PartialEq, Eq, Debug)]
+#[derive(Clone, Copy)]
 pub struct Cap {
     /// The tokens that name the nodes.
     pub first: u64,
@@ -30,7 +30,7 @@ pub struct Cap {
 }
 
 /// A resistance between two nodes.
-#[derive(Clone, Copy, PartialEq, Eq, Debug)]
+#[derive(Clone, Copy)]
 pub struct Res {
     /// The tokens that name the nodes.
     pub first: u64,

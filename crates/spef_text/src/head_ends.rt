@@ -1,7 +1,7 @@
 //! Why a file has no head.
 
 /// Why the head of a file is refused. Tokens count from 1.
-#[derive(Debug, Drop)]
+#[derive(Drop)]
 pub enum HeadEnd {
     /// A unit that counts is bad, by its number's token, or is missing while the file has a net, with the token 0.
     BadUnit { token: u64 },

@@ -12,7 +12,7 @@ use std::alloc::Global;
 use token_texts::{ReadEnd, read_tokens};
 
 /// Why a file is not read. Tokens count from 1, comments and blanks left out.
-#[derive(Debug, Drop)]
+#[derive(Drop)]
 pub enum SpefEnd {
     /// No text of the grammar begins with the tokens up to this one, or, one past the last token, the file ends too early.
     Syntax { token: u64 },

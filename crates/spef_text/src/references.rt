@@ -21,7 +21,7 @@ use std::alloc::Global;
 use std::marker::Model;
 
 /// Why a reference names nothing. Tokens count from 1.
-#[derive(Debug, Drop)]
+#[derive(Drop)]
 pub enum ResolveEnd {
     /// The index at this token is not in the name map.
     UnknownIndex { token: u64 },

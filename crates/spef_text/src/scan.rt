@@ -12,7 +12,7 @@ use memchr::memchr2;
 use token_texts::{Cut, Front, begins_with, comment_cut, is_blank, line_length};
 
 /// What a token is: one that can stand in a text, or one that is broken, which takes all the bytes that are left.
-#[derive(Clone, Copy, PartialEq, Eq, Debug)]
+#[derive(Clone, Copy)]
 pub enum Kind {
     Whole,
     Broken,

@@ -5,7 +5,7 @@ ghost use Rattle.spef_text.specs.Units.{same_word, power_of, IsUnit, IsNoUnit};
 use delay_units::{Farads, Ohms, Unit, read_decimal, unit};
 
 /// What a unit is of.
-#[derive(Clone, Copy, PartialEq, Eq, Debug)]
+#[derive(Clone, Copy)]
 pub enum Quantity {
     /// In grains of 10^-21 F.
     Capacitance,

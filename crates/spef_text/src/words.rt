@@ -5,7 +5,7 @@ ghost use Rattle.spef_text.specs.Classes.{word_of, keywords, lookup, is_top, is_
 use edge_io::are_equal;
 
 /// What a keyword stands for in the grammar.
-#[derive(Clone, Copy, PartialEq, Eq, Debug)]
+#[derive(Clone, Copy)]
 pub enum Word {
     /// `*SPEF`
     Spef,

@@ -7,7 +7,7 @@ ghost use Rattle.token_texts.specs.Quoted.{takes, quote_end, quoted_cut};
 use crate::cuts::Cut;
 
 /// What a backslash in a text does.
-#[derive(Clone, Copy, PartialEq, Eq, Debug)]
+#[derive(Clone, Copy)]
 pub enum Escape {
     /// It takes the next byte with it, whatever that is, unless it is itself taken.
     NextByte,

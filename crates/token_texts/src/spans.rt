@@ -3,7 +3,7 @@ ghost use Rattle.std.specs.Prelude.{◌≡◌};
 ghost use Rattle.token_texts.specs.Spans.{text_at};
 
 /// A piece of a file: the place of its first byte, and how many bytes it has.
-#[derive(Clone, Copy, PartialEq, Eq, Debug)]
+#[derive(Clone, Copy)]
 pub struct Span {
     pub start: u32,
     pub len: u32,

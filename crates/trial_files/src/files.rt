@@ -14,7 +14,7 @@ use edge_io::{OutOfMemory, Text};
 use std::alloc::Global;
 
 /// What is calculated on: the module `top` at an input slew of 20 ps.
-#[derive(Debug, Drop)]
+#[derive(Drop)]
 pub struct TrialFiles {
     pub netlist: Text,
     pub library: Text,

@@ -2,7 +2,7 @@ use edge_io::OutOfMemory;
 
 /// Why a phase that may read files gives no value: a refusal, a read fault at the file of a key, or
 /// want of memory.
-#[derive(Debug, Drop)]
+#[derive(Drop)]
 pub enum PhaseEnd<R, K> {
     Refused(R),
     ReadFault(K),
@@ -10,7 +10,7 @@ pub enum PhaseEnd<R, K> {
 }
 
 /// Why a phase that reads no file gives no value: a refusal, or want of memory.
-#[derive(Debug, Drop)]
+#[derive(Drop)]
 pub enum NoFileEnd<R> {
     Refused(R),
     OutOfMemory,

@@ -2,14 +2,14 @@
 use token_texts::Span;
 
 /// The direction of a port.
-#[derive(Clone, Copy, PartialEq, Eq, Debug)]
+#[derive(Clone, Copy)]
 pub enum Direction {
     In,
     Out,
 }
 
 /// What declares a name: a direction in the header of its module, a direction behind it, or the word `wire`.
-#[derive(Clone, Copy, PartialEq, Eq, Debug)]
+#[derive(Clone, Copy)]
 pub enum Decl {
     InHeader(Direction),
     Port(Direction),
@@ -17,14 +17,14 @@ pub enum Decl {
 }
 
 /// The bounds of a range or of a part select, left and right. A bound past 1,048,575 stands as 1,048,576.
-#[derive(Clone, Copy, PartialEq, Eq, Debug)]
+#[derive(Clone, Copy)]
 pub struct Range {
     pub left: u32,
     pub right: u32,
 }
 
 /// What a netlist says at one place. What belongs to a module, an instance or a connection stands behind it, up to the next one.
-#[derive(Clone, Copy, PartialEq, Eq, Debug)]
+#[derive(Clone, Copy)]
 pub enum Entry {
     /// A module begins, of this name.
     Module(Span),

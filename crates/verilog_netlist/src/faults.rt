@@ -9,7 +9,7 @@ use edge_io::OutOfMemory;
 use std::alloc::Global;
 
 /// What is wrong with a name or a range.
-#[derive(Clone, Copy, PartialEq, Eq, Debug)]
+#[derive(Clone, Copy)]
 pub enum NameFault {
     /// A name stands before where names must differ.
     Repeated,
@@ -22,7 +22,7 @@ pub enum NameFault {
 }
 
 /// A fault and the place of the entry at which it stands.
-#[derive(Clone, Copy, PartialEq, Eq, Debug)]
+#[derive(Clone, Copy)]
 pub struct FirstFault {
     pub fault: NameFault,
     pub place: usize,

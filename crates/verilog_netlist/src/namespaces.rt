@@ -11,7 +11,7 @@ use token_texts::Span;
 
 /// Names that must differ from one another: those of modules in a file; the names of a header, those that directions declare, those
 /// that `wire` declares and those of instances in a module; the ports of an instance.
-#[derive(Clone, Copy, PartialEq, Eq, Debug)]
+#[derive(Clone, Copy)]
 pub enum Names {
     Modules,
     Headers,

@@ -19,7 +19,7 @@ use name_table::NameHash;
 use std::alloc::Global;
 
 /// What a name of a module is: a port of this direction, or a wire in it.
-#[derive(Clone, Copy, PartialEq, Eq, Debug)]
+#[derive(Clone, Copy)]
 pub enum Way {
     In,
     Out,

@@ -13,7 +13,7 @@ use std::alloc::Global;
 use token_texts::Span;
 
 /// Why a file is refused as a netlist. Tokens count from 1; comments, attributes, directives and blanks are none.
-#[derive(Debug, Drop)]
+#[derive(Drop)]
 pub enum VerilogEnd {
     /// No text of the grammar begins with the tokens up to this one, or, one past the last token, the file ends too early.
     Syntax { token: u64 },

@@ -17,7 +17,7 @@ use std::alloc::Global;
 use token_texts::{Blank, Cut, Span, run_length};
 
 /// Why a file is no netlist. Tokens count from 1; comments, attributes, directives and blanks are none.
-#[derive(Debug, Drop)]
+#[derive(Drop)]
 pub enum ReadEnd {
     /// No text of the grammar begins with the tokens up to this one, or, one past the last token, the file ends too early.
     Syntax { token: u64 },

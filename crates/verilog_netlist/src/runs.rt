@@ -10,14 +10,14 @@ use crate::ranges::whole_width;
 
 /// What is joined to one bit of a port: a bit of a constant, or the bit of a name at this place in its range, from the left. Names
 /// and places count from 0, and a name without a range has the one bit 0.
-#[derive(Clone, Copy, PartialEq, Eq, Debug)]
+#[derive(Clone, Copy)]
 pub enum Bit {
     Tied,
     Wire { name: usize, bit: usize },
 }
 
 /// So many bits: the first, and those to its right.
-#[derive(Clone, Copy, PartialEq, Eq, Debug)]
+#[derive(Clone, Copy)]
 pub struct Run {
     pub first: Bit,
     pub count: usize,

@@ -7,7 +7,7 @@ use corner_set::Single;
 use spef_nets::{Listed, Net};
 
 /// Why no connection drives a net alone.
-#[derive(Clone, Copy, Debug, PartialEq, Eq)]
+#[derive(Clone, Copy)]
 pub enum DriverEnd {
     NoDriver,
     ManyDrivers,

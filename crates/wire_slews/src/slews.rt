@@ -7,7 +7,7 @@ use crate::roots::root;
 use delay_units::{Atto, half_up};
 
 /// What a wire does to a slew.
-#[derive(Clone, Copy, PartialEq, Eq, Debug)]
+#[derive(Clone, Copy)]
 pub enum WireSlew {
     /// Nothing.
     Same,

@@ -23,15 +23,15 @@ fn writing_is_cut_at_a_fault(rt: HostRuntime) -> Result<(), Fail> {
     bytes.resize(100, b'x')?;
     let mut sink = MemSink::new(rt.alloc(), 64, 1000)?;
     sink.fail_at(2)?;
-    assert_eq!(rt; write_all(&mut sink, bytes.as_slice()), Err(Failed));
+    assert!(rt; matches!(write_all(&mut sink, bytes.as_slice()), Err(Failed)));
     assert_eq!(rt; sink.written().len(), 64);
-    assert_eq!(rt; write_5(&mut sink, b"a", b"bc", b"", b"d", b"e"), Ok(()));
+    assert!(rt; write_5(&mut sink, b"a", b"bc", b"", b"d", b"e").is_ok());
     assert_eq!(rt; sink.written().len(), 69);
     Ok(())
 }
 
 #[test]
 fn the_streams_of_the_system_are_written(rt: HostRuntime) {
-    assert_eq!(rt; write_all(&mut StdOut::new(rt.stdout()), b"out\n"), Ok(()));
-    assert_eq!(rt; write_all(&mut StdErr::new(rt.stderr()), b"err\n"), Ok(()));
+    assert!(rt; write_all(&mut StdOut::new(rt.stdout()), b"out\n").is_ok());
+    assert!(rt; write_all(&mut StdErr::new(rt.stderr()), b"err\n").is_ok());
 }

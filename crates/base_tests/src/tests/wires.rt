@@ -49,8 +49,8 @@ const ROOTS: [(u128, u128); 6] = [
 fn wires_change_slews(rt: HostRuntime) {
     for (before, elmore, behind) in SLEWS {
         assert!(rt; 0 <= before && before <= Atto::MOST && elmore < ELMORE_END);
-        let found = wire_slew(Atto(before), elmore);
-        assert!(rt; found == behind.map(Atto), "{before} {elmore}");
+        let found = wire_slew(Atto(before), elmore).map(|slew| slew.0);
+        assert_eq!(rt; found, behind, "{before} {elmore}");
     }
 }
 

@@ -89,6 +89,20 @@ const FAULTS: [(&[u8], UsageKind, usize); 56] = [
     (b"--version\n--help\n", UsageKind::UnknownWord, 2),
 ];
 
+/// A kind of fault in words, so that two can be compared.
+fn name_of(kind: UsageKind) -> &'static str {
+    match kind {
+        UsageKind::NoCommand => "no command",
+        UsageKind::UnknownCommand => "unknown command",
+        UsageKind::UnknownWord => "unknown word",
+        UsageKind::Repeated => "repeated",
+        UsageKind::MissingValue => "missing value",
+        UsageKind::BadValue => "bad value",
+        UsageKind::Mixed => "mixed",
+        UsageKind::MissingKey => "missing key",
+    }
+}
+
 fn words_of(alloc: Global, lines: &[u8]) -> Result<Words, OutOfMemory> {
     let mut words = Words::new(alloc);
     put_words(alloc, &mut words, lines)?;
@@ -120,7 +134,7 @@ fn try_key(
     key: &[u8],
 ) -> Result<(), Fail> {
     let fault = fault_of(alloc, lines)?.ok_or("a fault")?;
-    assert_eq!(rt; (fault.kind, fault.place), (kind, 0), "{lines:?}");
+    assert_eq!(rt; (name_of(fault.kind), fault.place), (name_of(kind), 0), "{lines:?}");
     assert!(rt;
         fault.key.is_some_and(|named| named.bytes() == key),
         "{lines:?}"
@@ -180,7 +194,7 @@ fn the_first_fault_is_told(rt: HostRuntime) -> Result<(), Fail> {
     let alloc = rt.alloc();
     for (lines, kind, place) in FAULTS {
         let fault = fault_of(alloc, lines)?.ok_or("a fault")?;
-        assert_eq!(rt; (fault.kind, fault.place), (kind, place), "{lines:?}");
+        assert_eq!(rt; (name_of(fault.kind), fault.place), (name_of(kind), place), "{lines:?}");
         assert!(rt; fault.key.is_none(), "{lines:?}");
     }
     for (lines, key) in LACKING {
@@ -196,8 +210,8 @@ fn the_first_fault_is_told(rt: HostRuntime) -> Result<(), Fail> {
 fn words_ask_for_a_command_and_values(rt: HostRuntime) -> Result<(), Fail> {
     let alloc = rt.alloc();
     let asked = asked_by(alloc, b"wires\n--triple\nmax\n--spef\n--sdf\n")?;
-    assert_eq!(rt; asked.command(), Command::Wires);
-    assert_eq!(rt; asked.pick(), Pick::Max);
+    assert!(rt; matches!(asked.command(), Command::Wires));
+    assert!(rt; matches!(asked.pick(), Pick::Max));
     assert!(rt;
         asked
             .value(b"--spef")
@@ -205,8 +219,8 @@ fn words_ask_for_a_command_and_values(rt: HostRuntime) -> Result<(), Fail> {
     );
     assert!(rt; asked.value(Key::Sdf.word()).is_none());
     let asked = asked_by(alloc, b"show\n--sdf\na.sdf\n")?;
-    assert_eq!(rt; asked.command(), Command::Show);
-    assert_eq!(rt; asked.pick(), Pick::Typ);
+    assert!(rt; matches!(asked.command(), Command::Show));
+    assert!(rt; matches!(asked.pick(), Pick::Typ));
     assert!(rt;
         asked
             .value(b"--sdf")
@@ -240,7 +254,7 @@ fn decimals_are_grains(rt: HostRuntime) -> Result<(), Fail> {
     let alloc = rt.alloc();
     for row in &GRAINS {
         let asked = asked_at(alloc, row.0)?;
-        assert_eq!(rt; asked.command(), Command::Lookup);
+        assert!(rt; matches!(asked.command(), Command::Lookup));
         assert_eq!(rt; asked.grains(b"--slew"), Some(row.1));
         assert_eq!(rt; asked.grains(b"--load"), Some(2_000_000));
         assert_eq!(rt; asked.grains(b"--cell"), None);
@@ -250,11 +264,11 @@ fn decimals_are_grains(rt: HostRuntime) -> Result<(), Fail> {
 }
 
 /// The words of a look-up without `--outside`, and what these say that is done past the end of an axis, behind them.
-const OUTSIDE: [(&[u8], Beyond); 4] = [
-    (b"", Beyond::Refuse),
-    (b"--outside\nrefuse\n", Beyond::Refuse),
-    (b"--outside\nedge\n", Beyond::Edge),
-    (b"--outside\nextend\n", Beyond::Extend),
+const OUTSIDE: [(&[u8], &str); 4] = [
+    (b"", "refuse"),
+    (b"--outside\nrefuse\n", "refuse"),
+    (b"--outside\nedge\n", "edge"),
+    (b"--outside\nextend\n", "extend"),
 ];
 
 #[test]
@@ -264,7 +278,12 @@ fn words_say_what_is_done_past_an_axis(rt: HostRuntime) -> Result<(), Fail> {
         let mut lines = Vec::new(alloc);
         lines.extend_from_slice(b"lookup\n--load\n2\n--lib\na.lib\n--cell\nINV\n--slew\n1\n")?;
         lines.extend_from_slice(row.0)?;
-        assert_eq!(rt; asked_by(alloc, lines.as_slice())?.beyond(), row.1);
+        let said = match asked_by(alloc, lines.as_slice())?.beyond() {
+            Beyond::Refuse => "refuse",
+            Beyond::Edge => "edge",
+            Beyond::Extend => "extend",
+        };
+        assert_eq!(rt; said, row.1);
     }
     Ok(())
 }
@@ -273,7 +292,7 @@ fn words_say_what_is_done_past_an_axis(rt: HostRuntime) -> Result<(), Fail> {
 fn flat_asks_for_its_files(rt: HostRuntime) -> Result<(), Fail> {
     let alloc = rt.alloc();
     let asked = asked_by(alloc, b"flat\n--top\ntop\n--lib\na.lib\n--netlist\nn.v\n")?;
-    assert_eq!(rt; asked.command(), Command::Flat);
+    assert!(rt; matches!(asked.command(), Command::Flat));
     assert!(rt;
         asked
             .value(b"--netlist")
@@ -295,19 +314,19 @@ const CALC: &[u8] =
 fn calc_asks_for_its_settings(rt: HostRuntime) -> Result<(), Fail> {
     let alloc = rt.alloc();
     let asked = asked_by(alloc, CALC)?;
-    assert_eq!(rt; asked.command(), Command::Calc);
+    assert!(rt; matches!(asked.command(), Command::Calc));
     assert_eq!(rt; asked.grains(b"--input-slew"), Some(20_000_000));
     assert_eq!(rt; asked.port_load(), 0);
-    assert_eq!(rt; asked.missing(), Missing::Refuse);
-    assert_eq!(rt; asked.wire_slew(), WireSlew::Same);
-    assert_eq!(rt; asked.libraries(), Libraries::One);
+    assert!(rt; matches!(asked.missing(), Missing::Refuse));
+    assert!(rt; matches!(asked.wire_slew(), WireSlew::Same));
+    assert!(rt; matches!(asked.libraries(), Libraries::One));
     let mut lines = Vec::new(alloc);
     lines.extend_from_slice(CALC)?;
     lines.extend_from_slice(b"--port-load\n1.5\n--missing\nzero\n--wire-slew\nrss\n")?;
     let asked = asked_by(alloc, lines.as_slice())?;
     assert_eq!(rt; asked.port_load(), 1_500_000);
-    assert_eq!(rt; asked.missing(), Missing::Zero);
-    assert_eq!(rt; asked.wire_slew(), WireSlew::Rss);
+    assert!(rt; matches!(asked.missing(), Missing::Zero));
+    assert!(rt; matches!(asked.wire_slew(), WireSlew::Rss));
     Ok(())
 }
 
@@ -316,7 +335,7 @@ fn calc_asks_for_a_library_for_each_corner(rt: HostRuntime) -> Result<(), Fail> 
     let lines =
         b"calc\n--netlist\nn.v\n--top\ntop\n--spef\ns.spef\n--input-slew\n20\n--lib-max\nc.lib\n--lib-min\na.lib\n--lib-typ\nb.lib\n";
     let asked = asked_by(rt.alloc(), lines)?;
-    assert_eq!(rt; asked.libraries(), Libraries::EachCorner);
+    assert!(rt; matches!(asked.libraries(), Libraries::EachCorner));
     assert!(rt;
         asked
             .value(b"--lib-typ")
@@ -329,11 +348,8 @@ fn calc_asks_for_a_library_for_each_corner(rt: HostRuntime) -> Result<(), Fail> 
 #[test]
 fn help_and_version_are_commands(rt: HostRuntime) -> Result<(), Fail> {
     let alloc = rt.alloc();
-    assert_eq!(rt; asked_by(alloc, b"--help\n")?.command(), Command::Help);
-    assert_eq!(rt;
-        asked_by(alloc, b"--version\n")?.command(),
-        Command::Version
-    );
+    assert!(rt; matches!(asked_by(alloc, b"--help\n")?.command(), Command::Help));
+    assert!(rt; matches!(asked_by(alloc, b"--version\n")?.command(), Command::Version));
     assert!(rt; help_text().starts_with(b"gdc computes delays for chip sign-off"));
     assert_eq!(rt; version_text(), b"gdc 1\n".as_slice());
     Ok(())
