@@ -16,7 +16,8 @@ use Rattle.refusals.specs.declared.refusal.FileKey.TheVariants.{Netlist, Lib, Li
 use Rattle.gdc_run.specs.declared.outcome.Outcome.{Outcome}
 use Rattle.gdc_run.specs.declared.outcome.Outcome.TheVariants.{Done, Refused, Usage, ReadFault, WriteFault, OutOfMemory}
 use Rattle.gdc_words.specs.CommandLine.{Request, Asks, libraries_of}
-use Rattle.gdc_run.specs.Verdict.{Faulty, Answers, Gives, CommandGives, WiresGives, ShowGives, LookupGives, at_reading, at_sdf_reading, at_library_reading}
+use Rattle.command_rows.specs.CommandRows.{WiresGives, ShowGives, LookupGives, at_reading, at_sdf_reading, at_library_reading}
+use Rattle.gdc_run.specs.Verdict.{Faulty, Answers, Gives, CommandGives}
 use Rattle.gdc_run.specs.Trial.{TrialGives}
 use Rattle.gdc_run.specs.Outcomes.{OnDone, IfRefused, IfUsage, IfReadFault, OnWriteFault, GivesText, HasReadFault, AskForTrial, AnswersUsage, name_of}
 use Rattle.gdc_run.proofs.CalcFiles.{unread_output}

@@ -13,7 +13,7 @@ use Rattle.refusals.specs.declared.refusal.FileKey.{FileKey}
 use Rattle.design_phases.proofs.DesignLemmas.{comes_to}
 use Rattle.refusals.proofs.Places.{some_is}
 use Rattle.gdc_run.specs.Outcomes.{name_of, place_for, HasCause}
-use Rattle.gdc_run.specs.Verdict.{FlatGives}
+use Rattle.command_rows.specs.CommandRows.{FlatGives}
 
 module _ (request : Request) where
   abbrev pub netlist_name : List ℕ

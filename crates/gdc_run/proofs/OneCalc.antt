@@ -26,7 +26,7 @@ use Rattle.gdc_run.specs.Calculation.{each_corner, files_with, settings_at, Read
 use Rattle.gdc_run.specs.Putting.{As}
 use Rattle.gdc_run.specs.Verdict.{CalcOutput}
 use Rattle.gdc_run.specs.declared.output.Output.TheVariants as output
-use Rattle.gdc_run.proofs.OneLookup.{one_grains}
+use Rattle.gdc_run.proofs.OneGrains.{one_grains}
 use Rattle.gdc_run.proofs.OnePut.{one_put}
 
 -- ---- the settings that are asked for

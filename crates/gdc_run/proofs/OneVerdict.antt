@@ -23,14 +23,16 @@ use Rattle.design_phases.proofs.OneDesign.{one_design}
 use Rattle.refusals.specs.Refused.{WithoutFile}
 use Rattle.refusals.proofs.OneChain.{Steps, Then, stops, goes, one_plain, same_answers, one_then, one_made, one_by}
 use Rattle.refusals.proofs.OneText.{one_file}
-use Rattle.gdc_run.specs.Verdict.{ParsesSdf, is_sdf_file, is_no_sdf_file, ReadsSdf, ShowGives, WiresGives, LookupGives, FlatGives, at_sdf_reading, at_sdf, with_sdf_rows, CommandGives, Faulty, Answers}
+use Rattle.command_rows.specs.CommandRows.{ParsesSdf, is_sdf_file, is_no_sdf_file, ReadsSdf, ShowGives, WiresGives, LookupGives, FlatGives, at_sdf_reading, at_sdf, with_sdf_rows}
+use Rattle.gdc_run.specs.Verdict.{CommandGives, Faulty, Answers}
 use Rattle.gdc_run.specs.Putting.{As}
 use Rattle.gdc_run.specs.OneVerdict.{OneVerdict}
 use Rattle.gdc_run.proofs.OneCalc.{one_calc}
-use Rattle.gdc_run.proofs.OneLookup.{one_grains, one_lookup}
+use Rattle.command_rows.proofs.OneLookup.{one_lookup}
+use Rattle.gdc_run.proofs.OneGrains.{one_grains}
 use Rattle.gdc_run.proofs.OnePut.{one_put}
 use Rattle.gdc_run.proofs.OneTrial.{one_asked_trial}
-use Rattle.gdc_run.proofs.OneWires.{one_wires}
+use Rattle.command_rows.proofs.OneWires.{one_wires}
 
 -- ---- `show`
 

@@ -30,7 +30,8 @@ use Rattle.wire_phases.specs.AnnotationRows.{Wire, IsWireDelay, IsAnnotationRow}
 use Rattle.gdc_run.specs.Outcomes.{OnDone, GivesText, GivesFit, GivesReadable}
 use Rattle.gdc_run.specs.ReadBack.{HasNoComment, IsFitFor, IsReadable, IsAlwaysReadable}
 use Rattle.wire_phases.specs.SpefPhases.{sole_corner, DesignNets, ParsesSpef, is_spef, NetsSpef, are_nets, ReadsNets, through}
-use Rattle.gdc_run.specs.Verdict.{WiresGives, with_rows, CommandGives}
+use Rattle.command_rows.specs.CommandRows.{WiresGives, with_rows}
+use Rattle.gdc_run.specs.Verdict.{CommandGives}
 use Rattle.wire_phases.specs.WireNets.{HasDriver, NetGives, is_tree, NetsGive, no_net, and_net}
 use Rattle.gdc_run.specs.declared.outcome.Outcome.{Outcome}
 use Rattle.gdc_run.specs.declared.outcome.Outcome.TheVariants.{Done, Refused, Usage, ReadFault, WriteFault, OutOfMemory}

@@ -1,11 +1,7 @@
-pub mod ArcRows
 pub mod Calculation
 pub mod Completeness
 pub mod Ends
-pub mod FlatLines
-pub mod FlatText
 pub mod Lines
-pub mod Looking
 pub mod OneVerdict
 pub mod Outcomes
 pub mod Outputs

@@ -4,24 +4,17 @@
 //! streams are traits here, so that a run can be tried in memory.
 #![tactic(auto)]
 
-mod arc_rows;
 mod calc;
 mod design;
-mod flat;
-mod flat_lines;
-mod flat_text;
 mod laws;
 mod lines;
-mod lookup;
 mod outcome;
 mod output;
 mod performing;
-mod show;
 mod text_sink;
 mod top;
 mod trial;
 mod trial_shelf;
-mod wires;
 
 pub use laws::one_verdict;
 pub use outcome::Outcome;

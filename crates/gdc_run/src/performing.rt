@@ -10,14 +10,10 @@ ghost use Rattle.refusals.specs.EarlyRefusals.{OnEarly};
 ghost use Rattle.wire_phases.specs.SpefWork.{IsWithin};
 ghost use Rattle.gdc_run.specs.Work.{CommandWork};
 
-use crate::arc_rows::Point;
 use crate::calc::calc;
-use crate::flat::flat;
-use crate::lookup::lookup;
 use crate::output::Output;
-use crate::show::show;
 use crate::trial::trial;
-use crate::wires::wires;
+use command_rows::{Point, flat, lookup, show, wires};
 use edge_io::{Shelf, Steps};
 use gdc_words::{Asked, Command, Key};
 use refusals::{FileKey, Refusal};

@@ -1,0 +1,9 @@
+pub mod ArcLemmas
+pub mod FlatEnds
+pub mod FlatTexts
+pub mod LookupTexts
+pub mod OneLookup
+pub mod OneWires
+pub mod RowsWork
+pub mod WireTexts
+pub mod WithoutFile
