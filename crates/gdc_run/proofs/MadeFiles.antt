@@ -26,7 +26,8 @@ use Rattle.delay_core.specs.AnnotationWork.{FilesWork, no_inputs}
 use Rattle.delay_core.specs.declared.settings.Files.{Files}
 use Rattle.delay_core.specs.declared.settings.Settings.{Settings}
 use Rattle.gdc_run.specs.Calculation.{DesignGives}
-use Rattle.gdc_run.specs.Trial.{trial_files, trial_held, trial_names, trial_settings, TrialRows, TrialWork}
+use Rattle.trial_files.specs.HeldFiles.{trial_held}
+use Rattle.gdc_run.specs.Trial.{trial_files, trial_names, trial_settings, TrialRows, TrialWork}
 
 -- ---- no read fault
 

@@ -13,7 +13,8 @@ use Rattle.refusals.proofs.OneChain.{Steps, one_by}
 use Rattle.wire_phases.proofs.OneNet.{sole_numbered}
 use Rattle.refusals.proofs.Places.{some_is}
 use Rattle.gdc_run.specs.Putting.{As}
-use Rattle.gdc_run.specs.Trial.{trial_files, trial_held, trial_names, trial_settings, TrialRows, TrialGives, is_refused, is_read_back, ReadsTrial}
+use Rattle.trial_files.specs.HeldFiles.{trial_held}
+use Rattle.gdc_run.specs.Trial.{trial_files, trial_names, trial_settings, TrialRows, TrialGives, is_refused, is_read_back, ReadsTrial}
 use Rattle.gdc_run.specs.declared.output.Output.{Output}
 use Rattle.gdc_run.specs.declared.output.Output.TheVariants as output
 use Rattle.gdc_run.proofs.OneCalc.{one_rows}

@@ -1,8 +1,6 @@
 -- What `trial` calculates, and what it reads back: the files of a shape and a size, and settings that are fixed.
-use Rattle.std.specs.Prelude.{◌≡◌, ℕ, pos, if◌then◌else◌, List, [], ◌∷◌, codes, Some, None}
-use Rattle.std.specs.Str.{bytes_eq}
+use Rattle.std.specs.Prelude.{◌≡◌, ℕ, pos, List, [], ◌∷◌, codes, Some}
 use Rattle.corner_set.specs.declared.pick.Pick.TheVariants.{Typ}
-use Rattle.edge_io.specs.Holding.{Held}
 use Rattle.net_parasitics.specs.declared.ends.Missing.TheVariants as missing
 use Rattle.nldm_lookup.specs.declared.beyond.Beyond.TheVariants as beyond
 use Rattle.sdf_read_back.specs.Rows.{read_back_rows}
@@ -13,6 +11,7 @@ use Rattle.trial_files.specs.ChainNetlist.{chain_netlist}
 use Rattle.trial_files.specs.ChainSpef.{chain_spef}
 use Rattle.trial_files.specs.BlockNetlist.{block_netlist}
 use Rattle.trial_files.specs.BlockSpef.{block_spef}
+use Rattle.trial_files.specs.HeldFiles.{trial_held}
 use Rattle.trial_files.specs.declared.files.TrialFiles.{TrialFiles}
 use Rattle.verdict_phases.specs.Phases.{RefusedBy, Step, Go, Halt}
 use Rattle.wire_slews.specs.declared.slews.WireSlew.TheVariants as wire
@@ -34,14 +33,7 @@ abbrev pub trial_files : Shape → ℕ → TrialFiles
 trial_files Chain size = record { netlist = chain_netlist; library = trial_library; spef = chain_spef size }
 trial_files Block size = record { netlist = block_netlist size; library = trial_library; spef = block_spef size }
 
--- these files alone are held, by the names `netlist`, `library` and `spef`
-abbrev pub trial_held : TrialFiles → Held
-trial_held files name =
-    if bytes_eq name (codes "netlist") then Some files.netlist
-    else if bytes_eq name (codes "library") then Some files.library
-    else if bytes_eq name (codes "spef") then Some files.spef
-    else None
-
+-- their names
 abbrev pub trial_names : Files
 trial_names = record { netlist = codes "netlist"; libraries = codes "library" ∷ []; spef = codes "spef" }
 

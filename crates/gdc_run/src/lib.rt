@@ -11,10 +11,8 @@ mod lines;
 mod outcome;
 mod output;
 mod performing;
-mod text_sink;
 mod top;
 mod trial;
-mod trial_shelf;
 
 pub use laws::one_verdict;
 pub use outcome::Outcome;

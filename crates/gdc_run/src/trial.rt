@@ -11,8 +11,6 @@ ghost use Rattle.wire_phases.specs.SpefWork.{IsWithin};
 ghost use Rattle.gdc_run.specs.Trial.{trial_files, trial_names, trial_settings, TrialRows, TrialGives, TrialWork};
 
 use crate::design::design_rows;
-use crate::text_sink::sdf_text_of;
-use crate::trial_shelf::TrialShelf;
 use corner_set::{Pick, Single};
 use delay_core::{Files, Settings};
 use delay_units::{Atto, Farads};
@@ -23,10 +21,10 @@ use nldm_lookup::Beyond;
 use refusals::{FileKey, Refusal};
 use sdf_read_back::read_back;
 use sdf_reader::{SdfEnd, SdfRows, read};
-use sdf_writer::Rows;
+use sdf_writer::{Rows, sdf_text_of};
 use std::alloc::Global;
 use std::sync::ledger::Ledger;
-use trial_files::{TrialFiles, block_files, chain_files};
+use trial_files::{TrialFiles, TrialShelf, block_files, chain_files};
 use verdict_phases::PhaseEnd;
 use wire_slews::WireSlew;
 

@@ -10,6 +10,7 @@ mod names;
 mod paths;
 mod rows;
 mod text;
+mod text_sink;
 mod times;
 mod values;
 
@@ -17,3 +18,4 @@ pub use ends::WireEnd;
 pub use paths::PathNames;
 pub use rows::Rows;
 pub use text::write;
+pub use text_sink::sdf_text_of;

@@ -1,3 +1,4 @@
+pub mod HeldFiles
 pub mod Numbers
 pub mod TrialLibrary
 pub mod SpefHead

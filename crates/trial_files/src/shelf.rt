@@ -1,13 +1,13 @@
 //! A shelf that holds the files of a trial.
 ghost use Rattle.std.specs.Prelude.{◌≡◌, ◌≤◌, [], Some, option_copied, length, take, drop};
-ghost use Rattle.gdc_run.specs.Trial.{trial_held};
+ghost use Rattle.trial_files.specs.HeldFiles.{trial_held};
 
+use crate::files::TrialFiles;
 use edge_io::{Failed, Shelf, Text};
-use trial_files::TrialFiles;
 
 /// A shelf in memory that holds the files of a trial, and no others. It tells what it holds, and no call of it ends in a fault.
 #[derive(Drop)]
-pub(crate) struct TrialShelf<'a> {
+pub struct TrialShelf<'a> {
     files: &'a TrialFiles,
     left: &'a [u8],
     opens: u64,
@@ -16,7 +16,7 @@ pub(crate) struct TrialShelf<'a> {
 
 impl<'a> TrialShelf<'a> {
     /// A shelf of these files, of which none is open.
-    pub(crate) fn new(files: &'a TrialFiles) -> TrialShelf<'a>
+    pub fn new(files: &'a TrialFiles) -> TrialShelf<'a>
         ensures { result.files.now ≡ files.now }
     {
         TrialShelf {

@@ -1,11 +1,12 @@
-//! A sink into memory.
+//! The SDF text of rows in memory.
 ghost use Rattle.std.specs.Prelude.{◌≡◌, ◌≤◌, ◌++◌, Some, IfOk, OnOk, OnErr};
 ghost use Rattle.edge_io.specs.Counts.{Rose};
 ghost use Rattle.sdf_writer.specs.SdfText.{sdf_text};
 
-use corner_set::Single;
+use crate::rows::Rows;
+use crate::text::write;
+use corner_set::CornerSet;
 use edge_io::{Failed, OutOfMemory, Sink, Text};
-use sdf_writer::{Rows, write};
 use std::alloc::Global;
 
 /// A text that grows with what is written to it. A write fails only where there was no memory for it, so its faults are counted as what
@@ -52,7 +53,7 @@ impl Sink for TextSink {
 }
 
 /// The SDF text of rows, in memory.
-pub(crate) fn sdf_text_of(alloc: Global, rows: &Rows<Single>) -> Result<Text, OutOfMemory>
+pub fn sdf_text_of<C: CornerSet>(alloc: Global, rows: &Rows<C>) -> Result<Text, OutOfMemory>
     ensures { IfOk result (λ text. text ≡ sdf_text rows.now) }
 {
     let mut sink = TextSink {
