@@ -8,7 +8,7 @@ use Rattle.std.proofs.lemmas.Grind.{flat_map-append}
 use Rattle.std.proofs.lemmas.Option.{slice_get_within, slice_get_read}
 use Rattle.delay_units.specs.declared.quantities.Atto.{Atto as AttoSeconds}
 use Rattle.nldm_lookup.specs.Interpolant.{IsInterpolant}
-use Rattle.nldm_lookup.specs.declared.beyond.Beyond.{Beyond}
+use Rattle.corner_set.specs.declared.choices.Beyond.{Beyond}
 use Rattle.nldm_lookup.specs.declared.faults.LookupEnd.{LookupEnd}
 use Rattle.nldm_lookup.specs.declared.faults.LookupEnd.TheVariants as lookup_end
 use Rattle.nldm_lookup.specs.declared.faults.Outside.{Outside}

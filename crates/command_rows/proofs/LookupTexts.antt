@@ -1,7 +1,7 @@
 -- What `lookup` gives at the one corner of a run.
 use Rattle.std.proofs.Common.{ℕ, List, Option, Result, Ok, Err}
 use Rattle.edge_io.specs.Holding.{Held}
-use Rattle.nldm_lookup.specs.declared.beyond.Beyond.{Beyond}
+use Rattle.corner_set.specs.declared.choices.Beyond.{Beyond}
 use Rattle.verdict_phases.specs.Phases.{Stop, RefusedBy, Step, Go, Halt, Follows}
 use Rattle.verdict_phases.specs.declared.ends.PhaseEnd.{PhaseEnd}
 use Rattle.verdict_phases.specs.declared.ends.PhaseEnd.TheVariants as phase

@@ -8,7 +8,7 @@ use Rattle.edge_io.specs.Holding.{Held}
 use Rattle.edge_io.specs.Zipping.{one_zip}
 use Rattle.liberty_groups.specs.Groups.{Group}
 use Rattle.nldm_lookup.specs.Interpolant.{IsLookupEnd}
-use Rattle.nldm_lookup.specs.declared.beyond.Beyond.{Beyond}
+use Rattle.corner_set.specs.declared.choices.Beyond.{Beyond}
 use Rattle.nldm_lookup.specs.declared.faults.LookupEnd.{LookupEnd}
 use Rattle.nldm_lookup.specs.declared.grain.Grain.{Grain}
 use Rattle.nldm_lookup.specs.declared.grain.Grain.TheVariants.{Atto, Femto}

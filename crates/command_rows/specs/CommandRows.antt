@@ -15,7 +15,7 @@ use Rattle.design_phases.specs.DesignReading.{LinkedDesign, ReadsDesign}
 use Rattle.refusals.specs.InputFiles.{ReadsInput}
 use Rattle.wire_phases.specs.SpefPhases.{DesignNets, ReadsNets, ReadsSpefFile}
 use Rattle.liberty_groups.specs.Groups.{Group}
-use Rattle.nldm_lookup.specs.declared.beyond.Beyond.{Beyond}
+use Rattle.corner_set.specs.declared.choices.Beyond.{Beyond}
 use Rattle.spef_nets.specs.Sections.{Corners}
 use Rattle.cell_models.specs.Cells.{TimedCell}
 use Rattle.command_rows.specs.ArcRows.{CellGives}

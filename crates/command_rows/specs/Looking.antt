@@ -1,7 +1,7 @@
 -- One edge of an arc, looked up.
 use Rattle.std.specs.Prelude.{◌≡◌, ℕ, List}
 use Rattle.nldm_lookup.specs.Interpolant.{IsInterpolant}
-use Rattle.nldm_lookup.specs.declared.beyond.Beyond.{Beyond}
+use Rattle.corner_set.specs.declared.choices.Beyond.{Beyond}
 use Rattle.nldm_lookup.specs.declared.grain.Grain.TheVariants.{Atto, Femto}
 use Rattle.cell_models.specs.declared.cell.Arc.{Arc}
 use Rattle.cell_models.specs.declared.cell.EdgeTables.{EdgeTables}

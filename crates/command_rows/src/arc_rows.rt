@@ -7,9 +7,10 @@ ghost use Rattle.command_rows.specs.ArcRows.{arc_edges, edge_of, edges_of, IsEdg
 ghost use Rattle.command_rows.specs.Looking.{IsLooked, IsRowOf};
 
 use cell_models::{Edge, Part};
+use corner_set::Beyond;
 use delay_units::{Atto, Farads};
 use edge_io::{OutOfMemory, Steps, Text};
-use nldm_lookup::{Beyond, Grain, LookupEnd};
+use nldm_lookup::{Grain, LookupEnd};
 use refusals::Refusal;
 use std::alloc::Global;
 use std::marker::Model;

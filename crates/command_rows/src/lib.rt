@@ -4,17 +4,17 @@
 
 mod arc_rows;
 mod arc_text;
-mod flat;
+mod flat_command;
 mod flat_lines;
 mod flat_text;
-mod lookup;
-mod show;
-mod wires;
+mod lookup_command;
+mod show_command;
+mod wires_command;
 
 pub use arc_rows::{ArcRow, ArcRows, Point};
 pub use arc_text::write_arcs;
-pub use flat::flat;
+pub use flat_command::flat;
 pub use flat_text::write_flat;
-pub use lookup::lookup;
-pub use show::show;
-pub use wires::wires;
+pub use lookup_command::lookup;
+pub use show_command::show;
+pub use wires_command::wires;

@@ -3,11 +3,13 @@
 //! A grid keeps one value for each row and corner in one flat vector.
 #![tactic(auto)]
 
+mod choices;
 mod corner;
 mod grid;
 mod pick;
 mod triple;
 
+pub use choices::{Beyond, Missing, WireSlew};
 pub use corner::{CornerSet, Single, corner_at, first_corner};
 pub use grid::Grid;
 pub use pick::Pick;

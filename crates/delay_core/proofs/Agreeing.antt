@@ -3,13 +3,13 @@ use Rattle.std.proofs.Common.{ℕ, List, Ok, refl, sym, subst}
 use Rattle.std.specs.Prelude.{unsigned_abs}
 use Rattle.cell_models.specs.NamedSets.{NamedCells}
 use Rattle.netlist_link.specs.FlatNetlist.{FlatNetlist}
-use Rattle.nldm_lookup.specs.declared.beyond.Beyond.{Beyond}
-use Rattle.wire_slews.specs.declared.slews.WireSlew.{WireSlew}
+use Rattle.corner_set.specs.declared.choices.Beyond.{Beyond}
+use Rattle.corner_set.specs.declared.choices.WireSlew.{WireSlew}
 use Rattle.slew_order.specs.NetTimes.{NetTimes, Fits}
 use Rattle.slew_order.specs.Slews.{SlewTables, AreTablesOf, AreSlews}
 use Rattle.slew_order.specs.Timings.{SlewSource, source_of}
 use Rattle.net_parasitics.specs.Inputs.{Inputs}
-use Rattle.net_parasitics.specs.declared.ends.Missing.{Missing}
+use Rattle.corner_set.specs.declared.choices.Missing.{Missing}
 use Rattle.design_phases.specs.DesignReading.{LinkedDesign}
 use Rattle.delay_core.specs.AnnotatedDesigns.{AreSound, DesignDelays, with_delays_of, PartsAgree}
 use Rattle.delay_core.specs.DelayPhase.{FindsDelays, are_delays}

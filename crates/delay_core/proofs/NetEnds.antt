@@ -4,7 +4,7 @@ use Rattle.std.specs.Prelude.{IsTrue}
 use Rattle.rc_tree.specs.declared.ends.TreeEnd.{TreeEnd}
 use Rattle.net_parasitics.specs.Inputs.{Inputs}
 use Rattle.net_parasitics.specs.NetTrees.{IsParasiticsEnd, missing_net, no_tree}
-use Rattle.net_parasitics.specs.declared.ends.Missing.{Missing}
+use Rattle.corner_set.specs.declared.choices.Missing.{Missing}
 use Rattle.net_parasitics.specs.declared.ends.ParasiticsEnd.TheVariants.{MissingNet, Tree}
 use Rattle.refusals.specs.EarlyRefusals.{is_early}
 use Rattle.refusals.specs.declared.refusal.Refusal.{Refusal}

@@ -8,7 +8,7 @@ use Rattle.rc_tree.specs.declared.ends.TreeEnd.TheVariants as tree
 use Rattle.slew_order.specs.NetTimes.{NetTimes}
 use Rattle.net_parasitics.specs.Inputs.{Inputs}
 use Rattle.net_parasitics.specs.NetTrees.{AreNetDelays, IsParasiticsEnd}
-use Rattle.net_parasitics.specs.declared.ends.Missing.{Missing}
+use Rattle.corner_set.specs.declared.choices.Missing.{Missing}
 use Rattle.net_parasitics.specs.declared.ends.ParasiticsEnd.TheVariants as nets
 use Rattle.refusals.specs.declared.refusal.LimitKind.TheVariants.{Net}
 use Rattle.refusals.specs.declared.refusal.Refusal.{Refusal}

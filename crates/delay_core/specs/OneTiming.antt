@@ -6,7 +6,7 @@ use Rattle.slew_order.specs.NetTimes.{NetTimes}
 use Rattle.slew_order.specs.Slews.{SlewTables}
 use Rattle.slew_order.specs.Timings.{SlewSource}
 use Rattle.net_parasitics.specs.Inputs.{Inputs}
-use Rattle.net_parasitics.specs.declared.ends.Missing.{Missing}
+use Rattle.corner_set.specs.declared.choices.Missing.{Missing}
 use Rattle.refusals.specs.SameAnswers.{SameAnswer}
 use Rattle.refusals.specs.declared.refusal.Refusal.{Refusal}
 use Rattle.delay_core.specs.DelayPhase.{FindsDelays}

@@ -1,11 +1,8 @@
 //! What the delays of a design are asked of.
 
-use corner_set::Pick;
+use corner_set::{Beyond, Missing, Pick, WireSlew};
 use delay_units::{Atto, Farads};
 use edge_io::{Text, TextList};
-use net_parasitics::Missing;
-use nldm_lookup::Beyond;
-use wire_slews::WireSlew;
 
 /// The names of the files of a design: its netlist, a library for each corner, in the order of the corners, and a SPEF file.
 #[derive(Drop)]

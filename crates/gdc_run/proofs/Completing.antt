@@ -4,7 +4,7 @@ use Rattle.edge_io.specs.Counts.{Rose}
 use Rattle.edge_io.specs.Holding.{Held, TellsMissing}
 use Rattle.edge_io.specs.Told.{appended, AppendsFrontOf}
 use Rattle.verdict_phases.specs.Phases.{RefusedBy, Unread, Reads, Go, Halt}
-use Rattle.nldm_lookup.specs.declared.beyond.Beyond.{Beyond}
+use Rattle.corner_set.specs.declared.choices.Beyond.{Beyond}
 use Rattle.gdc_words.specs.declared.commands.Command.{Command}
 use Rattle.gdc_words.specs.declared.commands.Command.TheVariants.{Wires, Calc, Show, Lookup, Flat, Trial, Help, Version}
 use Rattle.gdc_words.specs.declared.commands.Shape.{Shape}

@@ -1,8 +1,8 @@
 -- What `trial` calculates, and what it reads back: the files of a shape and a size, and settings that are fixed.
 use Rattle.std.specs.Prelude.{◌≡◌, ℕ, pos, List, [], ◌∷◌, codes, Some}
 use Rattle.corner_set.specs.declared.pick.Pick.TheVariants.{Typ}
-use Rattle.net_parasitics.specs.declared.ends.Missing.TheVariants as missing
-use Rattle.nldm_lookup.specs.declared.beyond.Beyond.TheVariants as beyond
+use Rattle.corner_set.specs.declared.choices.Missing.TheVariants as missing
+use Rattle.corner_set.specs.declared.choices.Beyond.TheVariants as beyond
 use Rattle.sdf_read_back.specs.Rows.{read_back_rows}
 use Rattle.sdf_reader.specs.declared.rows.SdfRow.{SdfRow}
 use Rattle.sdf_writer.specs.SdfText.{SdfRows}
@@ -14,7 +14,7 @@ use Rattle.trial_files.specs.BlockSpef.{block_spef}
 use Rattle.trial_files.specs.HeldFiles.{trial_held}
 use Rattle.trial_files.specs.declared.files.TrialFiles.{TrialFiles}
 use Rattle.verdict_phases.specs.Phases.{RefusedBy, Step, Go, Halt}
-use Rattle.wire_slews.specs.declared.slews.WireSlew.TheVariants as wire
+use Rattle.corner_set.specs.declared.choices.WireSlew.TheVariants as wire
 use Rattle.gdc_words.specs.CommandLine.{Request, shape_of, value_of}
 use Rattle.gdc_words.specs.Sizes.{IsSize}
 use Rattle.gdc_words.specs.declared.commands.Key.TheVariants as key

@@ -11,13 +11,11 @@ ghost use Rattle.wire_phases.specs.SpefWork.{IsWithin};
 ghost use Rattle.gdc_run.specs.Trial.{trial_files, trial_names, trial_settings, TrialRows, TrialGives, TrialWork};
 
 use crate::design::design_rows;
-use corner_set::{Pick, Single};
+use corner_set::{Beyond, Missing, Pick, Single, WireSlew};
 use delay_core::{Files, Settings};
 use delay_units::{Atto, Farads};
 use edge_io::{OutOfMemory, Steps, Text, TextList};
 use gdc_words::Shape;
-use net_parasitics::Missing;
-use nldm_lookup::Beyond;
 use refusals::{FileKey, Refusal};
 use sdf_read_back::read_back;
 use sdf_reader::{SdfEnd, SdfRows, read};
@@ -26,7 +24,6 @@ use std::alloc::Global;
 use std::sync::ledger::Ledger;
 use trial_files::{TrialFiles, TrialShelf, block_files, chain_files};
 use verdict_phases::PhaseEnd;
-use wire_slews::WireSlew;
 
 // The slew at the input port: 20 ps, in attoseconds.
 const INPUT_SLEW: i64 = 20_000_000;

@@ -10,12 +10,12 @@ use Rattle.corner_set.specs.declared.pick.Pick.TheVariants.{Min, Typ, Max}
 use Rattle.gdc_words.specs.declared.commands.Key.TheVariants.{Spef, Triple, Sdf, Netlist, Top, Lib, LibMin, LibTyp, LibMax, Cell, Slew, Load, InputSlew, PortLoad, Missing, WireSlew, Outside, Shape, Size}
 use Rattle.gdc_words.specs.declared.commands.Libraries.{Libraries}
 use Rattle.gdc_words.specs.declared.commands.Libraries.TheVariants.{One, EachCorner}
-use Rattle.nldm_lookup.specs.declared.beyond.Beyond.{Beyond}
-use Rattle.nldm_lookup.specs.declared.beyond.Beyond.TheVariants.{Refuse, Edge, Extend}
-use Rattle.net_parasitics.specs.declared.ends.Missing.{Missing as MissingNets}
-use Rattle.net_parasitics.specs.declared.ends.Missing.TheVariants as nets
-use Rattle.wire_slews.specs.declared.slews.WireSlew.{WireSlew as WireMode}
-use Rattle.wire_slews.specs.declared.slews.WireSlew.TheVariants as wire
+use Rattle.corner_set.specs.declared.choices.Beyond.{Beyond}
+use Rattle.corner_set.specs.declared.choices.Beyond.TheVariants.{Refuse, Edge, Extend}
+use Rattle.corner_set.specs.declared.choices.Missing.{Missing as MissingNets}
+use Rattle.corner_set.specs.declared.choices.Missing.TheVariants as nets
+use Rattle.corner_set.specs.declared.choices.WireSlew.{WireSlew as WireMode}
+use Rattle.corner_set.specs.declared.choices.WireSlew.TheVariants as wire
 use Rattle.gdc_words.specs.declared.commands.Shape.{Shape as TrialShape}
 use Rattle.gdc_words.specs.declared.commands.Shape.TheVariants.{Chain, Block}
 use Rattle.gdc_words.specs.declared.asked.Given.{Given}

@@ -12,12 +12,9 @@ use crate::commands::{
 };
 use crate::decimals::grains_of;
 use crate::sizes::size_of;
-use corner_set::Pick;
+use corner_set::{Beyond, Missing, Pick, WireSlew};
 use edge_io::Text;
-use net_parasitics::Missing;
-use nldm_lookup::Beyond;
 use std::marker::Model;
-use wire_slews::WireSlew;
 
 /// A key that stands, and its value.
 #[derive(Drop)]

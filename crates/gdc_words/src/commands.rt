@@ -4,10 +4,7 @@ ghost use Rattle.gdc_words.specs.CommandLine.{command_of, key_of, keys, key_word
 
 use crate::decimals::grains_of;
 use crate::sizes::size_of;
-use corner_set::Pick;
-use net_parasitics::Missing;
-use nldm_lookup::Beyond;
-use wire_slews::WireSlew;
+use corner_set::{Beyond, Missing, Pick, WireSlew};
 
 /// A command of the program, which is its first word.
 #[derive(Clone, Copy)]

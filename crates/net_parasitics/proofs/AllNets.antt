@@ -14,8 +14,8 @@ use Rattle.net_parasitics.specs.NetSections.{IsSectionOf, is_written, is_missing
 use Rattle.net_parasitics.specs.NetSteps.{KeepsOtherNets, AreFirstTimes, IsFirstNetEnd, IsNetEnd, net_refused, no_memory_for_it, IsFirstMissing, first_missing, TakesWork}
 use Rattle.net_parasitics.specs.NetTrees.{IsWired, IsUnwired, elements_at, sink_at, HasTree, needs_none, has_one, AreZero, HasTimes, are_zero, are_times, NoneMissing, AreNetDelays, IsParasiticsEnd, missing_net, no_tree, no_memory}
 use Rattle.net_parasitics.specs.WorkCounts.{NetWork, of_none, of_net, most_steps, NetsWork, no_nets, and_net, IsWithin, is_early}
-use Rattle.net_parasitics.specs.declared.ends.Missing.{Missing}
-use Rattle.net_parasitics.specs.declared.ends.Missing.TheVariants.{Refuse}
+use Rattle.corner_set.specs.declared.choices.Missing.{Missing}
+use Rattle.corner_set.specs.declared.choices.Missing.TheVariants.{Refuse}
 use Rattle.net_parasitics.specs.declared.ends.ParasiticsEnd.{ParasiticsEnd}
 use Rattle.net_parasitics.specs.declared.ends.ParasiticsEnd.TheVariants.{OutOfMemory}
 

@@ -27,8 +27,8 @@ use Rattle.net_parasitics.specs.NetPins.{net_pins}
 use Rattle.net_parasitics.specs.NetSections.{IsSectionOf, is_written, is_missing}
 use Rattle.net_parasitics.specs.NetTrees.{IsNet, elements_at, sink_at, IsTreeNet, HasTree, needs_none, has_one, AreTimesOf, HasTimes, are_zero, are_times, IsMissing, NoneMissing, AreNetDelays, IsRefused, IsParasiticsEnd, missing_net, no_tree, no_memory}
 use Rattle.net_parasitics.specs.OneAnswer.{IsSameTreeEnd, IsSameEnd}
-use Rattle.net_parasitics.specs.declared.ends.Missing.{Missing}
-use Rattle.net_parasitics.specs.declared.ends.Missing.TheVariants.{Refuse}
+use Rattle.corner_set.specs.declared.choices.Missing.{Missing}
+use Rattle.corner_set.specs.declared.choices.Missing.TheVariants.{Refuse}
 use Rattle.net_parasitics.specs.declared.ends.ParasiticsEnd.{ParasiticsEnd}
 use Rattle.net_parasitics.specs.declared.ends.ParasiticsEnd.TheVariants.{OutOfMemory}
 use Rattle.net_parasitics.proofs.MissingNets.{has_at}

@@ -16,8 +16,8 @@ use Rattle.slew_order.specs.NetTimes.{NetTimes, AreNetTimes, Fits, load_at, elmo
 use Rattle.net_parasitics.specs.Inputs.{Inputs}
 use Rattle.net_parasitics.specs.NetPins.{net_pins}
 use Rattle.net_parasitics.specs.NetSections.{IsSectionOf}
-use Rattle.net_parasitics.specs.declared.ends.Missing.{Missing}
-use Rattle.net_parasitics.specs.declared.ends.Missing.TheVariants.{Refuse, Zero}
+use Rattle.corner_set.specs.declared.choices.Missing.{Missing}
+use Rattle.corner_set.specs.declared.choices.Missing.TheVariants.{Refuse, Zero}
 use Rattle.net_parasitics.specs.declared.ends.ParasiticsEnd.{ParasiticsEnd}
 use Rattle.net_parasitics.specs.declared.ends.ParasiticsEnd.TheVariants.{MissingNet, Tree, OutOfMemory}
 

@@ -4,15 +4,6 @@ ghost use Rattle.net_parasitics.specs.TreeEnds.{IsEndOf};
 use edge_io::OutOfMemory;
 use rc_tree::TreeEnd;
 
-/// What a net is that has a driver and a sink but no section in the SPEF file.
-#[derive(Clone, Copy)]
-pub enum Missing {
-    /// It is refused.
-    Refuse,
-    /// It has neither resistance nor capacitance of its own: its load is that of its sinks, and its Elmore sums are 0.
-    Zero,
-}
-
 /// Why the nets of a netlist have no loads and no Elmore sums. Nets are given by their numbers, from 0.
 #[derive(Drop)]
 pub enum ParasiticsEnd {

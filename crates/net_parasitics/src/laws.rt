@@ -10,7 +10,7 @@ ghost use Rattle.slew_order.specs.NetTimes.{NetTimes};
 ghost use Rattle.net_parasitics.specs.Inputs.{Inputs, AreNamedApart};
 ghost use Rattle.net_parasitics.specs.NetTrees.{AreNetDelays, IsParasiticsEnd};
 ghost use Rattle.net_parasitics.specs.OneAnswer.{IsSameEnd};
-ghost use Rattle.net_parasitics.specs.declared.ends.Missing.{Missing};
+ghost use Rattle.corner_set.specs.declared.choices.Missing.{Missing};
 ghost use Rattle.net_parasitics.specs.declared.ends.ParasiticsEnd.{ParasiticsEnd};
 ghost use Rattle.net_parasitics.specs.declared.ends.ParasiticsEnd.TheVariants.{OutOfMemory};
 

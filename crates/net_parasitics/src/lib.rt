@@ -19,6 +19,6 @@ mod nets;
 mod pin_names;
 mod sink_loads;
 
-pub use ends::{Missing, ParasiticsEnd};
+pub use ends::ParasiticsEnd;
 pub use laws::{named_apart, one_answer};
 pub use nets::net_delays;

@@ -10,13 +10,13 @@ ghost use Rattle.net_parasitics.specs.NetTrees.{IsWired, IsUnwired, IsMissing, A
 ghost use Rattle.net_parasitics.specs.NetTrees.{NoneMissing, AreNetDelays, IsParasiticsEnd};
 ghost use Rattle.net_parasitics.specs.NetSteps.{KeepsOtherNets, IsNetEnd, IsFirstNetEnd, IsFirstMissing, TakesWork, AreFirstTimes};
 ghost use Rattle.net_parasitics.specs.WorkCounts.{IsWithin, is_early};
-ghost use Rattle.net_parasitics.specs.declared.ends.Missing.TheVariants.{Refuse};
+ghost use Rattle.corner_set.specs.declared.choices.Missing.TheVariants.{Refuse};
 
-use crate::ends::{Missing, ParasiticsEnd, end_of_net};
+use crate::ends::{ParasiticsEnd, end_of_net};
 use crate::inputs::NetInputs;
 use crate::net_times::put_times;
 use crate::net_trees::TreeWork;
-use corner_set::CornerSet;
+use corner_set::{CornerSet, Missing};
 use delay_units::Farads;
 use edge_io::Steps;
 use netlist_link::{End, LinkedNetlist};

@@ -11,8 +11,8 @@ use Rattle.nldm_lookup.specs.Betweens.{Between, IsBetween, IsPassed, width}
 use Rattle.nldm_lookup.specs.Tables.{TimingTable, IsTable}
 use Rattle.nldm_lookup.specs.Interpolant.{weighed, attos_in, most_in, not_below, IsFar, far, quotient, IsInterpolant, IsLookupEnd, slew_outside, load_outside, far_load, far_value, IsLookup}
 use Rattle.nldm_lookup.specs.Rows.{size_of}
-use Rattle.nldm_lookup.specs.declared.beyond.Beyond.{Beyond}
-use Rattle.nldm_lookup.specs.declared.beyond.Beyond.TheVariants.{Refuse, Edge, Extend}
+use Rattle.corner_set.specs.declared.choices.Beyond.{Beyond}
+use Rattle.corner_set.specs.declared.choices.Beyond.TheVariants.{Refuse, Edge, Extend}
 use Rattle.nldm_lookup.specs.declared.faults.LookupEnd.{LookupEnd}
 use Rattle.nldm_lookup.specs.declared.faults.LookupEnd.TheVariants.{PastTime}
 use Rattle.nldm_lookup.specs.declared.faults.Which.TheVariants.{Slew, Load}

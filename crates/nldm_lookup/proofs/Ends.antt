@@ -5,8 +5,8 @@ use Rattle.std.proofs.lemmas.Option.{slice_get_within, slice_get-get_or, get_or_
 use Rattle.nldm_lookup.specs.Axes.{IsAxis, most}
 use Rattle.nldm_lookup.specs.Betweens.{Between, AreNeighbours, neighbours, IsPast, below, above, IsPassed, IsBetween, sole, inside, edge, extend, width}
 use Rattle.nldm_lookup.specs.Rows.{IsOn}
-use Rattle.nldm_lookup.specs.declared.beyond.Beyond.{Beyond}
-use Rattle.nldm_lookup.specs.declared.beyond.Beyond.TheVariants.{Refuse, Extend}
+use Rattle.corner_set.specs.declared.choices.Beyond.{Beyond}
+use Rattle.corner_set.specs.declared.choices.Beyond.TheVariants.{Refuse, Extend}
 use Rattle.nldm_lookup.proofs.Gaps.{rises, point_small, same_point}
 
 -- a later point is above

@@ -11,8 +11,8 @@ use Rattle.nldm_lookup.specs.Betweens.{Between, AreNeighbours, neighbours, IsBet
 use Rattle.nldm_lookup.specs.Tables.{TimingTable, IsTable, value_at}
 use Rattle.nldm_lookup.specs.Interpolant.{weighed, attos_in, not_below, IsQuotient, quotient, IsInterpolant, IsLookupEnd, slew_outside, load_outside, far_load, far_value, OneLookup}
 use Rattle.nldm_lookup.specs.Rows.{row_at, rows_at}
-use Rattle.nldm_lookup.specs.declared.beyond.Beyond.{Beyond}
-use Rattle.nldm_lookup.specs.declared.beyond.Beyond.TheVariants.{Refuse, Extend}
+use Rattle.corner_set.specs.declared.choices.Beyond.{Beyond}
+use Rattle.corner_set.specs.declared.choices.Beyond.TheVariants.{Refuse, Extend}
 use Rattle.nldm_lookup.specs.declared.faults.LookupEnd.{LookupEnd}
 use Rattle.nldm_lookup.specs.declared.grain.Grain.{Grain}
 use Rattle.nldm_lookup.specs.declared.grain.Grain.TheVariants.{Atto, Femto}

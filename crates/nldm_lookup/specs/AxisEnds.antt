@@ -2,8 +2,8 @@
 use Rattle.std.specs.Prelude.{ℕ, ◌<◌, List}
 use Rattle.nldm_lookup.specs.Axes.{most}
 use Rattle.nldm_lookup.specs.Betweens.{IsPassed}
-use Rattle.nldm_lookup.specs.declared.beyond.Beyond.{Beyond}
-use Rattle.nldm_lookup.specs.declared.beyond.Beyond.TheVariants.{Refuse, Extend}
+use Rattle.corner_set.specs.declared.choices.Beyond.{Beyond}
+use Rattle.corner_set.specs.declared.choices.Beyond.TheVariants.{Refuse, Extend}
 use Rattle.nldm_lookup.specs.declared.faults.LookupEnd.{LookupEnd}
 use Rattle.nldm_lookup.specs.declared.faults.LookupEnd.TheVariants.{Outside, PastTime}
 use Rattle.nldm_lookup.specs.declared.faults.Which.{Which}

@@ -4,8 +4,8 @@ use Rattle.delay_units.specs.Rounding.{IsRounding}
 use Rattle.nldm_lookup.specs.Axes.{most}
 use Rattle.nldm_lookup.specs.Betweens.{Between, IsBetween, IsPassed, width}
 use Rattle.nldm_lookup.specs.Tables.{TimingTable, IsTable, value_at}
-use Rattle.nldm_lookup.specs.declared.beyond.Beyond.{Beyond}
-use Rattle.nldm_lookup.specs.declared.beyond.Beyond.TheVariants.{Refuse, Extend}
+use Rattle.corner_set.specs.declared.choices.Beyond.{Beyond}
+use Rattle.corner_set.specs.declared.choices.Beyond.TheVariants.{Refuse, Extend}
 use Rattle.nldm_lookup.specs.declared.grain.Grain.{Grain}
 use Rattle.nldm_lookup.specs.declared.grain.Grain.TheVariants.{Atto, Femto}
 use Rattle.nldm_lookup.specs.declared.faults.LookupEnd.{LookupEnd}

@@ -8,8 +8,8 @@ ghost use Rattle.nldm_lookup.specs.BetweenOf.{between_of};
 ghost use Rattle.nldm_lookup.specs.Rows.{IsOn};
 
 use crate::between::Between;
-use crate::beyond::Beyond;
 use crate::faults::{AxisFault, LookupEnd, Outside, Which};
+use corner_set::Beyond;
 use edge_io::{OutOfMemory, Steps};
 use std::alloc::Global;
 use std::marker::Model;

@@ -5,7 +5,6 @@
 
 mod axis;
 mod between;
-mod beyond;
 mod faults;
 mod grain;
 mod laws;
@@ -13,7 +12,6 @@ mod quotient;
 mod table;
 
 pub use axis::Axis;
-pub use beyond::Beyond;
 pub use faults::{AxisFault, LookupEnd, Outside, TableFault, Which};
 pub use grain::Grain;
 pub use laws::one_lookup;

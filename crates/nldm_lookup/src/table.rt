@@ -9,10 +9,10 @@ ghost use Rattle.nldm_lookup.specs.Rows.{IsOn, row_at, size_of};
 
 use crate::axis::Axis;
 use crate::between::Between;
-use crate::beyond::Beyond;
 use crate::faults::{LookupEnd, TableFault, Which};
 use crate::grain::Grain;
 use crate::quotient::rounded;
+use corner_set::Beyond;
 use delay_units::{Atto, Farads};
 use edge_io::{OutOfMemory, Steps};
 use std::alloc::Global;

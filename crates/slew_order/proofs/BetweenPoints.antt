@@ -6,8 +6,8 @@ use Rattle.std.proofs.lemmas.Option.{slice_get-get_or, get_or_from_slice_get}
 use Rattle.std.proofs.lemmas.List.Sums.{prefix_len_passes, prefix_len_stops}
 use Rattle.nldm_lookup.specs.Axes.{IsAxis}
 use Rattle.nldm_lookup.specs.Betweens.{AreNeighbours, neighbours, IsPast, below, above, IsPassed, IsBetween, sole, inside, edge, extend}
-use Rattle.nldm_lookup.specs.declared.beyond.Beyond.{Beyond}
-use Rattle.nldm_lookup.specs.declared.beyond.Beyond.TheVariants.{Refuse, Edge, Extend}
+use Rattle.corner_set.specs.declared.choices.Beyond.{Beyond}
+use Rattle.corner_set.specs.declared.choices.Beyond.TheVariants.{Refuse, Edge, Extend}
 use Rattle.nldm_lookup.proofs.Ends.{from_first, to_last}
 use Rattle.nldm_lookup.proofs.Gaps.{rises}
 use Rattle.slew_order.specs.Lookups.{point_at, last_point, is_passed, place_around, weighed_at, pair_at, between_on}

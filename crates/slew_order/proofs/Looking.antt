@@ -2,7 +2,7 @@
 use Rattle.std.proofs.Common.{ℕ, ◌≤◌, Result, Ok, Err, ℤ, unsigned_abs, IfOk}
 use Rattle.nldm_lookup.specs.Tables.{TimingTable}
 use Rattle.nldm_lookup.specs.Interpolant.{IsLookup, most_in}
-use Rattle.nldm_lookup.specs.declared.beyond.Beyond.{Beyond}
+use Rattle.corner_set.specs.declared.choices.Beyond.{Beyond}
 use Rattle.nldm_lookup.specs.declared.grain.Grain.{Grain}
 use Rattle.nldm_lookup.specs.declared.faults.LookupEnd.{LookupEnd}
 

@@ -2,8 +2,8 @@
 use Rattle.std.proofs.Common.{◌≡◌, ℕ, ◌∙◌, List, length}
 use Rattle.std.specs.Prelude.{All}
 use Rattle.slew_states.specs.declared.states.EdgeStates.{EdgeStates}
-use Rattle.nldm_lookup.specs.declared.beyond.Beyond.{Beyond}
-use Rattle.wire_slews.specs.declared.slews.WireSlew.{WireSlew}
+use Rattle.corner_set.specs.declared.choices.Beyond.{Beyond}
+use Rattle.corner_set.specs.declared.choices.WireSlew.{WireSlew}
 use Rattle.slew_order.specs.Cycles.{HasNoCycle}
 use Rattle.slew_order.specs.Designs.{IsSource}
 use Rattle.slew_order.specs.NetStates.{AreNetStates}

@@ -6,7 +6,7 @@ use Rattle.delay_units.specs.Rounding.{IsRounding}
 use Rattle.delay_units.proofs.RoundingLemmas.{one_rounding_lem}
 use Rattle.wire_slews.specs.Roots.{IsRoot}
 use Rattle.wire_slews.specs.WireSlews.{IsWireSlew, rss, most_slew}
-use Rattle.wire_slews.specs.declared.slews.WireSlew.TheVariants.{Rss}
+use Rattle.corner_set.specs.declared.choices.WireSlew.TheVariants.{Rss}
 use Rattle.wire_slews.proofs.OneSlew.{one_wire_slew_lem}
 use Rattle.slew_order.specs.WireBehind.{root_up_to, root, own_slew, slew_behind, wire_of}
 

@@ -1,8 +1,8 @@
 -- What the slews of a loaded netlist come from.
 use Rattle.std.specs.Prelude.{ℕ}
 use Rattle.corner_set.specs.declared.corner.CornerSet.{Ghosts}
-use Rattle.nldm_lookup.specs.declared.beyond.Beyond.{Beyond}
-use Rattle.wire_slews.specs.declared.slews.WireSlew.{WireSlew}
+use Rattle.corner_set.specs.declared.choices.Beyond.{Beyond}
+use Rattle.corner_set.specs.declared.choices.WireSlew.{WireSlew}
 use Rattle.slew_order.specs.Timings.{SlewSource, source_of}
 use Rattle.slew_order.specs.declared.loaded.LoadedNetlist.{LoadedNetlist}
 

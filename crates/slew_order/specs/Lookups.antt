@@ -6,8 +6,8 @@ use Rattle.nldm_lookup.specs.Axes.{most}
 use Rattle.nldm_lookup.specs.Betweens.{Between, width}
 use Rattle.nldm_lookup.specs.Tables.{TimingTable, IsTable}
 use Rattle.nldm_lookup.specs.Interpolant.{weighed, attos_in, most_in, not_below, IsLookup}
-use Rattle.nldm_lookup.specs.declared.beyond.Beyond.{Beyond}
-use Rattle.nldm_lookup.specs.declared.beyond.Beyond.TheVariants.{Refuse, Edge, Extend}
+use Rattle.corner_set.specs.declared.choices.Beyond.{Beyond}
+use Rattle.corner_set.specs.declared.choices.Beyond.TheVariants.{Refuse, Edge, Extend}
 use Rattle.nldm_lookup.specs.declared.grain.Grain.{Grain}
 use Rattle.nldm_lookup.specs.declared.faults.LookupEnd.{LookupEnd}
 use Rattle.nldm_lookup.specs.declared.faults.LookupEnd.TheVariants.{Outside, PastTime}

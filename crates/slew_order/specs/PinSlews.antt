@@ -7,7 +7,7 @@ use Rattle.netlist_link.specs.declared.ends.End.{End}
 use Rattle.slew_states.specs.PinState.{behind}
 use Rattle.slew_states.specs.declared.states.PinState.{PinState}
 use Rattle.slew_states.specs.declared.states.PinState.TheVariants.{Absent, Known, Stuck}
-use Rattle.wire_slews.specs.declared.slews.WireSlew.{WireSlew}
+use Rattle.corner_set.specs.declared.choices.WireSlew.{WireSlew}
 use Rattle.slew_order.specs.FlatArcs.{net_on}
 use Rattle.slew_order.specs.NetTimes.{NetTimes, elmore_at}
 use Rattle.slew_order.specs.Sinks.{is_pin, pin_place}

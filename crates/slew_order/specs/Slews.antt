@@ -5,8 +5,8 @@ use Rattle.netlist_link.specs.FlatNetlist.{FlatNetlist}
 use Rattle.slew_states.specs.PinState.{IsSmall}
 use Rattle.slew_states.specs.Settled.{states_in}
 use Rattle.slew_states.specs.declared.states.EdgeStates.{EdgeStates}
-use Rattle.nldm_lookup.specs.declared.beyond.Beyond.{Beyond}
-use Rattle.wire_slews.specs.declared.slews.WireSlew.{WireSlew}
+use Rattle.corner_set.specs.declared.choices.Beyond.{Beyond}
+use Rattle.corner_set.specs.declared.choices.WireSlew.{WireSlew}
 use Rattle.slew_order.specs.Cycles.{HasNoCycle}
 use Rattle.slew_order.specs.Designs.{IsSource}
 use Rattle.slew_order.specs.FlatArcs.{net_on}

@@ -7,12 +7,12 @@ use Rattle.cell_models.specs.declared.edge.Edge.{Edge}
 use Rattle.cell_models.specs.declared.edge.Edge.TheVariants.{Rise, Fall}
 use Rattle.cell_models.specs.declared.edge.Part.TheVariants.{Delay, Transition}
 use Rattle.netlist_link.specs.FlatNetlist.{FlatNetlist}
-use Rattle.nldm_lookup.specs.declared.beyond.Beyond.{Beyond}
+use Rattle.corner_set.specs.declared.choices.Beyond.{Beyond}
 use Rattle.nldm_lookup.specs.declared.grain.Grain.TheVariants.{Atto, Femto}
 use Rattle.nldm_lookup.specs.declared.faults.LookupEnd.{LookupEnd}
 use Rattle.slew_states.specs.PinState.{Look, Wire}
 use Rattle.slew_states.specs.declared.arcs.FlatArc.{FlatArc}
-use Rattle.wire_slews.specs.declared.slews.WireSlew.{WireSlew}
+use Rattle.corner_set.specs.declared.choices.WireSlew.{WireSlew}
 use Rattle.slew_order.specs.declared.arcs.ArcAt.{ArcAt}
 use Rattle.slew_order.specs.declared.lookups.EdgeLookups.{EdgeLookups}
 use Rattle.slew_order.specs.declared.lookups.PartEnd.{PartEnd}

@@ -1,8 +1,8 @@
 -- The slew behind a wire as a number. Slews are in attoseconds, Elmore sums in 10^-27 s.
 use Rattle.std.specs.Prelude.{ℕ, zero, suc, ◌+◌, ◌*◌, ◌/◌, ◌^◌, nat_le, if◌then◌else◌, Option, Some, None}
 use Rattle.wire_slews.specs.WireSlews.{most_slew}
-use Rattle.wire_slews.specs.declared.slews.WireSlew.{WireSlew}
-use Rattle.wire_slews.specs.declared.slews.WireSlew.TheVariants.{Same, Rss}
+use Rattle.corner_set.specs.declared.choices.WireSlew.{WireSlew}
+use Rattle.corner_set.specs.declared.choices.WireSlew.TheVariants.{Same, Rss}
 
 -- the largest number up to a bound whose square is at most n
 unfoldable pub root_up_to : ℕ → ℕ → ℕ

@@ -18,15 +18,13 @@ use crate::lookups::{EdgeLookups, look_up_both, transition_of};
 use crate::sinks::{PinSinks, related_sinks};
 use crate::wires::slew_behind;
 use cell_models::{Arc, Edge, EdgeTables};
-use corner_set::{CornerSet, corner_at, first_corner};
+use corner_set::{Beyond, CornerSet, WireSlew, corner_at, first_corner};
 use edge_io::{OutOfMemory, Steps};
 use netlist_link::Netlist;
-use nldm_lookup::Beyond;
 use slew_states::FlatArc;
 use std::alloc::Global;
 use std::marker::Model;
 use std::sync::ledger::Ledger;
-use wire_slews::WireSlew;
 
 /// A design whose slews are asked for, with its arcs. Contracts see what its slews come from.
 #[derive(Drop)]

@@ -6,9 +6,10 @@ ghost use Rattle.slew_order.specs.Lookups.{lookup_of};
 ghost use Rattle.slew_order.specs.Timings.{if_both, first_end, lookups_of, made_of, refused_of};
 
 use cell_models::{EdgeTables, Part};
+use corner_set::Beyond;
 use delay_units::{Atto, Farads};
 use edge_io::Steps;
-use nldm_lookup::{Beyond, Grain, LookupEnd, Table};
+use nldm_lookup::{Grain, LookupEnd, Table};
 use std::sync::ledger::Ledger;
 
 /// What both look-ups of an edge of an arc answer: the delay in femtoseconds, and the transition in attoseconds.

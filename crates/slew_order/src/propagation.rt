@@ -20,13 +20,11 @@ use crate::net_states::{NetStates, settle_corners};
 use crate::refusals::{first_refusal, refused_end};
 use crate::sinks::{PinSinks, pin_sinks};
 use crate::slews::Slews;
-use corner_set::CornerSet;
+use corner_set::{Beyond, CornerSet, WireSlew};
 use delay_units::Atto;
 use edge_io::Steps;
-use nldm_lookup::Beyond;
 use std::alloc::Global;
 use std::sync::ledger::Ledger;
-use wire_slews::WireSlew;
 
 // The states of all nets at all corners, or a cycle.
 fn states_of<C: CornerSet, L: Ledger>(

@@ -14,13 +14,11 @@ use crate::net_states::NetStates;
 use crate::sinks::{PinSinks, is_driver};
 use crate::wires::state_behind;
 use cell_models::Edge;
-use corner_set::CornerSet;
+use corner_set::{Beyond, CornerSet, WireSlew};
 use delay_units::Atto;
 use netlist_link::Netlist;
-use nldm_lookup::Beyond;
 use slew_states::PinState;
 use std::marker::{Model, PhantomData};
-use wire_slews::WireSlew;
 
 /// The slews of a design at all edges and corners. Contracts see the states of its nets, which sink of its net each pin is, what a look-up
 /// does past an axis, what a wire does to a slew, and the slew of the input ports in attoseconds.

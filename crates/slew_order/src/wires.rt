@@ -1,13 +1,14 @@
 //! The slew behind a wire.
 ghost use Rattle.std.specs.Prelude.{◌≡◌, ◌<◌, ◌≤◌, IfSome};
 ghost use Rattle.slew_states.specs.PinState.{IsSmall, behind, most};
-ghost use Rattle.wire_slews.specs.declared.slews.WireSlew.TheVariants.{Rss};
+ghost use Rattle.corner_set.specs.declared.choices.WireSlew.TheVariants.{Rss};
 ghost use Rattle.slew_order.specs.NetTimes.{elmore_limit};
 ghost use Rattle.slew_order.specs.WireBehind.{wire_of};
 
+use corner_set::WireSlew;
 use delay_units::Atto;
 use slew_states::PinState;
-use wire_slews::{WireSlew, wire_slew};
+use wire_slews::wire_slew;
 
 /// The slew behind a wire, of the slew before it in attoseconds, and of the wire's Elmore sum in 10^-27 s. None past 10^12 attoseconds.
 pub(crate) fn slew_behind(mode: WireSlew, elmore: u128, slew: u64) -> Option<u64>

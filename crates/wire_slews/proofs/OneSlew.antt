@@ -5,7 +5,7 @@ use Rattle.std.proofs.Math.Nat.{lt_of_not-le}
 use Rattle.delay_units.specs.Rounding.{IsRounding, OneRounding}
 use Rattle.wire_slews.specs.Roots.{IsRoot}
 use Rattle.wire_slews.specs.WireSlews.{IsWireSlew, same, rss, OneWireSlew, most_slew}
-use Rattle.wire_slews.specs.declared.slews.WireSlew.TheVariants.{Same, Rss}
+use Rattle.corner_set.specs.declared.choices.WireSlew.TheVariants.{Same, Rss}
 use Rattle.wire_slews.proofs.RootLemmas.{one_root, some_root, square_grows}
 
 -- a rounding of a number that is not below 0 is not either

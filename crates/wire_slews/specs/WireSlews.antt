@@ -3,8 +3,8 @@
 use Rattle.std.specs.Prelude.{◌≡◌, ℕ, ◌+◌, ◌*◌, ◌^◌, ℤ, pos}
 use Rattle.delay_units.specs.Rounding.{IsRounding}
 use Rattle.wire_slews.specs.Roots.{IsRoot}
-use Rattle.wire_slews.specs.declared.slews.WireSlew.{WireSlew}
-use Rattle.wire_slews.specs.declared.slews.WireSlew.TheVariants.{Same, Rss}
+use Rattle.corner_set.specs.declared.choices.WireSlew.{WireSlew}
+use Rattle.corner_set.specs.declared.choices.WireSlew.TheVariants.{Same, Rss}
 
 -- a slew is a microsecond at most
 abbrev pub most_slew : ℕ

@@ -8,4 +8,4 @@ mod slews;
 
 pub use laws::one_wire_slew;
 pub use roots::root;
-pub use slews::{WireSlew, wire_slew};
+pub use slews::wire_slew;

@@ -4,16 +4,8 @@ ghost use Rattle.delay_units.specs.Rounding.{IsRounding};
 ghost use Rattle.wire_slews.specs.WireSlews.{IsWireSlew, most_slew};
 
 use crate::roots::root;
+use corner_set::WireSlew;
 use delay_units::{Atto, half_up};
-
-/// What a wire does to a slew.
-#[derive(Clone, Copy)]
-pub enum WireSlew {
-    /// Nothing.
-    Same,
-    /// It joins the wire's own slew to it: the root of the sum of the squares of both (root sum square).
-    Rss,
-}
 
 /// The slew of a step behind one resistance and one capacitance, between 10 and 90 percent of its height, in thousandths of its
 /// Elmore sum: ln 9.

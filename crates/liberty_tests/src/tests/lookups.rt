@@ -3,11 +3,10 @@ ghost use Rattle.std.specs.Prelude.{◌≡◌, ◌<◌, ◌≤◌, ◌≤ℤ◌,
 ghost use Rattle.nldm_lookup.specs.Axes.{most};
 ghost use Rattle.nldm_lookup.specs.Tables.{IsSmall};
 
+use corner_set::Beyond;
 use delay_units::{Atto, Farads};
 use edge_io::Steps;
-use nldm_lookup::{
-    Axis, AxisFault, Beyond, Grain, LookupEnd, Order, Outside, Table, TableFault, Which,
-};
+use nldm_lookup::{Axis, AxisFault, Grain, LookupEnd, Order, Outside, Table, TableFault, Which};
 use std::alloc::Global;
 use std::marker::Brand;
 use std::sync::ledger::{Blank, Ledger};

@@ -4,17 +4,16 @@ ghost use Rattle.slew_order.specs.NetTimes.{Fits, elmore_limit};
 ghost use Rattle.slew_order.specs.Slews.{AreTablesOf};
 
 use cell_models::{Edge, Part};
-use corner_set::Single;
+use corner_set::{Beyond, Single, WireSlew};
 use design_phases::{Design, read_design};
 use delay_units::{Atto, Farads};
 use edge_io::{MemShelf, OutOfMemory, Steps, Text, TextList};
 use netlist_link::Netlist;
-use nldm_lookup::{Beyond, Outside};
+use nldm_lookup::Outside;
 use slew_order::{ArcAt, ArcList, LoadedNetlist, NetDelays, SlewEnd, Slews, propagate};
 use std::alloc::Global;
 use std::marker::Brand;
 use std::sync::ledger::{Blank, Ledger};
-use wire_slews::WireSlew;
 use worked_files::LIBRARY;
 
 /// The design of a netlist over the library.

@@ -7,15 +7,14 @@ use crate::tests::asking::{
     cycle_of, delay_of, design_of, limit_of, loaded, outside_of, set_wire, slew_at, slews_of,
 };
 use cell_models::{Edge, Part};
-use corner_set::Single;
+use corner_set::{Beyond, Single, WireSlew};
 use design_phases::Design;
 use edge_io::{OutOfMemory, Text};
-use nldm_lookup::{Beyond, Which};
+use nldm_lookup::Which;
 use slew_order::{ArcAt, NetDelays, SlewEnd, Slews};
 use std::alloc::Global;
 use std::process::Abort;
 use std::test::Fail;
-use wire_slews::WireSlew;
 use worked_files::INVERTER;
 
 /// A flip-flop with an inverter back to its input D.

@@ -1,17 +1,14 @@
 //! Words, with what they ask for or their first fault. The faults are worked from the tables of commands and keys.
 use super::put_words;
-use corner_set::Pick;
+use corner_set::{Beyond, Missing, Pick, WireSlew};
 use edge_io::{OutOfMemory, Text};
 use gdc_words::{
     Asked, Command, Key, Libraries, UsageFault, UsageKind, Words, WordsEnd, help_text, read_words,
     version_text,
 };
-use net_parasitics::Missing;
-use nldm_lookup::Beyond;
 use std::alloc::Global;
 use std::process::Abort;
 use std::test::Fail;
-use wire_slews::WireSlew;
 
 /// Words, one a line, with the kind and the place of their first fault.
 const FAULTS: [(&[u8], UsageKind, usize); 56] = [

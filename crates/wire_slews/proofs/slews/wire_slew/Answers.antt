@@ -2,7 +2,7 @@ use Rattle.std.proofs.Common.{ℤ, pos, ◌≤ℤ◌, FitsSigned, sym, subst, ar
 use Rattle.std.specs.Int.{w64}
 use Rattle.std.proofs.lemmas.Int.{ints, to_z-of_z, to_z_pos, fits_signed_from_abs}
 use Rattle.wire_slews.specs.WireSlews.{IsWireSlew, most_slew}
-use Rattle.wire_slews.specs.declared.slews.WireSlew.TheVariants.{Rss}
+use Rattle.corner_set.specs.declared.choices.WireSlew.TheVariants.{Rss}
 use Rattle.wire_slews.proofs.OneSlew.{large_elmore, made_behind, past_behind}
 use Rattle.wire_slews.proofs.slews.wire_slew.Goals as goal
 

@@ -10,7 +10,7 @@ use Rattle.nldm_lookup.specs.BetweenOf.{between_of}
 use Rattle.nldm_lookup.specs.Interpolant.{not_below}
 use Rattle.nldm_lookup.specs.Rows.{size_of}
 use Rattle.nldm_lookup.specs.Tables.{IsTable}
-use Rattle.nldm_lookup.specs.declared.beyond.Beyond.TheVariants.{Extend}
+use Rattle.corner_set.specs.declared.choices.Beyond.TheVariants.{Extend}
 use Rattle.nldm_lookup.specs.declared.faults.Which.TheVariants.{Slew, Load}
 use Rattle.nldm_lookup.proofs.Answering.{refused_slew, refused_load, found, past_time, answers, only_answer}
 use Rattle.nldm_lookup.proofs.Scaling.{one_weight, two_weights}
