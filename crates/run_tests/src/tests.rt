@@ -6,6 +6,7 @@ ghost use Rattle.std.specs.Prelude.{◌≡◌, ◌<◌};
 use edge_io::{MemShelf, MemSink, OutOfMemory, Steps, Text};
 use gdc_run::run;
 use gdc_words::Words;
+use memchr::memchr;
 use std::alloc::Global;
 use std::marker::Brand;
 use std::process::Abort;
@@ -124,7 +125,7 @@ struct Tried {
 
 /// Up to the byte, and behind it; the whole where the byte does not stand.
 fn cut_at(bytes: &[u8], byte: u8) -> (&[u8], &[u8]) {
-    match bytes.iter().position(|b| *b == byte) {
+    match memchr(byte, bytes) {
         Some(place) => (bytes.split_at(place).0, bytes.split_at(place + 1).1),
         None => (bytes, &[]),
     }

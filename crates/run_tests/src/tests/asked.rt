@@ -116,10 +116,24 @@ fn fault_of(alloc: Global, lines: &[u8]) -> Result<Option<UsageFault>, OutOfMemo
     }
 }
 
+fn read(alloc: Global, words: &Words) -> Result<Asked, OutOfMemory> {
+    match read_words(alloc, words) {
+        Ok(asked) => Ok(asked),
+        Err(_) => Err(OutOfMemory),
+    }
+}
+
 /// What words without a fault ask for.
 fn asked_by(alloc: Global, lines: &[u8]) -> Result<Asked, OutOfMemory> {
-    let words = words_of(alloc, lines)?;
-    read_words(alloc, &words).map_err(|_| OutOfMemory)
+    read(alloc, &words_of(alloc, lines)?)
+}
+
+/// Whether this is the value of a key.
+fn has(asked: &Asked, key: &[u8], value: &[u8]) -> bool {
+    match asked.value(key) {
+        Some(text) => text.bytes() == value,
+        None => false,
+    }
 }
 
 /// The first fault of the words is one of a key, which it names.
@@ -131,9 +145,13 @@ fn try_key(
     key: &[u8],
 ) -> Result<(), Fail> {
     let fault = fault_of(alloc, lines)?.ok_or("a fault")?;
-    assert_eq!(rt; (name_of(fault.kind), fault.place), (name_of(kind), 0), "{lines:?}");
+    assert_eq!(rt;
+        (name_of(fault.kind), fault.place),
+        (name_of(kind), 0),
+        "{lines:?}"
+    );
     assert!(rt;
-        fault.key.is_some_and(|named| named.bytes() == key),
+        matches!(&fault.key, Some(named) if named.bytes() == key),
         "{lines:?}"
     );
     Ok(())
@@ -191,7 +209,11 @@ fn the_first_fault_is_told(rt: HostRuntime) -> Result<(), Fail> {
     let alloc = rt.alloc();
     for (lines, kind, place) in FAULTS {
         let fault = fault_of(alloc, lines)?.ok_or("a fault")?;
-        assert_eq!(rt; (name_of(fault.kind), fault.place), (name_of(kind), place), "{lines:?}");
+        assert_eq!(rt;
+            (name_of(fault.kind), fault.place),
+            (name_of(kind), place),
+            "{lines:?}"
+        );
         assert!(rt; fault.key.is_none(), "{lines:?}");
     }
     for (lines, key) in LACKING {
@@ -209,20 +231,12 @@ fn words_ask_for_a_command_and_values(rt: HostRuntime) -> Result<(), Fail> {
     let asked = asked_by(alloc, b"wires\n--triple\nmax\n--spef\n--sdf\n")?;
     assert!(rt; matches!(asked.command(), Command::Wires));
     assert!(rt; matches!(asked.pick(), Pick::Max));
-    assert!(rt;
-        asked
-            .value(b"--spef")
-            .is_some_and(|value| value.bytes() == b"--sdf".as_slice())
-    );
+    assert!(rt; has(&asked, b"--spef", b"--sdf"));
     assert!(rt; asked.value(Key::Sdf.word()).is_none());
     let asked = asked_by(alloc, b"show\n--sdf\na.sdf\n")?;
     assert!(rt; matches!(asked.command(), Command::Show));
     assert!(rt; matches!(asked.pick(), Pick::Typ));
-    assert!(rt;
-        asked
-            .value(b"--sdf")
-            .is_some_and(|value| value.bytes() == b"a.sdf".as_slice())
-    );
+    assert!(rt; has(&asked, b"--sdf", b"a.sdf"));
     Ok(())
 }
 
@@ -243,7 +257,7 @@ fn asked_at(alloc: Global, slew: &[u8]) -> Result<Asked, OutOfMemory> {
     let mut words = words_of(alloc, b"lookup\n--load\n2\n--lib\na.lib\n--cell\nINV\n")?;
     words.push(Text::from_bytes(alloc, b"--slew")?)?;
     words.push(Text::from_bytes(alloc, slew)?)?;
-    read_words(alloc, &words).map_err(|_| OutOfMemory)
+    read(alloc, &words)
 }
 
 #[test]
@@ -290,16 +304,8 @@ fn flat_asks_for_its_files(rt: HostRuntime) -> Result<(), Fail> {
     let alloc = rt.alloc();
     let asked = asked_by(alloc, b"flat\n--top\ntop\n--lib\na.lib\n--netlist\nn.v\n")?;
     assert!(rt; matches!(asked.command(), Command::Flat));
-    assert!(rt;
-        asked
-            .value(b"--netlist")
-            .is_some_and(|value| value.bytes() == b"n.v".as_slice())
-    );
-    assert!(rt;
-        asked
-            .value(Key::Top.word())
-            .is_some_and(|value| value.bytes() == b"top".as_slice())
-    );
+    assert!(rt; has(&asked, b"--netlist", b"n.v"));
+    assert!(rt; has(&asked, Key::Top.word(), b"top"));
     Ok(())
 }
 
@@ -333,11 +339,7 @@ fn calc_asks_for_a_library_for_each_corner(rt: HostRuntime) -> Result<(), Fail> 
         b"calc\n--netlist\nn.v\n--top\ntop\n--spef\ns.spef\n--input-slew\n20\n--lib-max\nc.lib\n--lib-min\na.lib\n--lib-typ\nb.lib\n";
     let asked = asked_by(rt.alloc(), lines)?;
     assert!(rt; matches!(asked.libraries(), Libraries::EachCorner));
-    assert!(rt;
-        asked
-            .value(b"--lib-typ")
-            .is_some_and(|value| value.bytes() == b"b.lib".as_slice())
-    );
+    assert!(rt; has(&asked, b"--lib-typ", b"b.lib"));
     assert!(rt; asked.value(b"--lib").is_none());
     Ok(())
 }
