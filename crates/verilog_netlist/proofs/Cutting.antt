@@ -1,5 +1,5 @@
 -- What stands at the front of some bytes, by their first byte, and that it has a byte, and none past the end.
-use Rattle.std.proofs.Common.{◌≡◌, ℕ, zero, suc, ◌+◌, ◌-◌, ◌<◌, ◌≤◌, Bool, true, false, cond, ◌||◌, ◌==◌, List, [], ◌∷◌, length, drop, length-drop, refl, ap, subst, arith}
+use Rattle.std.proofs.Common.{◌≡◌, ℕ, zero, suc, ◌+◌, ◌-◌, ◌<◌, ◌≤◌, Bool, true, false, cond, ◌||◌, ◌==◌, List, [], ◌∷◌, length, drop, length-drop, refl, sym, ap, subst, arith, true≢false}
 use Rattle.edge_io.specs.Bytes.{left_paren, right_paren, star, slash, backslash, begins_with}
 use Rattle.token_texts.specs.Blanks.{is_blank}
 use Rattle.token_texts.specs.Comments.{line_length, comment_cut}
@@ -54,7 +54,7 @@ name_goes_on byte h = by (is_letter byte) (is_digit byte) (byte == underscore) (
     by true digit line sign h = refl
     by false true line sign h = refl
     by false false true sign h = refl
-    by false false false sign h = absurd (cc)
+    by false false false sign h = absurd (true≢false (sym h))
 
 before_within : (n m k : ℕ) → m ≤ k → and_before n m ≤ n + k
 before_within n zero k le = omega arith
@@ -143,4 +143,4 @@ cut_within first rest =
 pub within_of : (first : ℕ) (rest bytes : List ℕ) (cut : Cut Kind) → bytes ≡ first ∷ rest → cut ≡ cut_at first rest → IsWithin (length bytes) cut
 within_of first rest bytes cut parts e =
     let size : length rest + 1 ≡ length bytes = let l : length bytes ≡ length (first ∷ rest) = ap length parts in omega arith in
-    subst (λ (n : ℕ). IsWithin n cut) size (subst (IsWithin (length rest + 1)) (let f : cut_at first rest ≡ cut = cc in f) (cut_within first rest))
+    subst (λ (n : ℕ). IsWithin n cut) size (subst (IsWithin (length rest + 1)) (sym e) (cut_within first rest))

@@ -10,6 +10,7 @@ use Rattle.verilog_netlist.specs.declared.entries.Entry.{Entry}
 use Rattle.verilog_netlist.specs.declared.faults.FirstFault.{FirstFault}
 use Rattle.verilog_netlist.specs.declared.faults.NameFault.{NameFault}
 use Rattle.verilog_netlist.specs.declared.faults.NameFault.TheVariants as fault
+use Rattle.std.proofs.lemmas.Option.{same_Some}
 
 module _ (Q : NameFault → ℕ → Type 0) where
   -- the least fault of the kinds before this rank
@@ -141,7 +142,7 @@ ranked fault.PortDirection = refl
 ranked fault.BadRange = refl
 
 one_rank : (one other : NameFault) → rank_of one ≡ rank_of other → one ≡ other
-one_rank one other e = let same : Some one ≡ Some other = sym (ranked one) ∙ ap fault_by_rank e ∙ ranked other in cc
+one_rank one other e = same_Some _ _ (sym (ranked one) ∙ ap fault_by_rank e ∙ ranked other)
 
 both_ways : (one other : FirstFault) → ComesBefore one other.fault other.place → ComesBefore other one.fault one.place → one ≡ other
 both_ways one other (inl less) (inl more) = absurd (omega arith)

@@ -1,3 +1,4 @@
+pub mod Clashes
 pub mod Bounds
 pub mod QuickWords
 pub mod Cutting

@@ -18,6 +18,7 @@ use Rattle.verilog_netlist.specs.declared.entries.Entry.{Entry}
 use Rattle.verilog_netlist.specs.declared.entries.Entry.TheVariants as entry
 use Rattle.verilog_netlist.specs.declared.modes.Mode.{Mode}
 use Rattle.verilog_netlist.specs.declared.modes.Mode.TheVariants.{Modules, ModuleName, ModuleHead, HeaderStart, HeaderName, HeaderMore, HeaderEnd, Items, AfterWay, AfterWire, RangeLeft, RangeColon, RangeRight, RangeEnd, DeclaredName, DeclaredMore, NextPort, InstanceName, InstanceOpen, FirstConnection, NextConnection, PortName, PortOpen, Joined, Operand, NameEnd, SelectLeft, SelectNext, SelectRight, SelectEnd, OperandEnd, ConnectionEnd, InstanceEnd}
+use Rattle.verilog_netlist.proofs.Clashes.{never, same_ok}
 
 abbrev at : Mode → List Entry → State
 at mode entries = record { mode = mode; entries = entries }
@@ -229,7 +230,7 @@ data Meant : State → List Tok → List Tok → Type 0 where
 
 -- the state behind a step that is known
 becomes : {from here : List Tok} {after : State} (state : State) → ◌≡◌ {A = Result State ⊤} (Ok state) (Ok after) → Meant state from here → Meant after from here
-becomes {from} {here} {after} state e meant = let same : state ≡ after = cc in subst (λ (s : State). Meant s from here) same meant
+becomes {from} {here} {after} state e meant = subst (λ (s : State). Meant s from here) (same_ok e) meant
 
 -- what has ended with a token
 one_more_name : {says : Span → Entry} {id : Tok} {from here : List Tok} {before entries : List Entry} {comma : Tok}
@@ -302,36 +303,36 @@ whole_connection (top_ended p e) c = connection_ends p (there e) c
 module _ {from here : List Tok} {token : Tok} {entries : List Entry} {after : State} where
   in_modules : (k : Kind) → Is k token → Many IsModule from [] entries (token ∷ here) → state_after (modules_step k) entries ≡ Ok after → Meant after from here
   in_modules kind.Module is are e = becomes (at ModuleName entries) e (at_name are is)
-  in_modules _ is are e = absurd (cc)
+  in_modules _ is are e = never e
 
   in_name : {word : Tok} (k : Kind) → Is k token → Many IsModule from [] entries (word ∷ token ∷ here) → Is kind.Module word → state_after (module_name_step k token.text.at) entries ≡ Ok after → Meant after from here
   in_name kind.Name is are m e = becomes (at ModuleHead (added entries (entry.Module token.text.at))) e (at_head (begun are m is))
-  in_name _ is are m e = absurd (cc)
+  in_name _ is are m e = never e
 
   in_head : (k : Kind) → Is k token → Begun entries from (token ∷ here) → state_after (module_head_step k) entries ≡ Ok after → Meant after from here
   in_head kind.LeftParen is b e = becomes (at HeaderStart entries) e (at_header (opened b is))
   in_head kind.Semicolon is b e = becomes (at Items entries) e (at_items (in_module b left_out is none))
-  in_head _ is b e = absurd (cc)
+  in_head _ is b e = never e
 
   in_header_start : (k : Kind) → Is k token → Opened entries from (token ∷ here) → state_after (header_start_step k token.text.at) entries ≡ Ok after → Meant after from here
   in_header_start kind.Name is o e = becomes (at HeaderMore (added entries (entry.Header token.text.at))) e (at_header_more (has_names o (one (name is))))
   in_header_start kind.Input is o e = becomes (at (AfterWay (decl.InHeader In)) entries) e (at_way (first_of_header o (input is)))
   in_header_start kind.Output is o e = becomes (at (AfterWay (decl.InHeader Out)) entries) e (at_way (first_of_header o (output is)))
   in_header_start kind.RightParen is o e = becomes (at HeaderEnd entries) e (at_header_end (no_names_close o is))
-  in_header_start _ is o e = absurd (cc)
+  in_header_start _ is o e = never e
 
   in_header_name : {comma : Tok} (k : Kind) → Is k token → HasNames entries from (comma ∷ token ∷ here) → Is kind.Comma comma → state_after (header_name_step k token.text.at) entries ≡ Ok after → Meant after from here
   in_header_name kind.Name is (has_names o are) c e = becomes (at HeaderMore (added entries (entry.Header token.text.at))) e (at_header_more (has_names o (one_more_name are c is)))
-  in_header_name _ is h c e = absurd (cc)
+  in_header_name _ is h c e = never e
 
   in_header_more : (k : Kind) → Is k token → HasNames entries from (token ∷ here) → state_after (header_more_step k) entries ≡ Ok after → Meant after from here
   in_header_more kind.Comma is h e = becomes (at HeaderName entries) e (at_header_name h is)
   in_header_more kind.RightParen is h e = becomes (at HeaderEnd entries) e (at_header_end (names_close h is))
-  in_header_more _ is h e = absurd (cc)
+  in_header_more _ is h e = never e
 
   in_header_end : (k : Kind) → Is k token → Headed entries from (token ∷ here) → state_after (header_end_step k) entries ≡ Ok after → Meant after from here
   in_header_end kind.Semicolon is (headed b p) e = becomes (at Items entries) e (at_items (in_module b (there p) is none))
-  in_header_end _ is h e = absurd (cc)
+  in_header_end _ is h e = never e
 
   in_items : (k : Kind) → Is k token → InModule entries from (token ∷ here) → state_after (items_step k token.text.at) entries ≡ Ok after → Meant after from here
   in_items kind.Input is m e = becomes (at (AfterWay (decl.Port In)) entries) e (at_way (as_item m (input is)))
@@ -339,12 +340,12 @@ module _ {from here : List Tok} {token : Tok} {entries : List Entry} {after : St
   in_items kind.Wire is m e = becomes (at (AfterWire decl.Wire) entries) e (at_wire (by_wire m is))
   in_items kind.Name is m e = becomes (at (InstanceName token.text.at) entries) e (at_instance (first_instance m is))
   in_items kind.EndModule is m e = becomes (at Modules entries) e (at_modules (module_end m is))
-  in_items _ is m e = absurd (cc)
+  in_items _ is m e = never e
 
   in_wire : {by : Decl} (k : Kind) → Is k token → Worded by entries from (token ∷ here) → state_after (after_wire_step k token.text.at by) entries ≡ Ok after → Meant after from here
   in_wire {by} kind.LeftBracket is w e = becomes (at (RangeLeft by) entries) e (at_left w is)
   in_wire {by} kind.Name is w e = becomes (at (DeclaredMore by None) (added entries (entry.Declared by token.text.at None))) e (at_declared (declare (first_due w no_range) is))
-  in_wire _ is w e = absurd (cc)
+  in_wire _ is w e = never e
 
   in_way : {by : Decl} (k : Kind) → Is k token → Directed by entries from (token ∷ here) → state_after (after_way_step k token.text.at by) entries ≡ Ok after → Meant after from here
   in_way {by} kind.Wire is d e = becomes (at (AfterWire by) entries) e (at_wire (by_way d (wire is)))
@@ -352,39 +353,39 @@ module _ {from here : List Tok} {token : Tok} {entries : List Entry} {after : St
 
   in_left : {by : Decl} {begin : Tok} (k : Kind) → Is k token → Worded by entries from (begin ∷ token ∷ here) → Is kind.LeftBracket begin → state_after (range_left_step k by) entries ≡ Ok after → Meant after from here
   in_left {by} (kind.Number left) is w b e = becomes (at (RangeColon by left) entries) e (at_colon w b is)
-  in_left _ is w b e = absurd (cc)
+  in_left _ is w b e = never e
 
   in_colon : {by : Decl} {left : ℕ} {begin first : Tok} (k : Kind) → Is k token → Worded by entries from (begin ∷ first ∷ token ∷ here) → Is kind.LeftBracket begin → Is (kind.Number left) first
       → state_after (range_colon_step k by left) entries ≡ Ok after → Meant after from here
   in_colon {by} {left} kind.Colon is w b f e = becomes (at (RangeRight by left) entries) e (at_right w b f is)
-  in_colon _ is w b f e = absurd (cc)
+  in_colon _ is w b f e = never e
 
   in_right : {by : Decl} {left : ℕ} {begin first colon : Tok} (k : Kind) → Is k token → Worded by entries from (begin ∷ first ∷ colon ∷ token ∷ here) → Is kind.LeftBracket begin → Is (kind.Number left) first → Is kind.Colon colon
       → state_after (range_right_step k by left) entries ≡ Ok after → Meant after from here
   in_right {by} {left} (kind.Number right) is w b f c e = becomes (at (RangeEnd by (record { left = left; right = right })) entries) e (at_range_end w b f c is)
-  in_right _ is w b f c e = absurd (cc)
+  in_right _ is w b f c e = never e
 
   in_range_end : {by : Decl} {left right : ℕ} {begin first colon second : Tok} (k : Kind) → Is k token → Worded by entries from (begin ∷ first ∷ colon ∷ second ∷ token ∷ here)
       → Is kind.LeftBracket begin → Is (kind.Number left) first → Is kind.Colon colon → Is (kind.Number right) second
       → state_after (range_end_step k by (record { left = left; right = right })) entries ≡ Ok after → Meant after from here
   in_range_end {by} {left} {right} kind.RightBracket is w b f c s e =
       becomes (at (DeclaredName by (Some (record { left = left; right = right }))) entries) e (at_declared_name (first_due w (with_range (range b f c s is))))
-  in_range_end _ is w b f c s e = absurd (cc)
+  in_range_end _ is w b f c s e = never e
 
   in_declared_name : {by : Decl} {bounds : Option Range} (k : Kind) → Is k token → NameDue by bounds entries from (token ∷ here) → state_after (declared_name_step k token.text.at by bounds) entries ≡ Ok after → Meant after from here
   in_declared_name {by} {bounds} kind.Name is due e = becomes (at (DeclaredMore by bounds) (added entries (entry.Declared by token.text.at bounds))) e (at_declared (declare due is))
-  in_declared_name _ is due e = absurd (cc)
+  in_declared_name _ is due e = never e
 
   in_header_declared : {way : Direction} {bounds : Option Range} (k : Kind) → Is k token → HasDeclared (decl.InHeader way) bounds entries from (token ∷ here) → state_after (header_declared_step k way bounds) entries ≡ Ok after → Meant after from here
   in_header_declared {way} {bounds} kind.Comma is h e = becomes (at (NextPort way bounds) entries) e (at_next_port h is)
   in_header_declared kind.RightParen is h e = becomes (at HeaderEnd entries) e (at_header_end (ansis_close (ansis_end h) is))
-  in_header_declared _ is h e = absurd (cc)
+  in_header_declared _ is h e = never e
 
   in_item_declared : {by : Decl} {bounds : Option Range} (k : Kind) → Is k token → (Is kind.Semicolon token → InModule entries from here)
       → HasDeclared by bounds entries from (token ∷ here) → state_after (item_declared_step k by bounds) entries ≡ Ok after → Meant after from here
   in_item_declared {by} {bounds} kind.Comma is item h e = becomes (at (DeclaredName by bounds) entries) e (at_declared_name (next_due h is))
   in_item_declared kind.Semicolon is item h e = becomes (at Items entries) e (at_items (item is))
-  in_item_declared _ is item h e = absurd (cc)
+  in_item_declared _ is item h e = never e
 
   in_declared : (by : Decl) {bounds : Option Range} → HasDeclared by bounds entries from (token ∷ here) → next (at (DeclaredMore by bounds) entries) token ≡ Ok after → Meant after from here
   in_declared (decl.InHeader way) h e = in_header_declared token.text.kind refl h e
@@ -397,43 +398,43 @@ module _ {from here : List Tok} {token : Tok} {entries : List Entry} {after : St
       becomes (at (DeclaredMore (decl.InHeader way) bounds) (added entries (entry.Declared (decl.InHeader way) token.text.at bounds))) e (at_declared (declare (next_due h c) is))
   in_next_port kind.Input is h c e = becomes (at (AfterWay (decl.InHeader In)) entries) e (at_way (in_header (ansis_end h) c (input is)))
   in_next_port kind.Output is h c e = becomes (at (AfterWay (decl.InHeader Out)) entries) e (at_way (in_header (ansis_end h) c (output is)))
-  in_next_port _ is h c e = absurd (cc)
+  in_next_port _ is h c e = never e
 
   in_instance : {cell : Span} (k : Kind) → Is k token → InstanceDue cell entries from (token ∷ here) → state_after (instance_name_step k token.text.at cell) entries ≡ Ok after → Meant after from here
   in_instance {cell} kind.Name is due e = becomes (at (InstanceOpen cell) (added entries (entry.Instance cell token.text.at))) e (at_instance_open (instance_named due is))
-  in_instance _ is due e = absurd (cc)
+  in_instance _ is due e = never e
 
   in_instance_open : {cell : Span} (k : Kind) → Is k token → InstanceNamed cell entries from (token ∷ here) → state_after (instance_open_step k cell) entries ≡ Ok after → Meant after from here
   in_instance_open {cell} kind.LeftParen is n e = becomes (at (FirstConnection cell) entries) e (at_first (instance_opened n is))
-  in_instance_open _ is n e = absurd (cc)
+  in_instance_open _ is n e = never e
 
   in_first : {cell : Span} (k : Kind) → Is k token → InstanceOpened cell entries from (token ∷ here) → state_after (first_connection_step k cell) entries ≡ Ok after → Meant after from here
   in_first {cell} kind.Dot is o e = becomes (at (PortName cell) entries) e (at_port (first_connection o) is)
   in_first {cell} kind.RightParen is o e = becomes (at (InstanceEnd cell) entries) e (at_instance_end (instance_end o left_out is))
-  in_first _ is o e = absurd (cc)
+  in_first _ is o e = never e
 
   in_next : {cell : Span} {comma : Tok} (k : Kind) → Is k token → HasConnections cell entries from (comma ∷ token ∷ here) → Is kind.Comma comma → state_after (next_connection_step k cell) entries ≡ Ok after → Meant after from here
   in_next {cell} kind.Dot is h c e = becomes (at (PortName cell) entries) e (at_port (next_connection h c) is)
-  in_next _ is h c e = absurd (cc)
+  in_next _ is h c e = never e
 
   in_port : {cell : Span} {dot : Tok} (k : Kind) → Is k token → ConnectionDue cell entries from (dot ∷ token ∷ here) → Is kind.Dot dot → state_after (port_name_step k token.text.at cell) entries ≡ Ok after → Meant after from here
   in_port {cell} kind.Name is due d e = becomes (at (PortOpen cell) (added entries (entry.Port token.text.at))) e (at_port_open (port_named due d is))
-  in_port _ is due d e = absurd (cc)
+  in_port _ is due d e = never e
 
   in_port_open : {cell : Span} (k : Kind) → Is k token → PortNamed cell entries from (token ∷ here) → state_after (port_open_step k cell) entries ≡ Ok after → Meant after from here
   in_port_open {cell} kind.LeftParen is n e = becomes (at (Joined cell) entries) e (at_joined (port_opened n is))
-  in_port_open _ is n e = absurd (cc)
+  in_port_open _ is n e = never e
 
   in_brace : {cell : Span} {depth : ℕ} (fits : Bool) → nat_lt depth 16 ≡ fits → Is kind.LeftBrace token → ExprDue cell depth entries from (token ∷ here)
       → state_after (cond fits (Go (Operand (place_at cell (suc depth)))) Refuse) entries ≡ Ok after → Meant after from here
   in_brace {cell} {depth} true below is due e = becomes (at (Operand (place_at cell (suc depth))) entries) e (at_operand (first_expr due (ltb-true depth 16 below) is))
-  in_brace false below is due e = absurd (cc)
+  in_brace false below is due e = never e
 
   in_operand : {cell : Span} {depth : ℕ} (k : Kind) → Is k token → ExprDue cell depth entries from (token ∷ here) → state_after (operand_step k token.text.at (place_at cell depth)) entries ≡ Ok after → Meant after from here
   in_operand {cell} {depth} kind.Name is due e = becomes (at (NameEnd (place_at cell depth) token.text.at) entries) e (at_name_end due is)
   in_operand {cell} {depth} kind.Constant is due e = becomes (at (OperandEnd (place_at cell depth)) (added entries (entry.Constant token.text.at))) e (at_operand_end (expr_ends due (constant is)))
   in_operand {cell} {depth} kind.LeftBrace is due e = in_brace (nat_lt depth 16) refl is due e
-  in_operand _ is due e = absurd (cc)
+  in_operand _ is due e = never e
 
   in_joined : {cell : Span} (k : Kind) → Is k token → PortOpened cell entries from (token ∷ here) → state_after (joined_step k token.text.at cell) entries ≡ Ok after → Meant after from here
   in_joined {cell} kind.RightParen is p e = becomes (at (ConnectionEnd cell) entries) e (at_connection_end (connection_ends p left_out is))
@@ -443,44 +444,44 @@ module _ {from here : List Tok} {token : Tok} {entries : List Entry} {after : St
   behind_expr_is {cell} zero kind.RightParen is x e = becomes (at (ConnectionEnd cell) entries) e (at_connection_end (whole_connection x is))
   behind_expr_is {cell} (suc depth) kind.Comma is x e = becomes (at (Operand (place_at cell (suc depth))) entries) e (at_operand (next_in_braces x is))
   behind_expr_is {cell} (suc depth) kind.RightBrace is x e = becomes (at (OperandEnd (place_at cell depth)) entries) e (at_operand_end (brace_ends x is))
-  behind_expr_is zero _ is x e = absurd (cc)
-  behind_expr_is (suc depth) _ is x e = absurd (cc)
+  behind_expr_is zero _ is x e = never e
+  behind_expr_is (suc depth) _ is x e = never e
 
   in_select : {cell : Span} {depth : ℕ} {id begin : Tok} (k : Kind) → Is k token → ExprDue cell depth entries from (id ∷ begin ∷ token ∷ here) → Is kind.Name id → Is kind.LeftBracket begin
       → state_after (select_left_step k (place_at cell depth) id.text.at) entries ≡ Ok after → Meant after from here
   in_select {cell} {depth} {id} (kind.Number left) is due n b e = becomes (at (SelectNext (place_at cell depth) id.text.at left) entries) e (at_select_next due n b is)
-  in_select _ is due n b e = absurd (cc)
+  in_select _ is due n b e = never e
 
   in_select_next : {cell : Span} {depth left : ℕ} {id begin first : Tok} (k : Kind) → Is k token → ExprDue cell depth entries from (id ∷ begin ∷ first ∷ token ∷ here) → Is kind.Name id → Is kind.LeftBracket begin → Is (kind.Number left) first
       → state_after (select_next_step k (place_at cell depth) id.text.at left) entries ≡ Ok after → Meant after from here
   in_select_next {cell} {depth} {left} {id} kind.RightBracket is due n b f e =
       becomes (at (OperandEnd (place_at cell depth)) (added entries (entry.Bit id.text.at left))) e (at_operand_end (expr_ends due (bit n b f is)))
   in_select_next {cell} {depth} {left} {id} kind.Colon is due n b f e = becomes (at (SelectRight (place_at cell depth) id.text.at left) entries) e (at_select_right due n b f is)
-  in_select_next _ is due n b f e = absurd (cc)
+  in_select_next _ is due n b f e = never e
 
   in_select_right : {cell : Span} {depth left : ℕ} {id begin first colon : Tok} (k : Kind) → Is k token → ExprDue cell depth entries from (id ∷ begin ∷ first ∷ colon ∷ token ∷ here)
       → Is kind.Name id → Is kind.LeftBracket begin → Is (kind.Number left) first → Is kind.Colon colon
       → state_after (select_right_step k (place_at cell depth) id.text.at left) entries ≡ Ok after → Meant after from here
   in_select_right {cell} {depth} {left} {id} (kind.Number right) is due n b f c e =
       becomes (at (SelectEnd (place_at cell depth) id.text.at (record { left = left; right = right })) entries) e (at_select_end due n b f c is)
-  in_select_right _ is due n b f c e = absurd (cc)
+  in_select_right _ is due n b f c e = never e
 
   in_select_end : {cell : Span} {depth left right : ℕ} {id begin first colon second : Tok} (k : Kind) → Is k token → ExprDue cell depth entries from (id ∷ begin ∷ first ∷ colon ∷ second ∷ token ∷ here)
       → Is kind.Name id → Is kind.LeftBracket begin → Is (kind.Number left) first → Is kind.Colon colon → Is (kind.Number right) second
       → state_after (select_end_step k (place_at cell depth) id.text.at (record { left = left; right = right })) entries ≡ Ok after → Meant after from here
   in_select_end {cell} {depth} {left} {right} {id} kind.RightBracket is due n b f c s e =
       becomes (at (OperandEnd (place_at cell depth)) (added entries (entry.Part id.text.at (record { left = left; right = right })))) e (at_operand_end (expr_ends due (part n (range b f c s is))))
-  in_select_end _ is due n b f c s e = absurd (cc)
+  in_select_end _ is due n b f c s e = never e
 
   in_connection_end : {cell : Span} (k : Kind) → Is k token → HasConnections cell entries from (token ∷ here) → state_after (connection_end_step k cell) entries ≡ Ok after → Meant after from here
   in_connection_end {cell} kind.Comma is h e = becomes (at (NextConnection cell) entries) e (at_next h is)
   in_connection_end {cell} kind.RightParen is (has_connections o are) e = becomes (at (InstanceEnd cell) entries) e (at_instance_end (instance_end o (there are) is))
-  in_connection_end _ is h e = absurd (cc)
+  in_connection_end _ is h e = never e
 
   in_instance_end : {cell : Span} (k : Kind) → Is k token → HasInstances cell entries from (token ∷ here) → state_after (instance_end_step k cell) entries ≡ Ok after → Meant after from here
   in_instance_end {cell} kind.Comma is h e = becomes (at (InstanceName cell) entries) e (at_instance (next_instance h is))
   in_instance_end kind.Semicolon is h e = becomes (at Items entries) e (at_items (instances_end h is))
-  in_instance_end _ is h e = absurd (cc)
+  in_instance_end _ is h e = never e
 
 -- a name that stands for itself, which ends with the token behind it
 said_alone : (cell : Span) (depth : ℕ) (entries : List Entry) {after : State} (id : Span) (k : Kind)
@@ -488,8 +489,8 @@ said_alone : (cell : Span) (depth : ℕ) (entries : List Entry) {after : State} 
 said_alone cell zero entries id kind.RightParen e = e
 said_alone cell (suc depth) entries id kind.Comma e = e
 said_alone cell (suc depth) entries id kind.RightBrace e = e
-said_alone cell zero entries id _ e = absurd (cc)
-said_alone cell (suc depth) entries id _ e = absurd (cc)
+said_alone cell zero entries id _ e = never e
+said_alone cell (suc depth) entries id _ e = never e
 
 in_name_end : {cell : Span} {depth : ℕ} {id token : Tok} {from here : List Tok} {entries : List Entry} {after : State} (k : Kind) → Is k token → ExprDue cell depth entries from (id ∷ token ∷ here) → Is kind.Name id
     → state_after (name_end_step k (place_at cell depth) id.text.at) entries ≡ Ok after → Meant after from here
@@ -534,8 +535,8 @@ moves {token = token} (at_instance_end h) e = in_instance_end token.text.kind re
 
 -- the end of the file
 ends : {state : State} {from : List Tok} {entries : List Entry} → Meant state from [] → finish state ≡ Ok entries → IsNetlist from entries
-ends {from = from} {entries = entries} (at_modules {entries = said} are) e = let same : said ≡ entries = cc in subst (λ (l : List Entry). IsNetlist from l) same are
-ends _ e = absurd (cc)
+ends {from = from} {entries = entries} (at_modules {entries = said} are) e = subst (λ (l : List Entry). IsNetlist from l) (same_ok e) are
+ends _ e = never e
 
 along : {state : State} {from here : List Tok} {entries : List Entry} → Meant state from here → Accepts next finish state here entries → IsNetlist from entries
 along meant (ended e) = ends meant e

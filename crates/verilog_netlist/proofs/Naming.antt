@@ -6,7 +6,7 @@ use Rattle.std.specs.Option.{option_or}
 use Rattle.std.specs.Str.{bytes_eq}
 use Rattle.std.proofs.lemmas.List.{append_assoc, map-append, map-set, get_or-map, set-append_right, length-map, get_or-append-add}
 use Rattle.std.proofs.lemmas.List.Elements.{filter-append}
-use Rattle.std.proofs.lemmas.Option.{slice_get_within}
+use Rattle.std.proofs.lemmas.Option.{none-some, same_Some, slice_get_within}
 use Rattle.std.proofs.lemmas.List.Sums.{fold-append}
 use Rattle.std.proofs.lemmas.List.Folds.{list_any-append}
 use Rattle.std.proofs.lemmas.Slice.Eq.{bytes_eq-Decides}
@@ -203,18 +203,18 @@ module _ (bytes : List ℕ) (items : List Entry) (texts : List (List ℕ)) (d : 
 
 -- a text that stands at this place is found there, since all texts differ
 any_there : (text : List ℕ) (keys : List NameText) (n : ℕ) (other : NameText) → slice_get keys n ≡ Some other → bytes_eq text other.bytes.now ≡ true → list_any (bytes_eq text) (keys_of keys) ≡ true
-any_there text [] n other stands is = absurd (cc)
+any_there text [] n other stands is = absurd (none-some _ stands)
 any_there text (key ∷ keys) zero other stands is =
-    let same : key ≡ other = cc in
+    let same : key ≡ other = same_Some _ _ stands in
     or_left (bytes_eq text key.bytes.now) (list_any (bytes_eq text) (keys_of keys)) (ap (λ (k : NameText). bytes_eq text k.bytes.now) same ∙ is)
 any_there text (key ∷ keys) (suc n) other stands is =
     ap (λ (b : Bool). bytes_eq text key.bytes.now || b) (any_there text keys n other stands is) ∙ or_true (bytes_eq text key.bytes.now)
 
 stands_first : (text : List ℕ) (keys : List NameText) (n : ℕ) (other : NameText) → AllDiffer (keys_of keys) → slice_get keys n ≡ Some other → bytes_eq text other.bytes.now ≡ true
     → position_or_len (λ key. bytes_eq text key.bytes.now) keys ≡ n
-stands_first text [] n other d stands is = absurd (cc)
+stands_first text [] n other d stands is = absurd (none-some _ stands)
 stands_first text (key ∷ keys) zero other d stands is =
-    let same : key ≡ other = cc in
+    let same : key ≡ other = same_Some _ _ stands in
     ap (λ (b : Bool). cond (not b) (1 + position_or_len (λ k. bytes_eq text k.bytes.now) keys) 0) (ap (λ (k : NameText). bytes_eq text k.bytes.now) same ∙ is)
 stands_first text (key ∷ keys) (suc n) other d stands is = by (bytes_eq text key.bytes.now) refl (stands_first text keys n other d.1 stands is)
   where
@@ -258,13 +258,13 @@ module _ (text : List ℕ) (keys : List NameText) (found : Option ℕ) (is : fou
 
   pub found_some : (n : ℕ) → found ≡ Some n → (at < length (keys_of keys)) × (n ≡ at)
   found_some n some = elim (le_or_lt (length (keys_of keys)) at) [
-    | inr below ↦ (below, (let e : Some n ≡ Some at = sym some ∙ same_place ∙ ap (λ (b : Bool). cond b (Some at) None) (lt-ltb at (length (keys_of keys)) below) in cc))
-    | inl past ↦ absurd (let e : Some n ≡ None = sym some ∙ same_place ∙ ap (λ (b : Bool). cond b (Some at) None) (le-ltb at (length (keys_of keys)) past) in cc)
+    | inr below ↦ (below, same_Some _ _ (sym some ∙ same_place ∙ ap (λ (b : Bool). cond b (Some at) None) (lt-ltb at (length (keys_of keys)) below)))
+    | inl past ↦ absurd (none-some n (sym (sym some ∙ same_place ∙ ap (λ (b : Bool). cond b (Some at) None) (le-ltb at (length (keys_of keys)) past))))
   ]
 
   pub found_none : (found ≡ None) → length (keys_of keys) ≤ at
   found_none none = elim (le_or_lt (length (keys_of keys)) at) [
-    | inr below ↦ absurd (let e : None ≡ Some at = sym none ∙ same_place ∙ ap (λ (b : Bool). cond b (Some at) None) (lt-ltb at (length (keys_of keys)) below) in cc)
+    | inr below ↦ absurd (none-some at (sym none ∙ same_place ∙ ap (λ (b : Bool). cond b (Some at) None) (lt-ltb at (length (keys_of keys)) below)))
     | inl past ↦ past
   ]
 

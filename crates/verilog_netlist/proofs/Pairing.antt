@@ -11,50 +11,51 @@ use Rattle.verilog_netlist.specs.declared.namespaces.Names.{Names}
 use Rattle.verilog_netlist.specs.declared.namespaces.Names.TheVariants as names
 use Rattle.verilog_netlist.specs.declared.repeats.Scopes.{Scopes}
 use Rattle.verilog_netlist.proofs.Repeating.{Counts, scope_is, stands_key, key_stands, within_list}
+use Rattle.std.proofs.lemmas.Option.{none-some, same_Some}
 
 Needs : Names → Entry → Type 0
 Needs other e = (needed_names e ≡ Some other) ⊎ IsAmong other e
 
 pair_is : (among other to : Names) → paired_names among ≡ Some to → paired_names among ≡ Some other → to ≡ other
-pair_is among other to one two = cc
+pair_is among other to one two = same_Some _ _ (sym one ∙ two)
 
 module _ (other : Names) where
   of_header : (among : Names) (own : Names) → Some own ≡ Some among → paired_names among ≡ Some other → paired_names own ≡ Some other
-  of_header among own is pair = ap paired_names (let same : own ≡ among = cc in same) ∙ pair
+  of_header among own is pair = ap paired_names (same_Some _ _ is) ∙ pair
 
   -- an entry with a name that needs a pair needs it, or is its pair itself
   needs : (e : Entry) (among : Names) → IsAmong among e → paired_names among ≡ Some other → Needs other e
   unfolding Needs
   needs (Header name) among (by_own is) pair = inl (of_header among names.Headers is pair)
-  needs (Header name) among (in_header is) pair = absurd (cc)
+  needs (Header name) among (in_header is) pair = absurd (none-some _ is)
   needs (Declared (decl.InHeader way) name bounds) among (by_own is) pair = inr (in_header (of_header among names.Directions is pair))
   needs (Declared (decl.InHeader way) name bounds) among (in_header is) pair = inr (by_own (of_header among names.Headers is pair))
   needs (Declared (decl.Port way) name bounds) among (by_own is) pair = inl (of_header among names.Directions is pair)
-  needs (Declared (decl.Port way) name bounds) among (in_header is) pair = absurd (cc)
-  needs (Declared decl.Wire name bounds) among (by_own is) pair = absurd (let f = of_header among names.Wires is pair in cc)
-  needs (Declared decl.Wire name bounds) among (in_header is) pair = absurd (cc)
-  needs (Module name) among (by_own is) pair = absurd (let f = of_header among names.Modules is pair in cc)
-  needs (Module name) among (in_header is) pair = absurd (cc)
-  needs (Instance cell name) among (by_own is) pair = absurd (let f = of_header among names.Instances is pair in cc)
-  needs (Instance cell name) among (in_header is) pair = absurd (cc)
-  needs (Port name) among (by_own is) pair = absurd (let f = of_header among names.Ports is pair in cc)
-  needs (Port name) among (in_header is) pair = absurd (cc)
-  needs (Whole name) among (by_own is) pair = absurd (cc)
-  needs (Whole name) among (in_header is) pair = absurd (cc)
-  needs (Bit name place) among (by_own is) pair = absurd (cc)
-  needs (Bit name place) among (in_header is) pair = absurd (cc)
-  needs (Part name bounds) among (by_own is) pair = absurd (cc)
-  needs (Part name bounds) among (in_header is) pair = absurd (cc)
-  needs (Constant token) among (by_own is) pair = absurd (cc)
-  needs (Constant token) among (in_header is) pair = absurd (cc)
+  needs (Declared (decl.Port way) name bounds) among (in_header is) pair = absurd (none-some _ is)
+  needs (Declared decl.Wire name bounds) among (by_own is) pair = absurd (none-some _ (of_header among names.Wires is pair))
+  needs (Declared decl.Wire name bounds) among (in_header is) pair = absurd (none-some _ is)
+  needs (Module name) among (by_own is) pair = absurd (none-some _ (of_header among names.Modules is pair))
+  needs (Module name) among (in_header is) pair = absurd (none-some _ is)
+  needs (Instance cell name) among (by_own is) pair = absurd (none-some _ (of_header among names.Instances is pair))
+  needs (Instance cell name) among (in_header is) pair = absurd (none-some _ is)
+  needs (Port name) among (by_own is) pair = absurd (none-some _ (of_header among names.Ports is pair))
+  needs (Port name) among (in_header is) pair = absurd (none-some _ is)
+  needs (Whole name) among (by_own is) pair = absurd (none-some _ is)
+  needs (Whole name) among (in_header is) pair = absurd (none-some _ is)
+  needs (Bit name place) among (by_own is) pair = absurd (none-some _ is)
+  needs (Bit name place) among (in_header is) pair = absurd (none-some _ is)
+  needs (Part name bounds) among (by_own is) pair = absurd (none-some _ is)
+  needs (Part name bounds) among (in_header is) pair = absurd (none-some _ is)
+  needs (Constant token) among (by_own is) pair = absurd (none-some _ is)
+  needs (Constant token) among (in_header is) pair = absurd (none-some _ is)
 
 -- what needs a pair is one of those that have one
 needing : (e : Entry) (other : Names) → needed_names e ≡ Some other → (among : Names) × IsAmong among e × (paired_names among ≡ Some other)
 needing (Header name) other is = (names.Headers, by_own refl, is)
 needing (Declared (decl.Port way) name bounds) other is = (names.Directions, by_own refl, is)
-needing (Declared (decl.InHeader way) name bounds) other is = absurd (cc)
-needing (Declared decl.Wire name bounds) other is = absurd (cc)
-needing _ other is = absurd (cc)
+needing (Declared (decl.InHeader way) name bounds) other is = absurd (none-some _ is)
+needing (Declared decl.Wire name bounds) other is = absurd (none-some _ is)
+needing _ other is = absurd (none-some _ is)
 
 abbrev IsNotPorts : Names → Type 0
 IsNotPorts other = code_of other ≡ code_of names.Ports → ⊥
@@ -64,9 +65,9 @@ not_five code low is = absurd (omega arith)
 
 -- a port of an instance is no name's pair
 pair_is_not_ports : (among other : Names) → paired_names among ≡ Some other → IsNotPorts other
-pair_is_not_ports names.Headers other pair port = let same : names.Directions ≡ other = cc in not_five 2 (omega arith) (ap code_of same ∙ port)
-pair_is_not_ports names.Directions other pair port = let same : names.Headers ≡ other = cc in not_five 1 (omega arith) (ap code_of same ∙ port)
-pair_is_not_ports _ other pair port = absurd (cc)
+pair_is_not_ports names.Headers other pair port = not_five 2 (omega arith) (ap code_of (same_Some _ _ pair) ∙ port)
+pair_is_not_ports names.Directions other pair port = not_five 1 (omega arith) (ap code_of (same_Some _ _ pair) ∙ port)
+pair_is_not_ports _ other pair port = absurd (none-some _ pair)
 
 module _ (bytes : List ℕ) (entries : List Entry) (index : ℕ) (keys : List Key) (scopes : Scopes) (counts : Counts entries index scopes)
     (names : HoldsNames bytes entries (length entries) keys) (e : Entry) (stands : slice_get entries index ≡ Some e) (within : index < length entries) (here : get_or entries index e ≡ e) where
@@ -117,7 +118,7 @@ module _ (bytes : List ℕ) (entries : List Entry) (index : ℕ) (keys : List Ke
   is_lacking_here : IsUnpaired bytes entries index → is_lacking (needed_names e) now name keys ≡ true
   unfolding Needs
   is_lacking_here r =
-      let same : r.one ≡ e = let f = r.one_stands in cc in
+      let same : r.one ≡ e = same_Some _ _ (sym r.one_stands ∙ stands) in
       let lacks : StandsAmong bytes entries r.other index name → ⊥ = subst (λ (x : Entry). StandsAmong bytes entries r.other index (text_at bytes (name_of x)) → ⊥) same r.lacks in
       by r.other lacks (needs r.other e r.among (subst (λ (x : Entry). IsAmong r.among x) same r.one_among) r.pair)
     where

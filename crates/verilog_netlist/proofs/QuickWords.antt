@@ -1,5 +1,5 @@
 -- What does not pass the quick test is a name.
-use Rattle.std.proofs.Common.{sym, ◌≡◌, ℕ, Bool, true, false, cond, ◌&&◌, List, [], ◌∷◌, refl, ap, ◌∙◌}
+use Rattle.std.proofs.Common.{sym, ◌≡◌, ℕ, Bool, true, false, cond, ◌&&◌, List, [], ◌∷◌, refl, ap, ◌∙◌, true≢false}
 use Rattle.std.specs.Prelude.{codes}
 use Rattle.std.specs.Str.{bytes_eq}
 use Rattle.std.proofs.lemmas.Slice.Eq.{bytes_eq-Decides}
@@ -14,11 +14,11 @@ all_pass (row ∷ rows) = may_be_reserved row.0 && all_pass rows
 
 first_passes : (p q : Bool) → (p && q) ≡ true → p ≡ true
 first_passes true q h = refl
-first_passes false q h = absurd (cc)
+first_passes false q h = absurd (true≢false (sym h))
 
 rest_pass : (p q : Bool) → (p && q) ≡ true → q ≡ true
 rest_pass true q h = h
-rest_pass false q h = absurd (cc)
+rest_pass false q h = absurd (true≢false (sym h))
 
 no_row : (rows : List (List ℕ × Kind)) (word : List ℕ) → all_pass rows ≡ true → may_be_reserved word ≡ false → look_up rows word ≡ Name
 no_row [] word all not = refl
@@ -27,9 +27,7 @@ no_row (row ∷ rows) word all not = by (bytes_eq row.0 word) refl (no_row rows 
     by : (is : Bool) → bytes_eq row.0 word ≡ is → look_up rows word ≡ Name → look_up (row ∷ rows) word ≡ Name
     by true e rest = absurd (
         let same : row.0 ≡ word = (bytes_eq-Decides row.0 word).0 e in
-        let passes = first_passes (may_be_reserved row.0) (all_pass rows) all in
-        let passes' = ap may_be_reserved same in
-        cc)
+        true≢false (sym (first_passes (may_be_reserved row.0) (all_pass rows) all) ∙ ap may_be_reserved same ∙ not))
     by false e rest = ap (λ t. cond t row.1 (look_up rows word)) e ∙ rest
 
 pub others_are_names : (word : List ℕ) → may_be_reserved word ≡ false → word_kind word ≡ Name

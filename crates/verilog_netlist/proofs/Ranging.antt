@@ -21,6 +21,7 @@ use Rattle.verilog_netlist.specs.declared.entries.Entry.TheVariants.{Module, Hea
 use Rattle.verilog_netlist.specs.declared.repeats.NameKey.{NameKey}
 use Rattle.verilog_netlist.proofs.PartsFound.{le_or_lt}
 use Rattle.verilog_netlist.proofs.Repeating.{same_key-Decides, no_entry}
+use Rattle.std.proofs.lemmas.Option.{none-some, same_Some}
 
 row_behind : (rows : Rows) (key : NameKey) (declaration : Declaration) (other : Key)
     → row_at (rows ++ (key, declaration) ∷ []) other ≡ or_first (row_at rows other) (if same_key other (key_in key) then Some declaration else None)
@@ -45,7 +46,7 @@ adds_new old new key declaration is other = ap (λ (rows : Rows). row_at rows ot
 -- a row that is put back
 module _ (eq : NameKey → NameKey → Bool) (key : NameKey) (declaration first : Declaration) where
   pub put_back : (rows : Rows) → lookup (eq key) rows ≡ Some first → insert_entry eq (insert_entry eq rows key declaration) key first ≡ rows
-  put_back [] h = absurd (cc)
+  put_back [] h = absurd (none-some _ h)
   put_back (row ∷ rows) h = by (eq key row.0) refl (put_back rows)
     where
       by : (b : Bool) → eq key row.0 ≡ b → (lookup (eq key) rows ≡ Some first → insert_entry eq (insert_entry eq rows key declaration) key first ≡ rows)
@@ -54,7 +55,7 @@ module _ (eq : NameKey → NameKey → Bool) (key : NameKey) (declaration first 
           ap (λ (t : Bool). insert_entry eq (if t then (row.0, declaration) ∷ rows else row ∷ insert_entry eq rows key declaration) key first) e
           ∙ ap (λ (t : Bool). if t then (row.0, first) ∷ rows else (row.0, declaration) ∷ insert_entry eq rows key first) e
           ∙ ap (λ (d : Declaration). (row.0, d) ∷ rows)
-          (let found : Some row.1 ≡ Some first = sym (ap (λ (t : Bool). cond t (Some row.1) (lookup (eq key) rows)) e) ∙ h in let same : first ≡ row.1 = cc in same)
+          (sym (same_Some _ _ (sym (ap (λ (t : Bool). cond t (Some row.1) (lookup (eq key) rows)) e) ∙ h)))
       by false e rest =
           ap (λ (t : Bool). insert_entry eq (if t then (row.0, declaration) ∷ rows else row ∷ insert_entry eq rows key declaration) key first) e
           ∙ ap (λ (t : Bool). if t then (row.0, first) ∷ insert_entry eq rows key declaration else row ∷ insert_entry eq (insert_entry eq rows key declaration) key first) e
@@ -226,7 +227,7 @@ module _ (bytes : List ℕ) (entries : List Entry) (n : ℕ) (here : ℕ) (e : E
         by_key false same = absurd (is_none_some (sym (ap (λ (b : Bool). if b then Some (record { by = by; range = Some bounds }) else None) same) ∙ is))
           where
             is_none_some : None ≡ Some declaration → ⊥
-            is_none_some none = absurd (cc)
+            is_none_some none = none-some _ none
     none_ranged (Declared by span None) more is = by_key (same_key (declared_key asked name) (declared_key here (text_at bytes span))) refl
       where
         by_key : (b : Bool) → same_key (declared_key asked name) (declared_key here (text_at bytes span)) ≡ b → declaration.range ≡ None
@@ -239,15 +240,15 @@ module _ (bytes : List ℕ) (entries : List Entry) (n : ℕ) (here : ℕ) (e : E
         by_key false same = absurd (is_none_some (sym (ap (λ (b : Bool). if b then Some (record { by = by; range = None }) else None) same) ∙ is))
           where
             is_none_some : None ≡ Some declaration → ⊥
-            is_none_some none = absurd (cc)
-    none_ranged (Whole name) more is = absurd (cc)
-    none_ranged (Bit name place) more is = absurd (cc)
-    none_ranged (Part name select) more is = absurd (cc)
-    none_ranged (Constant token) more is = absurd (cc)
-    none_ranged (Module name) more is = absurd (cc)
-    none_ranged (Header name) more is = absurd (cc)
-    none_ranged (Instance cell name) more is = absurd (cc)
-    none_ranged (Port name) more is = absurd (cc)
+            is_none_some none = none-some _ none
+    none_ranged (Whole name) more is = absurd (none-some _ is)
+    none_ranged (Bit name place) more is = absurd (none-some _ is)
+    none_ranged (Part name select) more is = absurd (none-some _ is)
+    none_ranged (Constant token) more is = absurd (none-some _ is)
+    none_ranged (Module name) more is = absurd (none-some _ is)
+    none_ranged (Header name) more is = absurd (none-some _ is)
+    none_ranged (Instance cell name) more is = absurd (none-some _ is)
+    none_ranged (Port name) more is = absurd (none-some _ is)
 
   pub covers_next : CoversRanged bytes entries (n + 1) new
   covers_next asked name place declaration below is missing = elim (le_or_lt n place) [
@@ -338,9 +339,9 @@ module _ (bytes : List ℕ) (entries : List Entry) (rows : Rows) where
   bound_first = record { whole = λ asked. omega arith; few = omega arith }
 
   at_most : (most bits : Option ℕ) (f : List ℕ → Option Declaration) (more : ℕ) (n : ℕ) → most ≡ Some n → IsAtMost bits most → and_more bytes f bits more ≤ n + more
-  at_most (Some most) (Some bits) f more n is below = let same : most ≡ n = cc in omega arith
+  at_most (Some most) (Some bits) f more n is below = let same : most ≡ n = same_Some _ _ is in omega arith
   at_most (Some most) None f more n is below = absurd below
-  at_most None bits f more n is below = absurd (cc)
+  at_most None bits f more n is below = absurd (none-some _ is)
 
   none_more : (bits : Option ℕ) (f : List ℕ → Option Declaration) (more : ℕ) → IsAtMost bits None → and_more bytes f bits more ≡ 0
   none_more None f more below = refl
@@ -448,6 +449,6 @@ module _ (bytes : List ℕ) (entries : List Entry) (n : ℕ) (e : Entry) (rows :
   pub decides_bad : Decides (is_bad_entry bytes (found_in rows here) (drop (n + 1) entries) e) (IsBadRange bytes entries n)
   decides_bad = (
     (λ is. record { entry = e; stands = stands; bad = sym bad_is ∙ is }),
-    (λ r. let entry_is : r.entry ≡ e = let f = r.stands in cc in
+    (λ r. let entry_is : r.entry ≡ e = same_Some _ _ (sym r.stands ∙ stands) in
         bad_is ∙ ap (λ (x : Entry). is_bad_entry bytes (declared_by bytes entries n) (drop (n + 1) entries) x) (sym entry_is) ∙ r.bad),
   )

@@ -7,7 +7,7 @@ use Rattle.std.proofs.lemmas.Bool.{eqb-true, eq-eqb, ne_eqb, cases_eq}
 use Rattle.std.proofs.lemmas.List.{map-append, get_or_default}
 use Rattle.std.proofs.lemmas.List.Folds.{list_any-append}
 use Rattle.std.proofs.lemmas.List.Sums.{count_by_more_yes, count_by_more_no}
-use Rattle.std.proofs.lemmas.Option.{slice_get-get_or}
+use Rattle.std.proofs.lemmas.Option.{none-some, same_Some, slice_get-get_or}
 use Rattle.std.proofs.lemmas.Slice.Eq.{bytes_eq-Decides}
 use Rattle.indexmap.specs.IndexSet.{insert_key}
 use Rattle.token_texts.specs.Spans.{text_at}
@@ -157,14 +157,14 @@ coded names.Instances = refl
 coded names.Ports = refl
 
 pub one_code : (one other : Names) → code_of one ≡ code_of other → one ≡ other
-one_code one other e = let same : Some one ≡ Some other = sym (coded one) ∙ ap name_by_code e ∙ coded other in cc
+one_code one other e = same_Some _ _ (sym (coded one) ∙ ap name_by_code e ∙ coded other)
 
 -- a name of a header that a direction declares is among two kinds of names
 apart : (e : Entry) (among : Names) → own_names e ≡ Some among → header_names e ≡ Some among → ⊥
 apart (Declared (decl.InHeader way) name bounds) among own header = absurd (let same : Some names.Directions ≡ Some names.Headers = own ∙ sym header in cc)
-apart (Declared (decl.Port way) name bounds) among own header = absurd (cc)
-apart (Declared decl.Wire name bounds) among own header = absurd (cc)
-apart _ among own header = absurd (cc)
+apart (Declared (decl.Port way) name bounds) among own header = absurd (none-some _ header)
+apart (Declared decl.Wire name bounds) among own header = absurd (none-some _ header)
+apart _ among own header = absurd (none-some _ header)
 
 -- what is kept of ports, and of other names
 module _ (number : ℕ) (keys : List Key) (ports : List (List ℕ)) (key : Key) where
@@ -426,7 +426,7 @@ module _ (bytes : List ℕ) (entries : List Entry) where
 
       is_repeated : IsRepeated bytes entries index → (among : Names) × IsAmong among e × (has (key_of among now name) ≡ true)
       is_repeated r =
-          let same : r.again ≡ e = let f = r.again_stands in cc in
+          let same : r.again ≡ e = same_Some _ _ (sym r.again_stands ∙ stands) in
           let text : text_at bytes (name_of r.one) ≡ name = r.one_text ∙ ap (λ (x : Entry). text_at bytes (name_of x)) same in
           let key : key_of r.among now name ≡ key_at bytes entries r.before r.one r.among =
           key_is_here r.among ∙ ap₂ (λ (s : ℕ) (n : List ℕ). record { code = code_of r.among; scope = s; name = n }) (sym r.one_scope) (sym text) in (
@@ -475,7 +475,7 @@ module _ (bytes : List ℕ) (entries : List Entry) where
         | inr other ↦ name_stays now name (own_names e) with_header key (name_stays now name (header_names e) has key
             (h.seen key (record { among = s.among; before = s.before; e = s.e; below = let below = s.below in omega arith; stands = s.stands; is = s.is; key_is = s.key_is }) current))
         | inl at ↦
-            let same : s.e ≡ e = let f = s.stands in let g = ap (slice_get entries) at in cc in
+            let same : s.e ≡ e = same_Some _ _ (sym s.stands ∙ ap (slice_get entries) at ∙ stands) in
             let key_is : key ≡ key_of s.among now name = s.key_is ∙ ap₂ (λ (p : ℕ) (x : Entry). key_at bytes entries p x s.among) at same ∙ sym (key_is_here s.among) in
             subst (λ (k : Key). with_both e now name has k ≡ true) (sym key_is) (here_held s.among (subst (λ (x : Entry). IsAmong s.among x) same s.is))
       ]
@@ -509,6 +509,6 @@ pub itself_at : (entries : List Entry) (place : ℕ) → place < length entries 
 itself_at entries place below = sym (get_or_default entries place no_entry (get_or entries place no_entry) below)
 
 pub within_list : (list : List Entry) (at : ℕ) (e : Entry) → slice_get list at ≡ Some e → at < length list
-within_list [] at e h = absurd (cc)
+within_list [] at e h = absurd (none-some _ h)
 within_list (x ∷ list) zero e h = omega arith
 within_list (x ∷ list) (suc at) e h = let more = within_list list at e h in omega arith

@@ -11,7 +11,8 @@ use Rattle.token_texts.specs.Cuts.{IsWithin}
 use Rattle.verilog_netlist.specs.Grammar.{IsNetlist}
 use Rattle.verilog_netlist.specs.Steps.{Step, Refuse, Go, Put, step_in}
 use Rattle.verilog_netlist.specs.Modes.{State, first_state, state_after, next, finish_in, finish}
-use Rattle.verilog_netlist.specs.Netlists.{SaysNetlist, LeavesNetlist, IsDead, IsRefusalAt, HasWord}
+use Rattle.verilog_netlist.specs.Netlists.{SaysNetlist, LeavesNetlist}
+use Rattle.verilog_netlist.specs.Netlist.{IsRefused, IsRefusalOfToken, HasItsWord}
 use Rattle.verilog_netlist.specs.ReaderStates.{IsRefusalOf}
 use Rattle.token_texts.specs.declared.spans.Span.{Span}
 use Rattle.verilog_netlist.specs.declared.kinds.Kind.{Kind}
@@ -20,11 +21,13 @@ use Rattle.verilog_netlist.specs.declared.modes.Mode.{Mode}
 use Rattle.verilog_netlist.specs.declared.modes.Mode.TheVariants.{Modules}
 use Rattle.token_texts.specs.declared.cuts.Cut.{Cut}
 use Rattle.token_texts.specs.declared.cuts.Cut.TheVariants.{Skip, Take}
-use Rattle.verilog_netlist.specs.declared.reading.ReadEnd.{ReadEnd}
-use Rattle.verilog_netlist.specs.declared.reading.ReadEnd.TheVariants.{Syntax, NotStructural, OutOfMemory}
+use Rattle.verilog_netlist.specs.declared.netlist.VerilogEnd.{VerilogEnd}
+use Rattle.verilog_netlist.specs.declared.netlist.VerilogEnd.TheVariants.{Syntax, NotStructural, Repeated, PortDirection, BadRange, OutOfMemory}
 use Rattle.verilog_netlist.proofs.Cutting.{cut_blank, cut_within}
 use Rattle.verilog_netlist.proofs.Parting.{one_parting}
 use Rattle.verilog_netlist.proofs.Fitting.{fits}
+use Rattle.std.proofs.lemmas.Option.{none-some, same_Some}
+use Rattle.verilog_netlist.proofs.Clashes.{never, same_ok}
 
 abbrev made : List Lexeme → Result (List Entry) (Stop State ⊤)
 made tokens = outcome next finish first_state 1 tokens
@@ -67,12 +70,12 @@ one_longer (t ∷ tokens) token = let rest = one_longer tokens token in omega ar
 
 -- a token adds one entry at most
 one_entry : (step : Step) (entries : List Entry) (now : State) → state_after step entries ≡ Ok now → length now.entries ≤ length entries + 1
-one_entry Refuse entries now e = absurd (cc)
+one_entry Refuse entries now e = never e
 one_entry (Go mode) entries now e =
-    let same : record { mode = mode; entries = entries } ≡ now = cc in
+    let same : record { mode = mode; entries = entries } ≡ now = same_ok e in
     subst (λ (s : State). length s.entries ≤ length entries + 1) same (omega arith)
 one_entry (Put mode said) entries now e =
-    let same : record { mode = mode; entries = entries ++ said ∷ [] } ≡ now = cc in
+    let same : record { mode = mode; entries = entries ++ said ∷ [] } ≡ now = same_ok e in
     let longer : length (entries ++ said ∷ []) ≡ length entries + 1 = length-append entries (said ∷ []) in
     subst (λ (s : State). length s.entries ≤ length entries + 1) same (omega arith)
 
@@ -125,35 +128,38 @@ past [] = refl
 past (t ∷ front) = past front
 
 -- what is told of a refusal
-pub record IsRefused (bytes : List ℕ) (answer : ReadEnd) : Type 0 where
-  pub dead : IsDead bytes answer
-  pub word : HasWord bytes answer
+pub record IsRefusal (bytes : List ℕ) (answer : VerilogEnd) : Type 0 where
+  pub refused : IsRefused bytes answer
+  pub word : HasItsWord bytes answer
   pub nothing : (entries : List Entry) → SaysNetlist bytes entries → ⊥
 
 leaves : (bytes : List ℕ) (tokens : List Lexeme) (stop : Stop State ⊤) → AreTokens bytes tokens → made tokens ≡ Err stop → LeavesNetlist bytes stop.number
 leaves bytes tokens stop parted e = leaves_where_stopped AreTokens IsToken IsNetlist next finish first_state fits one_parting bytes tokens stop parted e
 
-dead_of : (bytes : List ℕ) (number : ℕ) (kind : Kind) (at : Span) (answer : ReadEnd) → LeavesNetlist bytes number → IsRefusalOf bytes number kind at answer → IsDead bytes answer
-dead_of bytes number kind at (Syntax token) is r = subst (LeavesNetlist bytes) (sym r.0) is
-dead_of bytes number kind at (NotStructural word token) is r = subst (LeavesNetlist bytes) (sym r.0) is
-dead_of bytes number kind at OutOfMemory is r = tt
+refused_of : (bytes : List ℕ) (number : ℕ) (kind : Kind) (at : Span) (answer : VerilogEnd) → LeavesNetlist bytes number → IsRefusalOf bytes number kind at answer → IsRefused bytes answer
+refused_of bytes number kind at (Syntax token) is r = subst (LeavesNetlist bytes) (sym r.0) is
+refused_of bytes number kind at (NotStructural word token) is r = subst (LeavesNetlist bytes) (sym r.0) is
+refused_of bytes number kind at (Repeated name) is r = absurd r
+refused_of bytes number kind at (PortDirection name) is r = absurd r
+refused_of bytes number kind at (BadRange name) is r = absurd r
+refused_of bytes number kind at OutOfMemory is r = tt
 
-word_of : (bytes : List ℕ) (tokens : List Lexeme) (number : ℕ) (kind : Kind) (at : Span) (answer : ReadEnd)
-    → slice_get tokens (number - 1) ≡ Some (record { kind = kind; at = at }) → IsRefusalOf bytes number kind at answer → IsRefusalAt bytes tokens answer
+word_of : (bytes : List ℕ) (tokens : List Lexeme) (number : ℕ) (kind : Kind) (at : Span) (answer : VerilogEnd)
+    → slice_get tokens (number - 1) ≡ Some (record { kind = kind; at = at }) → IsRefusalOf bytes number kind at answer → IsRefusalOfToken bytes tokens answer
 word_of bytes tokens number kind at (Syntax token) here r = λ lexeme found is.
-    let same : lexeme ≡ record { kind = kind; at = at } = let f = ap (λ n. slice_get tokens (n - 1)) r.0 ∙ here in cc in
+    let same : lexeme ≡ record { kind = kind; at = at } = same_Some _ _ (sym found ∙ ap (λ n. slice_get tokens (n - 1)) r.0 ∙ here) in
     r.1 (sym (ap (λ (l : Lexeme). l.kind) same) ∙ is)
 word_of bytes tokens number kind at (NotStructural word token) here r =
     (record { kind = kind; at = at }, ap (λ n. slice_get tokens (n - 1)) r.0 ∙ here, r.1, r.2)
-word_of bytes tokens number kind at OutOfMemory here r = tt
+word_of bytes tokens number kind at _ here r = tt
 
-has_word : (bytes : List ℕ) (tokens : List Lexeme) (answer : ReadEnd) → AreTokens bytes tokens → IsRefusalAt bytes tokens answer → HasWord bytes answer
-has_word bytes tokens answer parted is = λ other parted'. subst (λ (l : List Lexeme). IsRefusalAt bytes l answer) (one_parting bytes tokens other parted parted') is
+has_word : (bytes : List ℕ) (tokens : List Lexeme) (answer : VerilogEnd) → AreTokens bytes tokens → IsRefusalOfToken bytes tokens answer → HasItsWord bytes answer
+has_word bytes tokens answer parted is = λ other parted'. subst (λ (l : List Lexeme). IsRefusalOfToken bytes l answer) (one_parting bytes tokens other parted parted') is
 
-refused_here : {bytes : List ℕ} {start number : ℕ} {state : State} (first : ℕ) (after : List ℕ) (n : ℕ) (kind : Kind) (answer : ReadEnd)
+refused_here : {bytes : List ℕ} {start number : ℕ} {state : State} (first : ℕ) (after : List ℕ) (n : ℕ) (kind : Kind) (answer : VerilogEnd)
     → ReadTo bytes (first ∷ after) start number state → cut_at first after ≡ Take n kind
     → state_after (step_in state.mode kind (span_of first start n)) state.entries ≡ Err tt
-    → IsRefusalOf bytes number kind (span_of first start n) answer → IsRefused bytes answer
+    → IsRefusalOf bytes number kind (span_of first start n) answer → IsRefusal bytes answer
 refused_here {bytes} {start} {number} {state} first after n kind answer h cut refusal r =
     let token : Lexeme = token_here kind first start n in
     let more = some_tokens (length (drop n (first ∷ after))) (start + n) (drop n (first ∷ after)) (omega arith) in
@@ -163,7 +169,7 @@ refused_here {bytes} {start} {number} {state} first after n kind answer h cut re
     let is = leaves bytes (h.before ++ token ∷ more.0) stop parted stops in
     let minus : number - 1 ≡ length h.before = let count = h.count in omega arith in
     record {
-      dead = dead_of bytes number kind (span_of first start n) answer is r;
+      refused = refused_of bytes number kind (span_of first start n) answer is r;
       word = has_word bytes (h.before ++ token ∷ more.0) answer parted
           (word_of bytes (h.before ++ token ∷ more.0) number kind (span_of first start n) answer (ap (slice_get (h.before ++ token ∷ more.0)) minus ∙ there h.before token more.0) r);
       nothing = is.nothing;
@@ -175,15 +181,15 @@ whole_parted {bytes} h = subst (AreTokens bytes) (append-nil h.before) (h.so_far
 whole_made : {bytes : List ℕ} {start number : ℕ} {state : State} (h : ReadTo bytes [] start number state) → made h.before ≡ go_on number state (λ (entries : List Entry). Ok entries) (finish state)
 whole_made h = sym (ap made (append-nil h.before)) ∙ h.leads []
 
-lacking : {bytes : List ℕ} {start number : ℕ} {state : State} (h : ReadTo bytes [] start number state) → finish state ≡ Err tt → IsRefused bytes (Syntax number)
+lacking : {bytes : List ℕ} {start number : ℕ} {state : State} (h : ReadTo bytes [] start number state) → finish state ≡ Err tt → IsRefusal bytes (Syntax number)
 lacking {bytes} {start} {number} {state} h e =
     let stop : Stop State ⊤ = record { number = number; state = state; cause = tt } in
     let stops : made h.before ≡ Err stop = whole_made h ∙ ap (go_on number state (λ (entries : List Entry). Ok entries)) e in
     let is = leaves bytes h.before stop (whole_parted h) stops in
     let minus : number - 1 ≡ length h.before = let count = h.count in omega arith in
     record {
-      dead = is;
-      word = has_word bytes h.before (Syntax number) (whole_parted h) (λ lexeme found kind. let none = ap (slice_get h.before) minus ∙ past h.before in absurd (cc));
+      refused = is;
+      word = has_word bytes h.before (Syntax number) (whole_parted h) (λ lexeme found kind. absurd (none-some lexeme (sym (ap (slice_get h.before) minus ∙ past h.before) ∙ found)));
       nothing = is.nothing;
     }
 
@@ -194,8 +200,8 @@ saying {bytes} {start} {number} {state} entries h e =
 
 -- what is said at the end has been said before
 finished : (mode : Mode) (said entries : List Entry) → finish_in mode said ≡ Ok entries → said ≡ entries
-finished Modules said entries e = cc
-finished _ said entries e = absurd (cc)
+finished Modules said entries e = same_ok e
+finished _ said entries e = never e
 
 -- the same of bytes that are known to begin so
 pub first_and_rest : (l : List ℕ) → 1 ≤ length l → l ≡ get_or l 0 0 ∷ take (length l - 1) (drop 1 l)
@@ -251,14 +257,14 @@ module _ {bytes : List ℕ} {start number : ℕ} {state : State} (rest : List �
       (one_token first after n kind now (subst (λ (l : List ℕ). ReadTo bytes l start number state) split h) cut some (omega arith)
       (ap (λ (s : Span). state_after (step_in state.mode kind s) state.entries) (sym place) ∙ moves))
 
-  pub refuses : (first : ℕ) (after : List ℕ) (n : ℕ) (kind : Kind) (at : Span) (answer : ReadEnd) → rest ≡ first ∷ after → cut_at first after ≡ Take n kind → at ≡ span_of first start n
-      → state_after (step_in state.mode kind at) state.entries ≡ Err tt → IsRefusalOf bytes number kind at answer → IsRefused bytes answer
+  pub refuses : (first : ℕ) (after : List ℕ) (n : ℕ) (kind : Kind) (at : Span) (answer : VerilogEnd) → rest ≡ first ∷ after → cut_at first after ≡ Take n kind → at ≡ span_of first start n
+      → state_after (step_in state.mode kind at) state.entries ≡ Err tt → IsRefusalOf bytes number kind at answer → IsRefusal bytes answer
   refuses first after n kind at answer split cut place refusal r =
       refused_here first after n kind answer (subst (λ (l : List ℕ). ReadTo bytes l start number state) split h) cut
       (ap (λ (s : Span). state_after (step_in state.mode kind s) state.entries) (sym place) ∙ refusal)
       (subst (λ (s : Span). IsRefusalOf bytes number kind s answer) place r)
 
-  pub lacks : rest ≡ [] → finish state ≡ Err tt → IsRefused bytes (Syntax number)
+  pub lacks : rest ≡ [] → finish state ≡ Err tt → IsRefusal bytes (Syntax number)
   lacks none e = lacking (subst (λ (l : List ℕ). ReadTo bytes l start number state) none h) e
 
   pub few_said : (entries : List Entry) → finish state ≡ Ok entries → length entries ≤ length bytes

@@ -16,6 +16,7 @@ use Rattle.verilog_netlist.specs.declared.entries.Entry.{Entry}
 use Rattle.verilog_netlist.specs.declared.entries.Entry.TheVariants as entry
 use Rattle.verilog_netlist.specs.declared.modes.Mode.{Mode}
 use Rattle.verilog_netlist.specs.declared.modes.Mode.TheVariants.{Modules, ModuleName, ModuleHead, HeaderStart, HeaderName, HeaderMore, HeaderEnd, Items, AfterWay, AfterWire, RangeLeft, RangeColon, RangeRight, RangeEnd, DeclaredName, DeclaredMore, NextPort, InstanceName, InstanceOpen, FirstConnection, NextConnection, PortName, PortOpen, Joined, Operand, NameEnd, SelectLeft, SelectNext, SelectRight, SelectEnd, OperandEnd, ConnectionEnd, InstanceEnd}
+use Rattle.verilog_netlist.proofs.Clashes.{never}
 
 abbrev at : Mode → List Entry → State
 at mode entries = record { mode = mode; entries = entries }
@@ -129,11 +130,11 @@ module _ (value : List Entry) where
     behind_name zero id entries after kind.RightParen e = e
     behind_name (suc depth) id entries after kind.Comma e = e
     behind_name (suc depth) id entries after kind.RightBrace e = e
-    behind_name zero id entries after _ e = absurd (cc)
-    behind_name (suc depth) id entries after _ e = absurd (cc)
+    behind_name zero id entries after _ e = never e
+    behind_name (suc depth) id entries after _ e = never e
 
     name_alone : (depth : ℕ) (id : Span) {entries : List Entry} {tokens : List Tok} → Leads (OperandEnd (place_at cell depth)) (added entries (entry.Whole id)) tokens → Leads (NameEnd (place_at cell depth) id) entries tokens
-    name_alone depth id (ended e) = absurd (cc)
+    name_alone depth id (ended e) = never e
     name_alone depth id {entries = entries} (taken {after = after} {token = token} e leads) = taken (behind_name depth id entries after token.text.kind e) leads
 
     mutual
@@ -169,11 +170,11 @@ module _ (value : List Entry) where
           exprs depth before comma (go (OperandEnd (place_at cell depth)) (Operand (place_at cell depth)) kind.Comma c (comma token.text.at) (expr depth e leads))
 
     same_step : (place : Span) (entries : List Entry) (after : State) (k : Kind) → state_after (operand_step k place (place_at cell 0)) entries ≡ Ok after → state_after (joined_step k place cell) entries ≡ Ok after
-    same_step place entries after kind.RightParen e = absurd (cc)
+    same_step place entries after kind.RightParen e = never e
     same_step place entries after _ e = e
 
     joined : {entries : List Entry} {tokens : List Tok} → Leads (Operand (place_at cell 0)) entries tokens → Leads (Joined cell) entries tokens
-    joined (ended e) = absurd (cc)
+    joined (ended e) = never e
     joined {entries = entries} (taken {after = after} {token = token} e leads) = taken (same_step token.text.at entries after token.text.kind e) leads
 
     joins : {close : Tok} {from rest : List Tok} {before after : List Entry} → Maybe (IsExpr 0) from before after (close ∷ rest) → Is kind.RightParen close

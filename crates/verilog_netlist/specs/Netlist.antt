@@ -1,17 +1,16 @@
 -- What is answered of the bytes of a netlist, and what is refused.
-use Rattle.std.specs.Prelude.{◌≡◌, ℕ, List, slice_get, Some, ⊤, Result, MatchResult}
+use Rattle.std.specs.Prelude.{◌≡◌, ℕ, ◌-◌, List, slice_get, Some, ⊤, Result, MatchResult}
 use Rattle.token_texts.specs.Spans.{text_at}
 use Rattle.verilog_netlist.specs.Tokens.{AreTokens, Lexeme}
 use Rattle.verilog_netlist.specs.Namespaces.{name_of}
-use Rattle.verilog_netlist.specs.Netlists.{SaysNetlist, LeavesNetlist, IsRefusalAt}
+use Rattle.verilog_netlist.specs.Netlists.{SaysNetlist, LeavesNetlist}
 use Rattle.verilog_netlist.specs.Faults.{IsFirstFault, IsFaultless}
 use Rattle.verilog_netlist.specs.declared.entries.Entry.{Entry}
 use Rattle.verilog_netlist.specs.declared.faults.NameFault.{NameFault}
 use Rattle.verilog_netlist.specs.declared.faults.NameFault.TheVariants as fault
 use Rattle.verilog_netlist.specs.declared.netlist.VerilogEnd.{VerilogEnd}
 use Rattle.verilog_netlist.specs.declared.netlist.VerilogEnd.TheVariants as end
-use Rattle.verilog_netlist.specs.declared.reading.ReadEnd.{ReadEnd}
-use Rattle.verilog_netlist.specs.declared.reading.ReadEnd.TheVariants as read
+use Rattle.verilog_netlist.specs.declared.kinds.Kind.TheVariants.{NotStructural as StartsOther}
 
 -- the bytes say entries of which no name and no range is at fault
 abbrev pub SaysSound : List ℕ → List Entry → Type 0
@@ -36,10 +35,12 @@ IsRefused bytes (end.PortDirection name) = IsNameFault bytes fault.PortDirection
 IsRefused bytes (end.BadRange name) = IsNameFault bytes fault.BadRange name
 IsRefused bytes end.OutOfMemory = ⊤
 
--- the refusal of the reading alone, of which faults of names are none
+-- the token is a reserved word that the grammar has nowhere, where the refusal says so, with this text, and no such word else
 abbrev pub IsRefusalOfToken : List ℕ → List Lexeme → VerilogEnd → Type 0
-IsRefusalOfToken bytes tokens (end.Syntax token) = IsRefusalAt bytes tokens (read.Syntax token)
-IsRefusalOfToken bytes tokens (end.NotStructural word token) = IsRefusalAt bytes tokens (read.NotStructural word token)
+IsRefusalOfToken bytes tokens (end.Syntax token) =
+    (lexeme : Lexeme) → slice_get tokens (token - 1) ≡ Some lexeme → lexeme.kind ≡ StartsOther → ⊥
+IsRefusalOfToken bytes tokens (end.NotStructural word token) =
+    (lexeme : Lexeme) × (slice_get tokens (token - 1) ≡ Some lexeme) × (lexeme.kind ≡ StartsOther) × (word ≡ text_at bytes lexeme.at)
 IsRefusalOfToken bytes tokens _ = ⊤
 
 -- where the token with which the bytes leave the grammar is a reserved word that the grammar has nowhere, the refusal has the word
@@ -47,14 +48,8 @@ abbrev pub HasItsWord : List ℕ → VerilogEnd → Type 0
 HasItsWord bytes refusal = (tokens : List Lexeme) → AreTokens bytes tokens → IsRefusalOfToken bytes tokens refusal
 
 -- the entries are answered, unless memory ran out
-abbrev pub GivesSound : {V : Type 0} → (V → List Entry) → List Entry → Result V VerilogEnd → Type 0
-GivesSound said entries result = MatchResult result (λ answer. said answer ≡ entries) (λ refusal. refusal ≡ end.OutOfMemory)
-
--- the same refusal
-abbrev pub IsEndOf : ReadEnd → VerilogEnd → Type 0
-IsEndOf (read.Syntax token) refusal = refusal ≡ end.Syntax token
-IsEndOf (read.NotStructural word token) refusal = refusal ≡ end.NotStructural word token
-IsEndOf read.OutOfMemory refusal = refusal ≡ end.OutOfMemory
+abbrev pub Gives : {V : Type 0} → (V → List Entry) → List Entry → Result V VerilogEnd → Type 0
+Gives said entries result = MatchResult result (λ answer. said answer ≡ entries) (λ refusal. refusal ≡ end.OutOfMemory)
 
 -- the refusal of this fault at this name, or memory ran out
 abbrev pub IsNamed : NameFault → List ℕ → VerilogEnd → Type 0

@@ -6,8 +6,8 @@ use Rattle.verilog_netlist.specs.Modes.{State, state_after}
 use Rattle.token_texts.specs.declared.spans.Span.{Span}
 use Rattle.verilog_netlist.specs.declared.kinds.Kind.{Kind}
 use Rattle.verilog_netlist.specs.declared.kinds.Kind.TheVariants.{NotStructural as StartsOther}
-use Rattle.verilog_netlist.specs.declared.reading.ReadEnd.{ReadEnd}
-use Rattle.verilog_netlist.specs.declared.reading.ReadEnd.TheVariants.{Syntax, NotStructural, OutOfMemory}
+use Rattle.verilog_netlist.specs.declared.netlist.VerilogEnd.{VerilogEnd}
+use Rattle.verilog_netlist.specs.declared.netlist.VerilogEnd.TheVariants.{Syntax, NotStructural, OutOfMemory}
 use Rattle.verilog_netlist.specs.declared.entries.Entry.{Entry}
 use Rattle.verilog_netlist.specs.declared.reader.Reader.{Reader}
 use Rattle.verilog_netlist.specs.declared.modes.Mode.{Mode}
@@ -27,10 +27,11 @@ Finishes answer (Some entries) = answer ≡ Ok entries
 Finishes answer None = answer ≡ Err tt
 
 -- the refusal of a token of this number and kind at this place
-abbrev pub IsRefusalOf : List ℕ → ℕ → Kind → Span → ReadEnd → Type 0
+abbrev pub IsRefusalOf : List ℕ → ℕ → Kind → Span → VerilogEnd → Type 0
 IsRefusalOf bytes number kind at (Syntax token) = (token ≡ number) × (kind ≡ StartsOther → ⊥)
 IsRefusalOf bytes number kind at (NotStructural word token) = (token ≡ number) × (kind ≡ StartsOther) × (word ≡ text_at bytes at)
 IsRefusalOf bytes number kind at OutOfMemory = ⊤
+IsRefusalOf bytes number kind at _ = ⊥
 
 -- the step that goes on to a mode, or refuses where there is none
 abbrev pub go_if : Option Mode → Step

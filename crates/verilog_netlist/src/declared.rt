@@ -1,5 +1,5 @@
 //! The first declarations of the names that are declared with a range.
-ghost use Rattle.std.specs.Prelude.{◌≡◌, ◌^◌, ◌<◌, length, IfOk, OnOk};
+ghost use Rattle.std.specs.Prelude.{◌≡◌, ◌^◌, ◌<◌, [], length, IfOk, OnOk};
 ghost use Rattle.verilog_netlist.specs.NameKeys.{key_in, keys_in, holds};
 ghost use Rattle.verilog_netlist.specs.DeclaredNames.{declared_key, found_in, widened, AddsRow, AddsDeclared, CoversRanged, HoldsRanged, BoundsWidths};
 
@@ -51,6 +51,15 @@ fn is_among(keys: &IndexSet<NameKey<'_>, NameHash>, scope: u32, name: &[u8]) -> 
 }
 
 impl<'a> DeclaredNames<'a> {
+    /// No name, with room for so many.
+    pub(crate) fn new(alloc: Global, many: usize) -> Result<DeclaredNames<'a>, OutOfMemory>
+        ensures rows { IfOk result (λ names. names.rows.entries ≡ []) }
+        ensures widest { IfOk result (λ names. names.widest ≡ 1) }
+    {
+        let rows = IndexMap::with_capacity_and_hasher(alloc, many, NameHash::default())?;
+        Ok(DeclaredNames { rows, widest: 1 })
+    }
+
     /// The first declaration of a name in the module of this number, if the name is kept.
     #[inline]
     pub(crate) fn find(&self, scope: u32, name: &[u8]) -> Option<Declaration>
@@ -113,32 +122,31 @@ impl<'a> DeclaredNames<'a> {
             _ => Ok(()),
         }
     }
-}
 
-/// Collects the first declarations of the names of these keys. It takes time in proportion to the bytes of the names.
-pub(crate) fn collect_declared<'a>(
-    alloc: Global,
-    ranged: &IndexSet<NameKey<'_>, NameHash>,
-    bytes: &'a [u8],
-    entries: &[Entry],
-) -> Result<DeclaredNames<'a>, OutOfMemory>
-    requires few { length entries.now < 2 ^ 30 }
-    requires ranged { CoversRanged bytes.now entries.now (length entries.now) (keys_in ranged.now.keys) }
-    ensures rows { IfOk result (λ names. HoldsRanged bytes.now entries.now names.rows.entries) }
-    ensures widest { IfOk result (λ names. BoundsWidths names.rows.entries names.widest) }
-{
-    let many = ranged.len();
-    let mut names = DeclaredNames {
-        rows: IndexMap::with_capacity_and_hasher(alloc, many, NameHash::default())?,
-        widest: 1,
-    };
-    if many == 0 {
-        return Ok(names);
+    /// Adds the first declarations of the names of these keys, where none was added before. It takes time in proportion to the bytes of
+    /// the names.
+    pub(crate) fn add_all(
+        &mut self,
+        ranged: &IndexSet<NameKey<'_>, NameHash>,
+        bytes: &'a [u8],
+        entries: &[Entry],
+    ) -> Result<(), OutOfMemory>
+        requires few { length entries.now < 2 ^ 30 }
+        requires ranged { CoversRanged bytes.now entries.now (length entries.now) (keys_in ranged.now.keys) }
+        requires rows { self.old.rows.entries ≡ [] }
+        requires widest { self.old.widest ≡ 1 }
+        ensures rows { OnOk result (HoldsRanged bytes.now entries.now self.new.rows.entries) }
+        ensures widest { OnOk result (BoundsWidths self.new.rows.entries self.new.widest) }
+    {
+        let many = ranged.len();
+        if many == 0 {
+            return Ok(());
+        }
+        let mut scopes = Scopes::new();
+        for (place, entry) in entries.iter().enumerate() {
+            scopes = scopes.from(*entry);
+            self.add_entry(ranged, scopes.modules, bytes, *entry)?;
+        }
+        Ok(())
     }
-    let mut scopes = Scopes::new();
-    for (place, entry) in entries.iter().enumerate() {
-        scopes = scopes.from(*entry);
-        names.add_entry(ranged, scopes.modules, bytes, *entry)?;
-    }
-    Ok(names)
 }

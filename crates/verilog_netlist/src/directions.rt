@@ -1,5 +1,5 @@
 //! Looks for a name of a header without a direction, and for a name with a direction that the header lacks.
-ghost use Rattle.std.specs.Prelude.{◌≡◌, ◌^◌, ◌<◌, length, IfOk};
+ghost use Rattle.std.specs.Prelude.{◌≡◌, ◌^◌, ◌<◌, length};
 ghost use Rattle.token_texts.specs.Spans.{text_at};
 ghost use Rattle.verilog_netlist.specs.Namespaces.{name_of};
 ghost use Rattle.verilog_netlist.specs.Directions.{IsFirstUnpaired};
@@ -7,11 +7,9 @@ ghost use Rattle.verilog_netlist.specs.NameKeys.{keys_in, needed_names, is_lacki
 
 use crate::entries::Entry;
 use crate::name_text::NameText;
-use crate::repeats::{NameKey, NameTable, Scopes, code_of, collect_names};
-use edge_io::OutOfMemory;
-use std::alloc::Global;
+use crate::repeats::{NameKey, NamesSoFar, Scopes, code_of};
 
-impl NameTable<'_> {
+impl NamesSoFar<'_> {
     /// Whether the name of an entry needs a pair, and has none.
     #[inline]
     fn lacks(&self, bytes: &[u8], entry: Entry, scopes: Scopes) -> bool
@@ -32,7 +30,8 @@ impl NameTable<'_> {
         }
     }
 
-    /// The place of the first entry whose name lacks its pair.
+    /// The place of the first entry whose name stands in the header of its module without a direction, or has a direction and does
+    /// not stand in the header, if there is one. It takes time in proportion to the bytes of the names.
     pub(crate) fn first_unpaired(&self, bytes: &[u8], entries: &[Entry]) -> Option<usize>
         requires few { length entries.now < 2 ^ 30 }
         requires keys { HoldsNames bytes.now entries.now (length entries.now) (keys_in self.now.keys.keys) }
@@ -47,21 +46,5 @@ impl NameTable<'_> {
             }
         }
         None
-    }
-}
-
-/// The place of the first entry whose name stands in the header of its module without a direction, or has a direction and does
-/// not stand in the header, if there is one. It takes time in proportion to the bytes of the names.
-pub fn first_unpaired(
-    alloc: Global,
-    bytes: &[u8],
-    entries: &[Entry],
-) -> Result<Option<usize>, OutOfMemory>
-    requires { length entries.now < 2 ^ 30 }
-    ensures { IfOk result (IsFirstUnpaired bytes.now entries.now) }
-{
-    match collect_names(alloc, bytes, entries) {
-        Ok(table) => Ok(table.first_unpaired(bytes, entries)),
-        Err(_) => Err(OutOfMemory),
     }
 }

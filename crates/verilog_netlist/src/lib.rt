@@ -1,7 +1,7 @@
 //! Structural Verilog (IEEE 1364-2005): its tokens, and what a netlist says, or the one token that cannot stand where it stands.
-//! `read_netlist` answers the entries, which are what the file says in its order: modules, ports, wires, instances, connections.
-//! It refuses the first name that is repeated or lacks its direction, and the first bad range. `read_entries` reads alone, and
-//! `first_fault` looks for the fault alone.
+//! `parse` reads the bytes into entries, which are what the file says in its order: modules, ports, wires, instances, connections. It
+//! refuses the first name that is repeated or lacks its direction, and the first bad range. What it answers are the `Modules`: their
+//! names, their instances, and the bits that are joined to each port.
 #![tactic(auto)]
 
 mod declared;
@@ -29,16 +29,9 @@ mod steps;
 mod tables;
 mod words;
 
-pub use directions::first_unpaired;
-pub use entries::{Decl, Direction, Entry, Range};
-pub use faults::{FirstFault, NameFault, first_fault};
+pub use entries::Range;
 pub use modules::Modules;
-pub use namespaces::Names;
 pub use net_names::Way;
-pub use netlist::{VerilogEnd, read_netlist};
+pub use netlist::VerilogEnd;
 pub use parsing::parse;
-pub use ranges::first_bad_range;
-pub use reading::{ReadEnd, read_entries};
-pub use repeats::first_repeated;
 pub use runs::{Bit, Run};
-pub use token_texts::Span;

@@ -1,10 +1,7 @@
 //! The names that must differ from one another.
-ghost use Rattle.std.specs.Prelude.{◌≡◌, Option};
-ghost use Rattle.token_texts.specs.declared.spans.Span.{Span};
+ghost use Rattle.std.specs.Prelude.{◌≡◌};
 ghost use Rattle.verilog_netlist.specs.Namespaces.{name_of, own_names, header_names, begins_module, begins_instance};
 ghost use Rattle.verilog_netlist.specs.NameKeys.{needed_names};
-ghost use Rattle.verilog_netlist.specs.declared.entries.Entry.TheVariants.{Declared};
-ghost use Rattle.verilog_netlist.specs.declared.entries.Range.{Range};
 
 use crate::entries::{Decl, Entry};
 use token_texts::Span;
@@ -19,17 +16,6 @@ pub enum Names {
     Wires,
     Instances,
     Ports,
-}
-
-// The names among which a name needs a pair that is declared so.
-#[inline]
-fn needed_by(by: Decl) -> Option<Names>
-    ensures { (name : Span) (range : Option Range) → result ≡ needed_names (Declared by name range) }
-{
-    match by {
-        Decl::Port(_) => Some(Names::Headers),
-        _ => None,
-    }
 }
 
 impl Entry {
@@ -85,7 +71,7 @@ impl Entry {
     {
         match self {
             Entry::Header(_) => Some(Names::Directions),
-            Entry::Declared(by, _, _) => needed_by(by),
+            Entry::Declared(Decl::Port(_), _, _) => Some(Names::Headers),
             _ => None,
         }
     }

@@ -246,25 +246,23 @@ fn join_texts<'a>(
     Ok(())
 }
 
-/// The names of a module, of which these are the entries. It puts the numbers of the names that they join beside the entries. It
-/// takes time in proportion to the bytes of the names.
+/// Adds the names of a module, of which these are the entries, where none was added before. It puts the numbers of the names that they
+/// join beside the entries. It takes time in proportion to the bytes of the names.
 fn collect_texts<'a>(
-    alloc: Global,
+    texts: &mut IndexSet<NameText<'a>, NameHash>,
     numbers: &mut Vec<u32>,
     bytes: &'a [u8],
     entries: &[Entry],
-) -> Result<IndexSet<NameText<'a>, NameHash>, OutOfMemory>
-    ensures texts { IfOk result (λ texts. keys_of texts.keys ≡ texts_in bytes.now entries.now) }
-    ensures numbers { IfOk result (λ texts. numbers.new.items
-        ≡ numbers.old.items ++ map (text_number bytes.now (keys_of texts.keys)) entries.now) }
+) -> Result<(), OutOfMemory>
+    requires { texts.old.keys ≡ [] }
+    ensures texts { OnOk result (keys_of texts.new.keys ≡ texts_in bytes.now entries.now) }
+    ensures numbers { OnOk result (numbers.new.items
+        ≡ numbers.old.items ++ map (text_number bytes.now (keys_of texts.new.keys)) entries.now) }
 {
-    // The table grows where a module has more names. To count them would take a pass of its own.
-    let many = entries.len() / 6;
-    let mut texts = IndexSet::with_capacity_and_hasher(alloc, many, NameHash::default())?;
-    add_texts(&mut texts, bytes, entries, Group::Headers)?;
-    add_texts(&mut texts, bytes, entries, Group::Wires)?;
-    join_texts(&mut texts, numbers, bytes, entries)?;
-    Ok(texts)
+    add_texts(texts, bytes, entries, Group::Headers)?;
+    add_texts(texts, bytes, entries, Group::Wires)?;
+    join_texts(texts, numbers, bytes, entries)?;
+    Ok(())
 }
 
 /// Adds rows for these names, of which nothing is known yet.
@@ -379,7 +377,24 @@ impl<'a> NetNames<'a> {
         })
     }
 
-    /// Adds the names of the next module, with these entries behind its name.
+    /// Adds the names of the next module, with these entries behind its name, by way of a table in which no name stands yet.
+    fn add_names(
+        &mut self,
+        texts: &mut IndexSet<NameText<'a>, NameHash>,
+        bytes: &'a [u8],
+        entries: &[Entry],
+    ) -> Result<(), OutOfMemory>
+        requires { texts.old.keys ≡ [] }
+        ensures { OnOk result (AddsNames bytes.now entries.now self.old self.new) }
+    {
+        push(&mut self.numbers, 0)?;
+        collect_texts(texts, &mut self.numbers, bytes, entries)?;
+        add_module_rows(&mut self.rows, texts, bytes, entries)?;
+        let end = to_u32(self.rows.len())?;
+        push(&mut self.starts, end)
+    }
+
+    /// The same.
     fn add_module(
         &mut self,
         alloc: Global,
@@ -388,11 +403,10 @@ impl<'a> NetNames<'a> {
     ) -> Result<(), OutOfMemory>
         ensures { OnOk result (AddsNames bytes.now entries.now self.old self.new) }
     {
-        push(&mut self.numbers, 0)?;
-        let texts = collect_texts(alloc, &mut self.numbers, bytes, entries)?;
-        add_module_rows(&mut self.rows, &texts, bytes, entries)?;
-        let end = to_u32(self.rows.len())?;
-        push(&mut self.starts, end)
+        // The table grows where a module has more names. To count them would take a pass of its own.
+        let many = entries.len() / 6;
+        let mut texts = IndexSet::with_capacity_and_hasher(alloc, many, NameHash::default())?;
+        self.add_names(&mut texts, bytes, entries)
     }
 }
 

@@ -2,12 +2,12 @@
 ghost use Rattle.std.specs.Prelude.{◌≡◌, ◌^◌, ◌<◌, ◌≤◌, List, length, IfOk, IfErr, Some};
 ghost use Rattle.token_texts.specs.Spans.{text_at};
 ghost use Rattle.verilog_netlist.specs.Namespaces.{name_of};
-ghost use Rattle.verilog_netlist.specs.Netlist.{SaysSound, IsRefused, HasItsWord, GivesSound, IsEndOf, IsNamed};
+ghost use Rattle.verilog_netlist.specs.Netlist.{SaysSound, IsRefused, HasItsWord, Gives, IsNamed};
 ghost use Rattle.verilog_netlist.specs.declared.entries.Entry.{Entry};
 
 use crate::entries::Entry;
 use crate::faults::{NameFault, first_fault};
-use crate::reading::{ReadEnd, read_entries};
+use crate::reading::read_entries;
 use edge_io::Text;
 use std::alloc::Global;
 use token_texts::Span;
@@ -34,18 +34,6 @@ pub enum VerilogEnd {
     OutOfMemory,
 }
 
-/// What ended the reading.
-#[inline]
-fn end_of(end: ReadEnd) -> VerilogEnd
-    ensures { IsEndOf end result }
-{
-    match end {
-        ReadEnd::Syntax { token } => VerilogEnd::Syntax { token },
-        ReadEnd::NotStructural { word, token } => VerilogEnd::NotStructural { word, token },
-        ReadEnd::OutOfMemory => VerilogEnd::OutOfMemory,
-    }
-}
-
 /// The refusal of a name.
 fn named(alloc: Global, bytes: &[u8], fault: NameFault, at: Span) -> VerilogEnd
     ensures { IsNamed fault (text_at bytes.now at) result }
@@ -60,12 +48,8 @@ fn named(alloc: Global, bytes: &[u8], fault: NameFault, at: Span) -> VerilogEnd
     }
 }
 
-/// Reads the bytes of a netlist (IEEE 1364-2005, structural) and looks at its names and ranges.
-///
-/// `Syntax` and `NotStructural` come exactly where the bytes are no text of the grammar; their token is the first with which no
-/// text of the grammar begins. The other faults come after a whole reading, at the first token that has one; at one token in the
-/// order repeated, direction, range.
-pub fn read_netlist(alloc: Global, bytes: &[u8]) -> Result<Vec<Entry>, VerilogEnd>
+/// Reads the bytes of a netlist and looks at its names and ranges.
+pub(crate) fn read_netlist(alloc: Global, bytes: &[u8]) -> Result<Vec<Entry>, VerilogEnd>
     requires { length bytes.now < 2 ^ 30 }
     // What is answered is what the bytes say, and no name and no range of it is at fault.
     ensures ok { IfOk result (λ entries. SaysSound bytes.now entries.items) }
@@ -76,11 +60,11 @@ pub fn read_netlist(alloc: Global, bytes: &[u8]) -> Result<Vec<Entry>, VerilogEn
     // It is `NotStructural`, with the word, exactly where that token is a reserved word that the grammar has nowhere.
     ensures word { IfErr result (HasItsWord bytes.now) }
     // What the bytes say without a fault is answered, unless memory ran out.
-    ensures only { (entries : List Entry) → SaysSound bytes.now entries → GivesSound (λ answer. answer.items) entries result }
+    ensures only { (entries : List Entry) → SaysSound bytes.now entries → Gives (λ answer. answer.items) entries result }
 {
     let entries = match read_entries(alloc, bytes) {
         Ok(entries) => entries,
-        Err(end) => return Err(end_of(end)),
+        Err(end) => return Err(end),
     };
     let found = match first_fault(alloc, bytes, entries.as_slice()) {
         Ok(found) => found,

@@ -34,7 +34,9 @@ fn tables_of<'a>(
 
 /// Reads the bytes of a netlist (IEEE 1364-2005, structural): its modules, with their names, instances and connections.
 ///
-/// It refuses what `read_netlist` refuses, in the same way. It takes time and memory in proportion to the bytes.
+/// `Syntax` and `NotStructural` come exactly where the bytes are no text of the grammar; their token is the first with which no
+/// text of the grammar begins. The other faults come after a whole reading, at the first token that has one; at one token in the
+/// order repeated, direction, range. It takes time and memory in proportion to the bytes.
 pub fn parse<'a>(alloc: Global, bytes: &'a [u8]) -> Result<Modules<'a>, VerilogEnd>
     requires { length bytes.now < 2 ^ 30 }
     // What is answered are the modules of what the bytes say, and no name and no range of that is at fault.

@@ -1,14 +1,12 @@
 //! Looks for bad ranges, selects, constants and connections.
-ghost use Rattle.std.specs.Prelude.{◌≡◌, ℕ, false, ◌^◌, ◌<◌, ◌≤◌, nat_lt, length, IfOk, IfSome};
-ghost use Rattle.verilog_netlist.specs.Ranges.{most_bits, width_of, has_large_bound, is_past, is_past_limits, is_wire, one_range, differ, is_bad_declaration, is_outside, declared_range, is_bad_bit, runs_against, is_bad_part, is_bad_width, whole_width, bits_of, joined_width, is_bad_entry, IsFirstBadRange};
+ghost use Rattle.std.specs.Prelude.{◌≡◌, ℕ, false, ◌^◌, ◌<◌, ◌≤◌, nat_lt, length, IfSome};
+ghost use Rattle.verilog_netlist.specs.Ranges.{most_bits, width_of, has_large_bound, is_past, is_wire, one_range, differ, is_bad_declaration, is_outside, declared_range, is_bad_bit, runs_against, is_bad_part, whole_width, bits_of, joined_width, is_bad_entry, IsFirstBadRange};
 ghost use Rattle.verilog_netlist.specs.DeclaredNames.{found_in, HoldsRanged, BoundsWidths, IsAtMost};
 
-use crate::declared::{Declaration, DeclaredNames, collect_declared};
+use crate::declared::{Declaration, DeclaredNames};
 use crate::entries::{Decl, Entry, Range};
-use crate::repeats::{Scopes, collect_names};
+use crate::repeats::Scopes;
 use crate::scan::constant_width;
-use edge_io::OutOfMemory;
-use std::alloc::Global;
 
 /// The largest bound of a range or a select.
 const LARGEST_BOUND: u32 = 1_048_575;
@@ -36,14 +34,6 @@ impl Range {
         ensures { result ≡ has_large_bound self }
     {
         self.left > LARGEST_BOUND || self.right > LARGEST_BOUND
-    }
-
-    /// Whether a range is past the limits.
-    #[inline]
-    fn is_past_limits(self) -> bool
-        ensures { result ≡ is_past_limits self }
-    {
-        self.has_large_bound() || self.width() > MOST_BITS
     }
 
     /// Whether a bit is outside the range.
@@ -102,20 +92,7 @@ fn is_past(range: Option<Range>) -> bool
     ensures { result ≡ is_past range }
 {
     match range {
-        Some(range) => range.is_past_limits(),
-        None => false,
-    }
-}
-
-#[inline]
-fn is_bad_declaration(first: Option<Declaration>, this: Declaration) -> bool
-    ensures { result ≡ is_bad_declaration first this }
-{
-    if is_past(this.range) {
-        return true;
-    }
-    match first {
-        Some(first) => differ(first, this),
+        Some(range) => range.has_large_bound() || range.width() > MOST_BITS,
         None => false,
     }
 }
@@ -129,38 +106,6 @@ fn declared_range(first: Option<Declaration>) -> Option<Range>
         Some(first) => first.range,
         None => None,
     }
-}
-
-#[inline]
-fn is_bad_bit(range: Option<Range>, place: u32) -> bool
-    ensures { result ≡ is_bad_bit range place }
-{
-    match range {
-        Some(range) => place > LARGEST_BOUND || range.is_outside(place),
-        None => true,
-    }
-}
-
-#[inline]
-fn is_bad_part(range: Option<Range>, select: Range) -> bool
-    ensures { result ≡ is_bad_part range select }
-{
-    match range {
-        Some(range) => {
-            select.has_large_bound()
-                || range.is_outside(select.left)
-                || range.is_outside(select.right)
-                || range.runs_against(select)
-        }
-        None => true,
-    }
-}
-
-#[inline]
-fn is_bad_width(width: u32) -> bool
-    ensures { result ≡ is_bad_width width }
-{
-    width == 0 || u64::from(width) > MOST_BITS
 }
 
 #[inline]
@@ -250,7 +195,13 @@ impl DeclaredNames<'_> {
     fn is_bad_declared(&self, scope: u32, name: &[u8], this: Declaration) -> bool
         ensures { result ≡ is_bad_declaration (found_in self.now.rows.entries scope name.now) this }
     {
-        is_bad_declaration(self.find(scope, name), this)
+        if is_past(this.range) {
+            return true;
+        }
+        match self.find(scope, name) {
+            Some(first) => differ(first, this),
+            None => false,
+        }
     }
 
     /// Whether a name has no bit at this place.
@@ -258,7 +209,10 @@ impl DeclaredNames<'_> {
     fn is_bad_bit(&self, scope: u32, name: &[u8], place: u32) -> bool
         ensures { result ≡ is_bad_bit (declared_range (found_in self.now.rows.entries scope name.now)) place }
     {
-        is_bad_bit(declared_range(self.find(scope, name)), place)
+        match declared_range(self.find(scope, name)) {
+            Some(range) => place > LARGEST_BOUND || range.is_outside(place),
+            None => true,
+        }
     }
 
     /// Whether a name does not have this select.
@@ -266,7 +220,15 @@ impl DeclaredNames<'_> {
     fn is_bad_part(&self, scope: u32, name: &[u8], select: Range) -> bool
         ensures { result ≡ is_bad_part (declared_range (found_in self.now.rows.entries scope name.now)) select }
     {
-        is_bad_part(declared_range(self.find(scope, name)), select)
+        match declared_range(self.find(scope, name)) {
+            Some(range) => {
+                select.has_large_bound()
+                    || range.is_outside(select.left)
+                    || range.is_outside(select.right)
+                    || range.runs_against(select)
+            }
+            None => true,
+        }
     }
 
     /// Whether an entry is bad, with these entries behind it.
@@ -282,12 +244,17 @@ impl DeclaredNames<'_> {
             Entry::Port(_) => self.may_be_wide(bytes, behind) && self.is_wide(scope, bytes, behind),
             Entry::Bit(name, place) => self.is_bad_bit(scope, name.of(bytes), place),
             Entry::Part(name, select) => self.is_bad_part(scope, name.of(bytes), select),
-            Entry::Constant(token) => is_bad_width(constant_width(token.of(bytes))),
+            Entry::Constant(token) => {
+                let width = constant_width(token.of(bytes));
+                width == 0 || u64::from(width) > MOST_BITS
+            }
             _ => false,
         }
     }
 
-    /// The place of the first entry that is bad.
+    /// The place of the first entry with a bad range, if there is one: a range, a constant or a connection past the limits, a constant
+    /// of no bits, a name by a direction and by `wire` with two ranges, or a select that its name's range does not have. A connection's
+    /// fault stands at its port. It takes time in proportion to the bytes of the names.
     pub(crate) fn first_bad_range(&self, bytes: &[u8], entries: &[Entry]) -> Option<usize>
         requires few { length entries.now < 2 ^ 30 }
         requires rows { HoldsRanged bytes.now entries.now self.now.rows.entries }
@@ -304,26 +271,5 @@ impl DeclaredNames<'_> {
             }
         }
         None
-    }
-}
-
-/// The place of the first entry with a bad range, if there is one: a range, a constant or a connection past the limits, a constant
-/// of no bits, a name by a direction and by `wire` with two ranges, or a select that its name's range does not have. A connection's
-/// fault stands at its port. It takes time in proportion to the bytes of the names.
-pub fn first_bad_range(
-    alloc: Global,
-    bytes: &[u8],
-    entries: &[Entry],
-) -> Result<Option<usize>, OutOfMemory>
-    requires { length entries.now < 2 ^ 30 }
-    ensures { IfOk result (IsFirstBadRange bytes.now entries.now) }
-{
-    let names = match collect_names(alloc, bytes, entries) {
-        Ok(names) => names,
-        Err(_) => return Err(OutOfMemory),
-    };
-    match collect_declared(alloc, &names.ranged, bytes, entries) {
-        Ok(declared) => Ok(declared.first_bad_range(bytes, entries)),
-        Err(_) => Err(OutOfMemory),
     }
 }

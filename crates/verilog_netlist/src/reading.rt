@@ -4,30 +4,19 @@ ghost use Rattle.token_texts.specs.Blanks.{is_blank};
 ghost use Rattle.token_texts.specs.Runs.{run_length};
 ghost use Rattle.token_texts.specs.Spans.{text_at};
 ghost use Rattle.verilog_netlist.specs.Tokens.{span_of};
-ghost use Rattle.verilog_netlist.specs.Netlists.{SaysNetlist, IsDead, HasWord, Gives};
+ghost use Rattle.verilog_netlist.specs.Netlists.{SaysNetlist};
+ghost use Rattle.verilog_netlist.specs.Netlist.{IsRefused, HasItsWord, Gives};
 ghost use Rattle.verilog_netlist.specs.ReaderStates.{IsRefusalOf};
 ghost use Rattle.verilog_netlist.specs.declared.entries.Entry.{Entry};
 
 use crate::entries::Entry;
 use crate::kinds::Kind;
+use crate::netlist::VerilogEnd;
 use crate::reader::Reader;
 use crate::scan::cut_at;
 use edge_io::Text;
 use std::alloc::Global;
 use token_texts::{Blank, Cut, Span, run_length};
-
-/// Why a file is no netlist. Tokens count from 1; comments, attributes, directives and blanks are none.
-#[derive(Drop)]
-pub enum ReadEnd {
-    /// No text of the grammar begins with the tokens up to this one, or, one past the last token, the file ends too early.
-    Syntax { token: u64 },
-
-    /// The same, where the token is a reserved word of Verilog that begins what is not structural, as `assign`.
-    NotStructural { word: Text, token: u64 },
-
-    /// There was no memory for what the file says.
-    OutOfMemory,
-}
 
 /// The place of the name of a token that begins here with this byte, and has so many bytes.
 #[inline]
@@ -50,18 +39,18 @@ fn span_of(first: u8, start: usize, len: usize) -> Span
 }
 
 /// The refusal of the token of this number and kind at this place.
-fn refusal(alloc: Global, bytes: &[u8], number: u64, kind: Kind, at: Span) -> ReadEnd
+fn refusal(alloc: Global, bytes: &[u8], number: u64, kind: Kind, at: Span) -> VerilogEnd
     ensures { IsRefusalOf bytes.now number kind at result }
 {
     match kind {
         Kind::NotStructural => match Text::from_bytes(alloc, at.of(bytes)) {
-            Ok(word) => ReadEnd::NotStructural {
+            Ok(word) => VerilogEnd::NotStructural {
                 word,
                 token: number,
             },
-            Err(_) => ReadEnd::OutOfMemory,
+            Err(_) => VerilogEnd::OutOfMemory,
         },
-        _ => ReadEnd::Syntax { token: number },
+        _ => VerilogEnd::Syntax { token: number },
     }
 }
 
@@ -75,20 +64,17 @@ fn with_blanks(count: usize, rest: &[u8]) -> usize
     count + run_length::<Blank>(rest.split_at(count).1)
 }
 
-/// Reads the bytes of a netlist (IEEE 1364-2005, structural), in one pass.
-///
-/// `Syntax` and `NotStructural` come exactly where the bytes are no text of the grammar; their token is the first with which no
-/// text of the grammar begins.
-pub fn read_entries(alloc: Global, bytes: &[u8]) -> Result<Vec<Entry>, ReadEnd>
+/// Reads the bytes of a netlist, in one pass.
+pub(crate) fn read_entries(alloc: Global, bytes: &[u8]) -> Result<Vec<Entry>, VerilogEnd>
     requires { length bytes.now < 2 ^ 30 }
     // What is answered is what the bytes say.
     ensures ok { IfOk result (λ entries. SaysNetlist bytes.now entries.items) }
     // There are no more entries than bytes.
     ensures few { IfOk result (λ entries. length entries.items ≤ length bytes.now) }
-    // A refusal's token is the one with which the bytes leave the grammar, and they say nothing.
-    ensures dead { IfErr result (IsDead bytes.now) }
+    // A refusal's token is the one with which the bytes leave the grammar.
+    ensures refused { IfErr result (IsRefused bytes.now) }
     // It is `NotStructural`, with the word, exactly where that token is a reserved word that the grammar has nowhere.
-    ensures word { IfErr result (HasWord bytes.now) }
+    ensures word { IfErr result (HasItsWord bytes.now) }
     // What the bytes say is answered, unless memory ran out.
     ensures only { (entries : List Entry) → SaysNetlist bytes.now entries → Gives (λ answer. answer.items) entries result }
 {
@@ -109,7 +95,7 @@ pub fn read_entries(alloc: Global, bytes: &[u8]) -> Result<Vec<Entry>, ReadEnd>
                 match reader.take(kind, at) {
                     Ok(true) => {}
                     Ok(false) => return Err(refusal(alloc, bytes, number, kind, at)),
-                    Err(_) => return Err(ReadEnd::OutOfMemory),
+                    Err(_) => return Err(VerilogEnd::OutOfMemory),
                 }
                 number += 1;
                 start += count;
@@ -118,6 +104,6 @@ pub fn read_entries(alloc: Global, bytes: &[u8]) -> Result<Vec<Entry>, ReadEnd>
     }
     match reader.finish() {
         Some(entries) => Ok(entries),
-        None => Err(ReadEnd::Syntax { token: number }),
+        None => Err(VerilogEnd::Syntax { token: number }),
     }
 }

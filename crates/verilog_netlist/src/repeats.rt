@@ -157,6 +157,19 @@ pub struct NamesSoFar<'a> {
 }
 
 impl<'a> NamesSoFar<'a> {
+    /// No name, where so many entries are to be read. The table grows where they have more names than most have: to count them would take
+    /// a pass of its own.
+    pub(crate) fn new(alloc: Global, entries: usize) -> Result<NamesSoFar<'a>, OutOfMemory>
+        ensures keys { IfOk result (λ names. names.keys.keys ≡ []) }
+        ensures ports { IfOk result (λ names. names.ports ≡ []) }
+    {
+        let keys = IndexSet::with_capacity_and_hasher(alloc, entries / 4, NameHash::default())?;
+        Ok(NamesSoFar {
+            keys,
+            ports: PortNames::new(alloc),
+        })
+    }
+
     /// Comes to this entry. The ports of an instance belong to no other one.
     #[inline]
     fn come_to(&mut self, alloc: Global, entry: Entry)
@@ -218,8 +231,8 @@ impl<'a> NamesSoFar<'a> {
     }
 
     /// Takes all entries where none was taken before, and tells the place of the first whose name was there. The names that are declared
-    /// with a range go into a table of their own.
-    fn take_all(
+    /// with a range go into a table of their own. It takes time in proportion to the bytes of the names.
+    pub(crate) fn take_all(
         &mut self,
         alloc: Global,
         bytes: &'a [u8],
@@ -243,56 +256,5 @@ impl<'a> NamesSoFar<'a> {
             add_ranged(ranged, scopes, bytes, *entry)?;
         }
         Ok(repeated)
-    }
-}
-
-/// The names of a netlist but for ports, the place of the first entry whose name is repeated, and the names that are declared with a
-/// range.
-#[derive(Drop)]
-pub struct NameTable<'a> {
-    pub keys: IndexSet<NameKey<'a>, NameHash>,
-    pub repeated: Option<usize>,
-    pub ranged: IndexSet<NameKey<'a>, NameHash>,
-}
-
-/// Collects all names. It takes time in proportion to the bytes of the names.
-pub(crate) fn collect_names<'a>(
-    alloc: Global,
-    bytes: &'a [u8],
-    entries: &[Entry],
-) -> Result<NameTable<'a>, OutOfMemory>
-    requires { length entries.now < 2 ^ 30 }
-    ensures repeated { IfOk result (λ table. IsFirstRepeated bytes.now entries.now table.repeated) }
-    ensures keys { IfOk result (λ table. HoldsNames bytes.now entries.now (length entries.now) (keys_in table.keys.keys)) }
-    ensures ranged { IfOk result (λ table. CoversRanged bytes.now entries.now (length entries.now) (keys_in table.ranged.keys)) }
-{
-    // The table grows where the entries have more names. To count them would take a pass of its own.
-    let many = entries.len() / 4;
-    let mut names = NamesSoFar {
-        keys: IndexSet::with_capacity_and_hasher(alloc, many, NameHash::default())?,
-        ports: PortNames::new(alloc),
-    };
-    let mut ranged = IndexSet::with_hasher(alloc, NameHash::default());
-    let repeated = names.take_all(alloc, bytes, entries, &mut ranged)?;
-    Ok(NameTable {
-        keys: names.keys,
-        repeated,
-        ranged,
-    })
-}
-
-/// The place of the first entry whose name is repeated, if there is one: it stands before among the same names, in the same
-/// file, module or instance. It takes time in proportion to the bytes of the names.
-pub fn first_repeated(
-    alloc: Global,
-    bytes: &[u8],
-    entries: &[Entry],
-) -> Result<Option<usize>, OutOfMemory>
-    requires { length entries.now < 2 ^ 30 }
-    ensures { IfOk result (IsFirstRepeated bytes.now entries.now) }
-{
-    match collect_names(alloc, bytes, entries) {
-        Ok(table) => Ok(table.repeated),
-        Err(_) => Err(OutOfMemory),
     }
 }

@@ -26,7 +26,7 @@ pub struct Run {
 impl Run {
     /// The bit of this number, from the left.
     #[inline]
-    pub(crate) fn bit(self, number: usize) -> Bit
+    pub fn bit(self, number: usize) -> Bit
         requires within { number < self.count }
         requires few { HasFewBits self }
         ensures { result ≡ bit_after self.first number }

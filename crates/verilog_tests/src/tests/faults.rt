@@ -3,7 +3,7 @@
 /// A file, the word of its fault, or `none`, and the name at fault, if it has one.
 pub type Fault<'a> = (&'a [u8], &'a [u8], &'a [u8]);
 
-pub const FAULTS: [Fault<'static>; 16] = [
+pub const FAULTS: [Fault<'static>; 19] = [
     (
         b"module m (a, b); input a; output b; wire [3:0] w; I u (.A(a), .Z(w[0])); J v (.A({w[3:1], 1'b0}), .Z(b)); endmodule",
         b"none",
@@ -67,6 +67,22 @@ pub const FAULTS: [Fault<'static>; 16] = [
     ),
     (
         b"module m (a); input a; wire [2:0] a, b; output b; endmodule",
+        b"range",
+        b"a",
+    ),
+    // selects of a name that is not declared are of the grammar, and at fault; bounds past the largest, too
+    (
+        b"module m; I u (.A(a[3]), .B(a[2:0]), .C(1'h0), .D(4'bx01z)); endmodule",
+        b"range",
+        b"a",
+    ),
+    (
+        b"module m; I u (.A({a[0], 1'b0, {b, {c}}, d[1:2]}), .QN()); endmodule",
+        b"range",
+        b"a",
+    ),
+    (
+        b"module m; I u (.A(a[1048575]), .B(a[1048576]), .C(a[99999999999999999999:007])); endmodule",
         b"range",
         b"a",
     ),

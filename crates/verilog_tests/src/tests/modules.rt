@@ -1,7 +1,8 @@
 //! Reads files as modules.
-ghost use Rattle.std.specs.Prelude.{◌<◌, length};
+ghost use Rattle.std.specs.Prelude.{◌<◌, ◌^◌, length};
 ghost use Rattle.verilog_netlist.specs.NetModules.{module_at, instance_at, connection_at};
 
+use super::accepted::ACCEPTED;
 use super::parsed::PARSED;
 use edge_io::Text;
 use std::alloc::Global;
@@ -123,15 +124,33 @@ fn tell_modules(alloc: Global, text: &mut Text, modules: &Modules<'_>) -> Result
     Ok(())
 }
 
+/// The modules of a file, or that it is refused.
+fn told(alloc: Global, bytes: &[u8]) -> Result<Text, Fail>
+    requires { length bytes.now < 2 ^ 30 }
+{
+    let mut text = Text::new(alloc);
+    match parse(alloc, bytes) {
+        Ok(modules) => tell_modules(alloc, &mut text, &modules)?,
+        Err(_) => text.push_all(b"refused")?,
+    }
+    Ok(text)
+}
+
 #[test]
 fn says_the_modules_of_the_files(rt: HostRuntime) -> Result<(), Fail> {
     for file in PARSED.as_slice() {
         assert!(rt; file.0.len() < 1 << 20);
-        let mut text = Text::new(rt.alloc());
-        match parse(rt.alloc(), file.0) {
-            Ok(modules) => tell_modules(rt.alloc(), &mut text, &modules)?,
-            Err(_) => assert!(rt; false),
-        }
+        let text = told(rt.alloc(), file.0)?;
+        assert_eq!(rt; text.bytes(), file.1);
+    }
+    Ok(())
+}
+
+#[test]
+fn says_the_modules_of_the_accepted_files(rt: HostRuntime) -> Result<(), Fail> {
+    for file in ACCEPTED.as_slice() {
+        assert!(rt; file.0.len() < 1 << 20);
+        let text = told(rt.alloc(), file.0)?;
         assert_eq!(rt; text.bytes(), file.1);
     }
     Ok(())
@@ -151,9 +170,20 @@ fn bit_of(modules: &Modules<'_>, c: usize, b: usize) -> Option<Bit> {
     modules.get_bit(0, 0, c, b)
 }
 
+/// Whether this is this bit of a name.
+fn is_wire(found: Bit, of: usize, at: usize) -> bool {
+    match found {
+        Bit::Wire { name, bit } => name == of && bit == at,
+        Bit::Tied => false,
+    }
+}
+
 /// Whether the bit of a connection is this bit of a name.
 fn joins(modules: &Modules<'_>, c: usize, b: usize, name: usize, bit: usize) -> bool {
-    bit_of(modules, c, b) == Some(Bit::Wire { name, bit })
+    match bit_of(modules, c, b) {
+        Some(found) => is_wire(found, name, bit),
+        None => false,
+    }
 }
 
 /// A run of a connection of the first instance of the first module, if there is one.
@@ -182,8 +212,10 @@ fn runs_over(
     bit: usize,
     count: usize,
 ) -> bool {
-    let first = Bit::Wire { name, bit };
-    run_of(modules, c, r) == Some(Run { first, count })
+    match run_of(modules, c, r) {
+        Some(run) => is_wire(run.first, name, bit) && run.count == count,
+        None => false,
+    }
 }
 
 /// Wires of 65,536 bits that are joined whole: connection, its bit, the name and its bit.

@@ -13,7 +13,7 @@ pub const REPEATED: [Repeated<'static>; 20] = [
     (b"module \\m ; endmodule module m; endmodule", b"m"),
     (b"module m (a, b, a); input a, b; endmodule", b"a"),
     (b"module m (input a, output b, input a); endmodule", b"a"),
-    (b"module m (a); input a; output b, a; endmodule", b"a"),
+    (b"module m (a, b); input a; output b, a; endmodule", b"a"),
     (b"module m (input a); input a; endmodule", b"a"),
     (b"module m; wire a, b; wire b; endmodule", b"b"),
     (b"module m (a); input a; wire a; endmodule", b""),

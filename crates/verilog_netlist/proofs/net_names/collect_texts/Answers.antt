@@ -11,5 +11,5 @@ pub join_texts-requires : goal.join_texts-requires
 join_texts-requires c =
     let bytes : List ℕ = c.args.bytes.now in
     subst AllDiffer (sym c.in_ok-add_texts-2.ensures) (differ_all (keys_of c.add_texts.new.texts.keys) (texts_of bytes group.Wires c.args.entries.now)
-    (subst AllDiffer (sym c.in_ok-add_texts.ensures) (differ_all (keys_of c.in_ok-texts.texts.keys) (texts_of bytes group.Headers c.args.entries.now)
-    (subst (λ (l : List NameText). AllDiffer (keys_of l)) (sym c.in_ok-texts.ensures.empty) tt))))
+    (subst AllDiffer (sym c.in_ok-add_texts.ensures) (differ_all (keys_of c.args.texts.now.keys) (texts_of bytes group.Headers c.args.entries.now)
+    (subst (λ (l : List NameText). AllDiffer (keys_of l)) (sym c.requires) tt))))

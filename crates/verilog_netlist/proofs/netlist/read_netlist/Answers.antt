@@ -3,15 +3,14 @@ use Rattle.std.proofs.Common.{ℕ, List, Some, sym, ap, ◌∙◌, subst}
 use Rattle.std.proofs.lemmas.Option.{slice_get-get_or}
 use Rattle.token_texts.specs.Spans.{text_at}
 use Rattle.verilog_netlist.specs.Faults.{FindsFault}
-use Rattle.verilog_netlist.specs.Netlist.{IsEndOf, IsNamed}
+use Rattle.verilog_netlist.specs.Netlist.{IsNamed}
 use Rattle.verilog_netlist.specs.declared.entries.Entry.{Entry}
 use Rattle.token_texts.specs.declared.spans.Span.{Span}
-use Rattle.verilog_netlist.specs.declared.reading.ReadEnd.{ReadEnd}
 use Rattle.verilog_netlist.proofs.Refusing.{is_first, first_within, not_faultless, refuses}
 use Rattle.verilog_netlist.proofs.netlist.read_netlist.Goals as goal
 
 pub returns-in-Err-clause-only : goal.returns-in-Err-clause-only
-returns-in-Err-clause-only c entries says = subst (λ (e : ReadEnd). IsEndOf e c.end_of.result) (c.in-Err.ensures.only entries says.0) c.end_of.ensures
+returns-in-Err-clause-only c entries says = c.in-Err.ensures.only entries says.0
 
 pub returns-in-None-clause-only : goal.returns-in-None-clause-only
 returns-in-None-clause-only c entries says = c.in-Ok.ensures.only entries says.0

@@ -11,12 +11,12 @@ loop-rest-preserved-in-Skip c =
     let split = first_and_rest c.loop-rest.rest.now c.in-len1-up.len_at_least in
     skips_blanks c.loop-rest.rest.now c.loop-rest.invariant _ _ c.in-Skip.count split (sym c.in-Skip.ensures.value) c.in-Skip.ensures.within.1 _ c.with_blanks-passed.ensures.value _ c.split_at.ensures.back
 
-pub returns-in-Ok-false-clause-dead : goal.returns-in-Ok-false-clause-dead
-returns-in-Ok-false-clause-dead c =
+pub returns-in-Ok-false-clause-refused : goal.returns-in-Ok-false-clause-refused
+returns-in-Ok-false-clause-refused c =
     let split = first_and_rest c.loop-rest.rest.now c.in-len1-up.len_at_least in
     let state : State = state_of c.loop-rest.reader in
     let steps = subst (λ (t : Bool). Steps (state_after (step_in state.mode c.in-Take.kind c.span_of-at.result) state.entries) (state_of c.take.new.self) t) c.in-Ok-false.field-0-test c.in-Ok-false.ensures in
-    (refuses c.loop-rest.rest.now c.loop-rest.invariant _ _ c.in-Take.count c.in-Take.kind c.span_of-at.result c.refusal.result split (sym c.in-Take.ensures.value) c.span_of-at.ensures steps c.refusal.ensures).dead
+    (refuses c.loop-rest.rest.now c.loop-rest.invariant _ _ c.in-Take.count c.in-Take.kind c.span_of-at.result c.refusal.result split (sym c.in-Take.ensures.value) c.span_of-at.ensures steps c.refusal.ensures).refused
 
 pub returns-in-Ok-false-clause-word : goal.returns-in-Ok-false-clause-word
 returns-in-Ok-false-clause-word c =
@@ -46,8 +46,8 @@ returns-in-Some-clause-ok c = says c.loop-rest.rest.now c.loop-rest.invariant (n
 pub returns-in-Some-clause-only : goal.returns-in-Some-clause-only
 returns-in-Some-clause-only c entries said = one_netlist c.args.bytes.now _ entries (says c.loop-rest.rest.now c.loop-rest.invariant (no_bytes c.loop-rest.rest.now c.in_default.len_below) _ c.in-Some.ensures) said
 
-pub returns-in-None-clause-dead : goal.returns-in-None-clause-dead
-returns-in-None-clause-dead c = (lacks c.loop-rest.rest.now c.loop-rest.invariant (no_bytes c.loop-rest.rest.now c.in_default.len_below) c.in-None.ensures).dead
+pub returns-in-None-clause-refused : goal.returns-in-None-clause-refused
+returns-in-None-clause-refused c = (lacks c.loop-rest.rest.now c.loop-rest.invariant (no_bytes c.loop-rest.rest.now c.in_default.len_below) c.in-None.ensures).refused
 
 pub returns-in-None-clause-word : goal.returns-in-None-clause-word
 returns-in-None-clause-word c = (lacks c.loop-rest.rest.now c.loop-rest.invariant (no_bytes c.loop-rest.rest.now c.in_default.len_below) c.in-None.ensures).word

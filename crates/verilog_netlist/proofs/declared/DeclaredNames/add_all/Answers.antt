@@ -7,7 +7,7 @@ use Rattle.verilog_netlist.specs.declared.namespaces.Names.TheVariants as names
 use Rattle.verilog_netlist.specs.declared.repeats.Scopes.{Scopes}
 use Rattle.verilog_netlist.proofs.Repeating.{Counts, count_on, scope_is, no_entry, stands_at, itself_at}
 use Rattle.verilog_netlist.proofs.Ranging.{declared_next, bounds_next, nothing_ranged}
-use Rattle.verilog_netlist.proofs.declared.collect_declared.Goals as goal
+use Rattle.verilog_netlist.proofs.declared.DeclaredNames.add_all.Goals as goal
 
 pub loop-place-preserved : goal.loop-place-preserved
 loop-place-preserved c =
@@ -19,10 +19,10 @@ loop-place-preserved c =
     let counts = c.loop-place.invariant.0 in
     let in_module = ap (λ (s : Scopes). s.modules) c.from-scopes.ensures ∙ scope_is entries place c.loop-place.scopes counts e c.loop-place-test.true here names.Wires in (
       subst (λ (s : Scopes). Counts entries (place + 1) s) (sym c.from-scopes.ensures) (count_on entries place c.loop-place.scopes counts e c.loop-place-test.true here),
-      declared_next c.args.bytes.now entries keys place c.loop-place.names.rows.entries c.add_entry.new.self.rows.entries c.from-scopes.result.modules e in_module
+      declared_next c.args.bytes.now entries keys place c.loop-place.self.rows.entries c.add_entry.new.self.rows.entries c.from-scopes.result.modules e in_module
           (stands_at entries place c.loop-place-test.true) c.loop-place.invariant.1 c.in_ok-add_entry.ensures.rows,
       subst (λ (n : ℕ). BoundsWidths c.add_entry.new.self.rows.entries n) (sym c.in_ok-add_entry.ensures.widest)
-          (bounds_next c.args.bytes.now keys c.from-scopes.result.modules e c.loop-place.names.rows.entries c.add_entry.new.self.rows.entries c.loop-place.names.widest c.in_ok-add_entry.ensures.rows c.loop-place.invariant.2),
+          (bounds_next c.args.bytes.now keys c.from-scopes.result.modules e c.loop-place.self.rows.entries c.add_entry.new.self.rows.entries c.loop-place.self.widest c.in_ok-add_entry.ensures.rows c.loop-place.invariant.2),
     )
 
 pub returns-clause-rows : goal.returns-clause-rows
@@ -33,10 +33,10 @@ returns-clause-rows c =
     record {
       keys = keys;
       covers = c.requires.ranged;
-      holds = subst (λ (n : ℕ). HoldsDeclared c.args.bytes.now entries keys n c.loop-place.names.rows.entries) all c.loop-place.invariant.1;
+      holds = subst (λ (n : ℕ). HoldsDeclared c.args.bytes.now entries keys n c.loop-place.self.rows.entries) all c.loop-place.invariant.1;
     }
 
 pub returns-then-many-eq0-clause-rows : goal.returns-then-many-eq0-clause-rows
 returns-then-many-eq0-clause-rows c =
     let none : length c.args.ranged.now.keys ≡ 0 = let many = c.len-many.ensures.len in let zero = c.if-many-eq0.true in omega arith in
-    nothing_ranged c.args.bytes.now c.args.entries.now c.args.ranged.now.keys _ none c.in_ok-with_capacity_and_hasher.ensures.empty c.requires.ranged
+    nothing_ranged c.args.bytes.now c.args.entries.now c.args.ranged.now.keys _ none c.requires.rows c.requires.ranged

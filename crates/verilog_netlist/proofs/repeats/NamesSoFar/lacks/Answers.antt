@@ -6,7 +6,7 @@ use Rattle.verilog_netlist.specs.NameKeys.{Key, key_in, keys_in, key_of, holds, 
 use Rattle.verilog_netlist.specs.declared.namespaces.Names.{Names}
 use Rattle.verilog_netlist.specs.declared.repeats.NameKey.{NameKey}
 use Rattle.verilog_netlist.proofs.Repeating.{any_key}
-use Rattle.verilog_netlist.proofs.repeats.NameTable.lacks.Goals as goal
+use Rattle.verilog_netlist.proofs.repeats.NamesSoFar.lacks.Goals as goal
 
 pub returns-in-Some : goal.returns-in-Some
 returns-in-Some c =

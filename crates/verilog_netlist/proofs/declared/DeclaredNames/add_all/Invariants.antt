@@ -2,7 +2,7 @@
 use Rattle.verilog_netlist.specs.DeclaredNames.{HoldsDeclared, BoundsWidths}
 use Rattle.verilog_netlist.specs.NameKeys.{keys_in}
 use Rattle.verilog_netlist.proofs.Repeating.{Counts}
-use Rattle.verilog_netlist.proofs.declared.collect_declared.Given as goal
+use Rattle.verilog_netlist.proofs.declared.DeclaredNames.add_all.Given as goal
 
 abbrev pub invariant-loop-place : goal.invariant-loop-place
-invariant-loop-place l = Counts l.entries l.place l.scopes × HoldsDeclared l.bytes l.entries (keys_in l.ranged.keys) l.place l.names.rows.entries × BoundsWidths l.names.rows.entries l.names.widest
+invariant-loop-place l = Counts l.entries l.place l.scopes × HoldsDeclared l.bytes l.entries (keys_in l.ranged.keys) l.place l.self.rows.entries × BoundsWidths l.self.rows.entries l.self.widest

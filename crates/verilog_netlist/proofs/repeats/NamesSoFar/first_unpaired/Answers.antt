@@ -7,7 +7,7 @@ use Rattle.verilog_netlist.specs.declared.repeats.Scopes.{Scopes}
 use Rattle.verilog_netlist.proofs.Finding.{not_here_too}
 use Rattle.verilog_netlist.proofs.Repeating.{Counts, count_on, no_entry, stands_at, itself_at, within_list}
 use Rattle.verilog_netlist.proofs.Pairing.{decides_unpaired, lacks_as}
-use Rattle.verilog_netlist.proofs.repeats.NameTable.first_unpaired.Goals as goal
+use Rattle.verilog_netlist.proofs.repeats.NamesSoFar.first_unpaired.Goals as goal
 
 pub returns-then-is_unpaired : goal.returns-then-is_unpaired
 returns-then-is_unpaired c =

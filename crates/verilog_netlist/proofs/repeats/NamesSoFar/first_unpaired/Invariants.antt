@@ -3,7 +3,7 @@ use Rattle.std.proofs.Common.{None}
 use Rattle.verilog_netlist.specs.Directions.{IsUnpaired}
 use Rattle.verilog_netlist.proofs.Finding.{IsFirstBelow}
 use Rattle.verilog_netlist.proofs.Repeating.{Counts}
-use Rattle.verilog_netlist.proofs.repeats.NameTable.first_unpaired.Given as goal
+use Rattle.verilog_netlist.proofs.repeats.NamesSoFar.first_unpaired.Given as goal
 
 abbrev pub invariant-loop-place : goal.invariant-loop-place
 invariant-loop-place l = Counts l.entries l.place l.scopes × IsFirstBelow (IsUnpaired l.bytes l.entries) l.place None
