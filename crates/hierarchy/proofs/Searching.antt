@@ -14,6 +14,16 @@ use Rattle.hierarchy.specs.declared.ordering.Mark.TheVariants.{New, Open, Done}
 use Rattle.hierarchy.specs.declared.ordering.Step.{Step}
 use Rattle.hierarchy.proofs.Trails.{leads_here, leads_on, leads_round}
 
+-- a module has one mark. Each clash is proved here, in a small context: `cc` reads all that is in scope
+open_new : {A : Type 0} {mark : Mark} → mark ≡ Open → mark ≡ New → A
+open_new one two = absurd cc
+
+done_new : {A : Type 0} {mark : Mark} → mark ≡ Done → mark ≡ New → A
+done_new one two = absurd cc
+
+done_open : {A : Type 0} {mark : Mark} → mark ≡ Done → mark ≡ Open → A
+done_open one two = absurd cc
+
 -- what stands in an order stands in a longer one
 pub stands_pushed : (order : List ℕ) (n m x : ℕ) → n ≤ length order → StandsBefore order n m → StandsBefore (order ++ x ∷ []) n m
 stands_pushed order n m x le h = record {
@@ -127,10 +137,9 @@ module _ (lowers : List (List ℕ)) (top : ℕ) where
         size = length-set none top Open ∙ size;
         standing = All-push (IsStep lowers top marks []) [] first (λ k d lt. absurd (omega arith)) stands;
         chain = all_pairs_push (LeadsOn lowers top) [] first (λ i j d lt few. absurd (omega arith)) (λ k d lt. absurd (omega arith));
-        opened = λ m is. ⊎_elim (λ same. (0, omega arith, sym same)) (λ other. let e = others m other in absurd cc) (cases_eq m top);
-        done = λ m is. ⊎_elim (λ same. let e : mark_at marks m ≡ Open = ap (mark_at marks) same ∙ here in absurd cc)
-            (λ other. let e = others m other in absurd cc) (cases_eq m top);
-        begun = λ e. cc;
+        opened = λ m is. ⊎_elim (λ same. (0, omega arith, sym same)) (λ other. open_new is (others m other)) (cases_eq m top);
+        done = λ m is. ⊎_elim (λ same. done_open is (ap (mark_at marks) same ∙ here)) (λ other. done_new is (others m other)) (cases_eq m top);
+        begun = λ e. open_new here e;
         sorted = record {
           within = λ p lt. absurd (omega arith);
           below = λ p j lt few. absurd (omega arith);
@@ -180,7 +189,7 @@ module _ (lowers : List (List ℕ)) (top : ℕ) where
         let here : mark_at marks' lower ≡ Open = mark-same marks lower Open (omega arith) in
         let other : (m : ℕ) (x : Mark) → mark_at marks m ≡ x → (x ≡ New → ⊥) → m ≡ lower → ⊥ =
         λ m x is not_new same. not_new (sym is ∙ ap (mark_at marks) same ∙ new) in
-        let open_other : (m : ℕ) → mark_at marks m ≡ Open → m ≡ lower → ⊥ = λ m is. other m Open is (λ e. cc) in
+        let open_other : (m : ℕ) → mark_at marks m ≡ Open → m ≡ lower → ⊥ = λ m is. other m Open is (λ e. open_new refl e) in
         let stays : (s : Step) → IsStep lowers top marks order s → IsStep lowers top marks' order s = λ s h. record {
           within = h.within;
           leads = h.leads;
@@ -216,14 +225,14 @@ module _ (lowers : List (List ℕ)) (top : ℕ) where
               ))
               (cases_eq m lower);
           done = λ m is. ⊎_elim
-              (λ same. let e : mark_at marks' m ≡ Open = ap (mark_at marks') same ∙ here in absurd cc)
+              (λ same. done_open is (ap (mark_at marks') same ∙ here))
               (λ different. search.done m (sym (mark-other marks lower m Open different) ∙ is)) (cases_eq m lower);
           begun = λ is. ⊎_elim
-              (λ same. let e : mark_at marks' top ≡ Open = ap (mark_at marks') same ∙ here in cc)
+              (λ same. open_new (ap (mark_at marks') same ∙ here) is)
               (λ different. search.begun (sym (mark-other marks lower top Open different) ∙ is)) (cases_eq top lower);
           sorted = search.sorted;
           marked = λ p few. let is = search.marked p few in
-              mark-other marks lower (get_or order p 0) Open (other (get_or order p 0) Done is (λ e. cc)) ∙ is;
+              mark-other marks lower (get_or order p 0) Open (other (get_or order p 0) Done is (λ e. done_new refl e)) ∙ is;
         }
 
     -- a module that stands in the order is passed
@@ -278,7 +287,7 @@ module _ (lowers : List (List ℕ)) (top : ℕ) where
         let within = own.within in
         let here : mark_at marks' m ≡ Done = mark-same marks m Done (omega arith) in
         let fresh : (p : ℕ) → p < length order → get_or order p 0 ≡ m → ⊥ =
-        λ p lt e. let is = search.marked p lt in let opened = own.opened in let same = ap (mark_at marks) e in cc in
+        λ p lt e. done_open (search.marked p lt) (ap (mark_at marks) e ∙ own.opened) in
         let others : (k : ℕ) (d : Step) → k < length steps → (get_or steps k d).module ≡ m → ⊥ =
         λ k d few. (pairs_last (LeadsOn lowers top) steps step search.chain k d few).other in
         record {
@@ -292,7 +301,7 @@ module _ (lowers : List (List ℕ)) (top : ℕ) where
           };
           chain = pairs_front (LeadsOn lowers top) steps step search.chain;
           opened = λ x is. ⊎_elim
-              (λ same. let e : mark_at marks' x ≡ Done = ap (mark_at marks') same ∙ here in absurd cc)
+              (λ same. done_open (ap (mark_at marks') same ∙ here) is)
               (λ other. let old = search.opened x (sym (mark-other marks m x Done other) ∙ is) in ⊎_elim
               (λ few. (old.0, few, ap (λ s. s.module) (sym (get_or_append_left steps (step ∷ []) no_step old.0 few)) ∙ old.2))
               (λ past. let at : length steps ≡ old.0 = omega (arith, length_push steps step, old.1) in
@@ -304,7 +313,7 @@ module _ (lowers : List (List ℕ)) (top : ℕ) where
               (λ other. stands_in_more order x m (search.done x (sym (mark-other marks m x Done other) ∙ is)))
               (cases_eq x m);
           begun = λ is. ⊎_elim
-              (λ same. let e : mark_at marks' top ≡ Done = ap (mark_at marks') same ∙ here in cc)
+              (λ same. done_new (ap (mark_at marks') same ∙ here) is)
               (λ other. search.begun (sym (mark-other marks m top Done other) ∙ is)) (cases_eq top m);
           sorted = sorted_more lowers order m search.sorted within (λ j few. own.passed j (omega arith)) fresh;
           marked = λ p lt. ⊎_elim

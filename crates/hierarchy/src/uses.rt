@@ -106,10 +106,27 @@ fn check_walk(
 {
     let lowers = Lowers::of(alloc, modules, cells)?;
     let order = order_below(alloc, modules, &lowers, top)?;
-    check_depth(alloc, modules, &lowers, &order, top)?;
-    check_total(alloc, modules, &lowers, &order, top, Count::Instances)?;
-    check_total(alloc, modules, &lowers, &order, top, Count::Names)?;
-    check_total(alloc, modules, &lowers, &order, top, Count::Pins)?;
+    check_limits(alloc, modules, &lowers, &order, top)
+}
+
+// Whether a design is within the limits.
+fn check_limits(
+    alloc: Global,
+    modules: &Modules,
+    lowers: &Lowers,
+    order: &[usize],
+    top: usize,
+) -> Result<(), UseEnd>
+    requires within { top < length modules.now }
+    requires lowers { AreLowers modules.now lowers.now }
+    requires order { IsOrderOf lowers.now top order.now }
+    ensures ok { OnOk result (IsWalkable modules.now top) }
+    ensures refused { IfErr result (IsUseEnd modules.now (module_at modules.now top).name) }
+{
+    check_depth(alloc, modules, lowers, order, top)?;
+    check_total(alloc, modules, lowers, order, top, Count::Instances)?;
+    check_total(alloc, modules, lowers, order, top, Count::Names)?;
+    check_total(alloc, modules, lowers, order, top, Count::Pins)?;
     Ok(())
 }
 
