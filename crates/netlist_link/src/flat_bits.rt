@@ -1,6 +1,6 @@
 //! The nets of a flat design: what each bit of each name in each visited module is on.
 ghost use Rattle.std.specs.Prelude.{◌≡◌, ℕ, ◌+◌, ◌<◌, ◌≤◌, List, [], ◌∷◌, ◌++◌, length, map, replicate, Option, Some, None, IfOk, OnOk};
-ghost use Rattle.verilog_netlist.specs.NetModules.{NetModule, module_at, bit_after, bits_of_run, HasFewBits};
+ghost use Rattle.verilog_netlist.specs.NetModules.{NetModule, module_at, bits_of_run, HasFewBits};
 ghost use Rattle.verilog_netlist.specs.SoundModules.{AreWithin};
 ghost use Rattle.hierarchy.specs.Walks.{visits};
 ghost use Rattle.netlist_link.specs.FlatBits.{NetBit, bits_of_name};
@@ -90,21 +90,6 @@ pub(crate) struct FlatBits {
     names: NamePlaces,
 }
 
-// A bit of a run, from the left.
-fn bit_of_run(run: Run, number: usize) -> Bit
-    requires few { HasFewBits run }
-    requires within { number < run.count }
-    ensures { result ≡ bit_after run.first number }
-{
-    match run.first {
-        Bit::Tied => Bit::Tied,
-        Bit::Wire { name, bit } => Bit::Wire {
-            name,
-            bit: bit + number,
-        },
-    }
-}
-
 impl FlatBits {
     /// What a bit in a visited module is on.
     pub fn net(&self, visit: usize, m: usize, bit: Bit) -> Option<u32>
@@ -182,7 +167,7 @@ impl FlatBits {
     {
         let m = design.walk.visits()[visit].module as usize;
         for number in 0..run.count {
-            let net = self.kept(visit, m, bit_of_run(run, number));
+            let net = self.kept(visit, m, run.bit(number));
             push(&mut self.bits, net)?;
         }
         Ok(())

@@ -25,7 +25,7 @@ kept-net-requires c =
         has = still_kept d visit c.args.self.now c.loop-number.self (map w (bits_from c.args.run.first c.loop-number.number)) c.requires.has
             c.loop-number.invariant;
         module_is = module_read d c.requires.sound.walk visit c.requires.visited c.visits.result.now c.visits.ensures;
-        inside = subst (IsBitIn d visit) (sym c.bit_of_run.ensures) (run_inside d visit c.args.run.first c.args.run.count c.loop-number.number
+        inside = subst (IsBitIn d visit) (sym c.bit.ensures) (run_inside d visit c.args.run.first c.args.run.count c.loop-number.number
             (visited d c.requires.sound.walk visit c.requires.visited d.walk.now.visits refl) c.requires.within
             (let test = c.loop-number-test.true in omega arith));
       };
@@ -40,12 +40,12 @@ loop-number-preserved c = λ started targets nets held.
     let w = wired d.modules.now (top_of d.walk.now) (path_of d visit) in
     let so_far = c.loop-number.invariant started targets nets held in
     let has = still_kept d visit c.args.self.now c.loop-number.self (map w (bits_from first number)) c.requires.has c.loop-number.invariant in
-    let inside : IsBitIn d visit c.bit_of_run.result =
-    subst (IsBitIn d visit) (sym c.bit_of_run.ensures) (run_inside d visit first c.args.run.count number
+    let inside : IsBitIn d visit c.bit.result =
+    subst (IsBitIn d visit) (sym c.bit.ensures) (run_inside d visit first c.args.run.count number
     (visited d c.requires.sound.walk visit c.requires.visited d.walk.now.visits refl) c.requires.within (let test = c.loop-number-test.true in omega arith)) in
     let is : IsKept nets (w (bit_after first number)) c.kept-net.result =
     subst (λ (kept : List NetBit). IsKept kept (w (bit_after first number)) c.kept-net.result) (sym has.held.nets_are ∙ so_far.nets_are)
-    (subst (λ (b : Bit). IsKept has.nets (w b) c.kept-net.result) c.bit_of_run.ensures
+    (subst (λ (b : Bit). IsKept has.nets (w b) c.kept-net.result) c.bit.ensures
     (c.kept-net.ensures.on d has (module_read d c.requires.sound.walk visit c.requires.visited c.visits.result.now c.visits.ensures) inside)) in
     number_to d started (targets ++ map w (bits_from first number)) nets c.loop-number.self _ so_far (targets ++ map w (bits_from first (number + 1)))
     (w (bit_after first number)) c.kept-net.result (run_push w targets first number) refl refl refl c.in_ok-push.ensures.ok is
