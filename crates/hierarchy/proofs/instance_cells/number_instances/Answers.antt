@@ -13,3 +13,9 @@ loop-k-preserved c =
           c.number_of.ensures.grows here c.in_ok-push.ensures.ok,
       grows_on _ old new c.loop-k.invariant.1 c.number_of.ensures.grows,
     )
+
+pub returns-in_err-number-clause-grows : goal.returns-in_err-number-clause-grows
+returns-in_err-number-clause-grows c = grows_on _ c.loop-k.numbering.names c.number_of.new.self.names c.loop-k.invariant.1 c.number_of.ensures.grows
+
+pub returns-in_err-push-clause-grows : goal.returns-in_err-push-clause-grows
+returns-in_err-push-clause-grows c = grows_on _ c.loop-k.numbering.names c.number_of.new.self.names c.loop-k.invariant.1 c.number_of.ensures.grows
