@@ -74,28 +74,21 @@ impl ModuleExtent {
 }
 
 impl Places {
-    /// The row of a module that begins at this place, behind all that is kept.
-    fn module_row(&self, place: usize) -> Result<ModuleRow, OutOfMemory>
-        ensures place { IfOk result (λ row. row.place ≡ place) }
-        ensures instances { IfOk result (λ row. row.instances ≡ length self.now.instances.items) }
-        ensures connections { IfOk result (λ row. row.connections ≡ length self.now.connections.items) }
+    /// Adds a module that begins at this place, or the end of the file.
+    fn add_module(&mut self, place: usize) -> Result<(), OutOfMemory>
+        ensures modules { OnOk result (AddsModule self.old place self.new) }
     {
         let place = to_u32(place)?;
         let instances = to_u32(self.instances.len())?;
         let connections = to_u32(self.connections.len())?;
-        Ok(ModuleRow {
-            place,
-            instances,
-            connections,
-        })
-    }
-
-    /// Adds the place of an entry, if a module begins there.
-    fn add_module(&mut self, place: usize) -> Result<(), OutOfMemory>
-        ensures modules { OnOk result (AddsModule self.old place self.new) }
-    {
-        let row = self.module_row(place)?;
-        push(&mut self.modules, row)
+        push(
+            &mut self.modules,
+            ModuleRow {
+                place,
+                instances,
+                connections,
+            },
+        )
     }
 
     /// Adds an instance that begins at this place.

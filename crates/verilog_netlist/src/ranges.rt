@@ -1,6 +1,6 @@
 //! Looks for bad ranges, selects, constants and connections.
 ghost use Rattle.std.specs.Prelude.{◌≡◌, ℕ, false, ◌^◌, ◌<◌, ◌≤◌, nat_lt, length, IfSome};
-ghost use Rattle.verilog_netlist.specs.Ranges.{most_bits, width_of, has_large_bound, is_past, is_wire, one_range, differ, is_bad_declaration, is_outside, declared_range, is_bad_bit, runs_against, is_bad_part, whole_width, bits_of, joined_width, is_bad_entry, IsFirstBadRange};
+ghost use Rattle.verilog_netlist.specs.Ranges.{most_bits, width_of, has_large_bound, is_past, one_range, differ, is_bad_declaration, is_outside, declared_range, is_bad_bit, runs_against, is_bad_part, whole_width, bits_of, joined_width, is_bad_entry, IsFirstBadRange};
 ghost use Rattle.verilog_netlist.specs.DeclaredNames.{found_in, HoldsRanged, BoundsWidths, IsAtMost};
 
 use crate::declared::{Declaration, DeclaredNames};
@@ -62,13 +62,6 @@ impl Range {
 }
 
 #[inline]
-fn is_wire(by: Decl) -> bool
-    ensures { result ≡ is_wire by }
-{
-    matches!(by, Decl::Wire)
-}
-
-#[inline]
 fn one_range(one: Option<Range>, other: Option<Range>) -> bool
     ensures { result ≡ one_range one other }
 {
@@ -84,7 +77,8 @@ fn one_range(one: Option<Range>, other: Option<Range>) -> bool
 fn differ(one: Declaration, other: Declaration) -> bool
     ensures { result ≡ differ one other }
 {
-    !one_range(one.range, other.range) && is_wire(one.by) != is_wire(other.by)
+    !one_range(one.range, other.range)
+        && matches!(one.by, Decl::Wire) != matches!(other.by, Decl::Wire)
 }
 
 #[inline]
