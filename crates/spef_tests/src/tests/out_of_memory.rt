@@ -5,7 +5,7 @@ ghost use Rattle.std.specs.Prelude.{◌≡◌, ◌<◌};
 use corner_set::{Pick, Single};
 use edge_io::Steps;
 use elmore_pass::elmore_into;
-use rc_tree::{ListedPins, RcTree, Scratch, TreeEnd, build};
+use rc_tree::{ListedPins, RcTree, Scratch, TreeEnd, Workspace};
 use spef_nets::{Net, SectionEnd, read_sections};
 use spef_text::{HeadEnd, SpefEnd, SpefFile, parse, read_head};
 use std::alloc::Global;
@@ -14,7 +14,7 @@ use std::sync::ledger::{Blank, Ledger};
 use std::test::Fail;
 
 /// What comes of a net with two sinks.
-#[derive(Clone, Copy, Debug, PartialEq)]
+#[derive(Clone, Copy)]
 enum End {
     /// The delays of the sinks in units of 10^-27 s, and the load in grains.
     Delays(u128, u128, u64),
@@ -45,9 +45,14 @@ fn end_of_net<L: Ledger>(alloc: Global, net: &Net<Single>, blank: Blank) -> End
     if net.conn_count() == 0 {
         return End::Refused;
     }
+    let Ok(mut tree) = RcTree::<Single>::new(alloc) else {
+        return End::OutOfMemory;
+    };
+    let mut workspace = Workspace::new(alloc);
     let mut steps = Steps::<L>::new(blank);
-    match build(alloc, net, &ListedPins { driver: 0 }, &mut steps) {
-        Ok(tree) => delays(alloc, &tree, &mut steps),
+    let pins = ListedPins { driver: 0 };
+    match tree.rebuild(alloc, &mut workspace, net, &pins, &mut steps) {
+        Ok(()) => delays(alloc, &tree, &mut steps),
         Err(TreeEnd::OutOfMemory) => End::OutOfMemory,
         Err(_) => End::Refused,
     }
@@ -83,25 +88,33 @@ fn end_of(alloc: Global, bytes: &[u8]) -> End {
     }
 }
 
+/// Whether a net has these delays and this load, or there was no memory for them.
+fn may_be(end: End, wanted: (u128, u128, u64)) -> bool {
+    match end {
+        End::Delays(first, second, load) => {
+            first == wanted.0 && second == wanted.1 && load == wanted.2
+        }
+        End::OutOfMemory => true,
+        End::Refused => false,
+    }
+}
+
 /// A net, and its delays and load by hand: 100 * 21 + 200 * 7 and 100 * 21 + 50 * 4 fs of 21 fF, and none of 15 fF at one node.
-const WORKED: [(&[u8], End); 2] = [
+const WORKED: [(&[u8], (u128, u128, u64)); 2] = [
     (
         b"*SPEF *C_UNIT 1 FF *R_UNIT 1 OHM *D_NET n 21 *CONN *I d O *I s I *L 2 *I t I *L 3 *CAP 1 n:1 10 2 s 5 3 t 1 *RES 1 d n:1 100 2 n:1 s 200 3 n:1 t 50 *END",
-        End::Delays(3_500_000_000_000_000, 2_300_000_000_000_000, 21_000_000),
+        (3_500_000_000_000_000, 2_300_000_000_000_000, 21_000_000),
     ),
     (
         b"*SPEF *C_UNIT 1 FF *R_UNIT 1 OHM *D_NET n 15 *CONN *I d O *I s I *L 2 *I t I *L 3 *CAP 1 n:1 10 *END",
-        End::Delays(0, 0, 15_000_000),
+        (0, 0, 15_000_000),
     ),
 ];
 
 #[test]
 fn worked_nets_or_no_memory(rt: HostRuntime) -> Result<(), Fail> {
-    for (bytes, end) in &WORKED {
-        let found = end_of(rt.alloc(), bytes);
-        if found != End::OutOfMemory {
-            assert_eq!(rt; found, *end);
-        }
+    for (bytes, wanted) in &WORKED {
+        assert!(rt; may_be(end_of(rt.alloc(), bytes), *wanted));
     }
     Ok(())
 }
