@@ -18,7 +18,7 @@ use crate::planting::plant;
 use crate::searching::search;
 use crate::tree::RcTree;
 use crate::workspace::SearchLists;
-use corner_set::CornerSet;
+use corner_set::{CornerSet, first_corner};
 use edge_io::{OutOfMemory, Steps};
 use spef_nets::Net;
 use std::alloc::Global;
@@ -73,9 +73,7 @@ fn explore<C: CornerSet, L: Ledger>(
     ensures explored { OnOk result (IsExplored section.now numbered.now.spots.items numbered.now.count (search_of lists.new.found)) }
     ensures steps { steps.new ≤ steps.old + length section.now.joints }
 {
-    let Some(corner) = C::nth(0) else {
-        return Err(OutOfMemory);
-    };
+    let corner = first_corner::<C>();
     copy_ends(section, &numbered.spots, corner, &mut lists.ends, steps)?;
     search(
         &lists.ends.froms,

@@ -1,5 +1,5 @@
 //! The tree of a net, or why it has none.
-ghost use Rattle.std.specs.Prelude.{◌≡◌, ◌+◌, ◌*◌, ◌<◌, ◌≤◌, IsTrue, ◌↔◌, length, IfOk, IfErr, OnOk, OnErr};
+ghost use Rattle.std.specs.Prelude.{◌≡◌, ◌+◌, ◌*◌, ◌<◌, ◌≤◌, IsTrue, ◌↔◌, length, IfErr, OnOk, OnErr};
 ghost use Rattle.rc_tree.specs.Arenas.{most_elements, node_count};
 ghost use Rattle.rc_tree.specs.Pins.{pin_nodes};
 ghost use Rattle.rc_tree.specs.SectionNets.{IsTooLarge};
@@ -63,25 +63,6 @@ impl<C: CornerSet> RcTree<C> {
             steps,
         )
     }
-}
-
-/// The tree of a net, from its section and its pins, in memory of its own.
-pub fn build<C: CornerSet, P: PinSource<C>, L: Ledger>(
-    alloc: Global,
-    section: &Net<C>,
-    pins: &P,
-    steps: &mut Steps<L>,
-) -> Result<RcTree<C>, TreeEnd>
-    requires { P.fits pins.now section.now }
-    ensures tree { IfOk result (λ tree. IsTreeOf C.COUNT section.now (P.pins pins.now section.now) tree) }
-    ensures nodes { IfOk result (λ tree. node_count tree ≤ length section.now.joints + 1) }
-    ensures refused { IfErr result (λ end. IsTreeEnd C.COUNT section.now (P.pins pins.now section.now) end) }
-    ensures steps { steps.new ≤ steps.old + length section.now.joints + C.COUNT * (length section.now.joints + length section.now.caps) }
-{
-    let mut tree = RcTree::new(alloc)?;
-    let mut workspace = Workspace::new(alloc);
-    tree.rebuild(alloc, &mut workspace, section, pins, steps)?;
-    Ok(tree)
 }
 
 // Whether there are too many resistors, or too many written capacitances and pins.

@@ -29,7 +29,6 @@ mod threads;
 mod tree;
 mod workspace;
 
-pub use building::build;
 pub use ends::TreeEnd;
 pub use laws::{no_stranger, one_elmore, one_shape, two_passes};
 pub use listed_pins::ListedPins;

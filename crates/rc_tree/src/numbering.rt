@@ -45,7 +45,23 @@ pub fn number_named<'k, C: CornerSet>(
     ensures refused { IfErr result (λ end. IsTreeEnd C.COUNT section.now pins.now end) }
 {
     let table = number_pins(alloc, pins)?;
-    numbered.count = number_section(alloc, &table, section, &mut numbered.spots)?;
+    number_by(alloc, &table, pins, section, numbered)
+}
+
+// The same, where the table of the pins is made. It is let go of in one place, where all ways out have come together.
+fn number_by<'k, C: CornerSet>(
+    alloc: Global,
+    table: &PinTable<'k, '_>,
+    pins: &PinLoads<'_, C>,
+    section: &Net<'k, '_, C>,
+    numbered: &mut Numbered,
+) -> Result<(), TreeEnd>
+    requires { table.now ≡ pin_nodes pins.now }
+    ensures numbered { OnOk result (IsNumbered section.now pins.now numbered.new.spots.items numbered.new.count) }
+    ensures listed { OnOk result (AreListed section.now (pin_nodes pins.now)) }
+    ensures refused { IfErr result (λ end. IsTreeEnd C.COUNT section.now pins.now end) }
+{
+    numbered.count = number_section(alloc, table, section, &mut numbered.spots)?;
     refuse_stranger(alloc, pins, section, numbered)?;
     Ok(())
 }
@@ -79,12 +95,16 @@ fn number_pins<'p, 's, C: CornerSet>(
 ) -> Result<PinTable<'p, 's>, OutOfMemory>
     ensures { IfOk result (λ table. table ≡ pin_nodes pins.now) }
 {
-    let pins = if pins.len() < FEW {
-        Pins::Few(FewPins::new(pins.driver, pins.sinks.as_slice()))
-    } else {
-        Pins::Many(pin_table(alloc, pins)?)
-    };
-    Ok(PinTable { pins })
+    if pins.len() < FEW {
+        let few = FewPins::new(pins.driver, pins.sinks.as_slice());
+        return Ok(PinTable {
+            pins: Pins::Few(few),
+        });
+    }
+    let table = pin_table(alloc, pins)?;
+    Ok(PinTable {
+        pins: Pins::Many(table),
+    })
 }
 
 // A table of the pins, in order.
@@ -95,9 +115,21 @@ fn pin_table<'p, C: CornerSet>(
     ensures { IfOk result (λ table. table ≡ pin_nodes pins.now) }
 {
     let mut table = NodeTable::with_room(alloc, pins.len().saturating_add(1))?;
-    table.intern(pins.driver.key())?;
-    intern_all(&mut table, pins.sinks.as_slice())?;
+    intern_pins(&mut table, pins)?;
     Ok(table)
+}
+
+// Puts the pins into a table that holds none.
+fn intern_pins<'p, C: CornerSet>(
+    table: &mut NodeTable<'p>,
+    pins: &PinLoads<'p, C>,
+) -> Result<(), OutOfMemory>
+    requires { table.old ≡ [] }
+    ensures { OnOk result (table.new ≡ pin_nodes pins.now) }
+{
+    table.intern(pins.driver.key())?;
+    intern_all(table, pins.sinks.as_slice())?;
+    Ok(())
 }
 
 // Puts nodes at the end, each where it is not there already.

@@ -12,6 +12,7 @@ ghost use Rattle.rc_tree.specs.Searched.{IsNumbered, IsNameAt, all_nodes};
 use crate::ends::TreeEnd;
 use crate::listed_pins::ListedPins;
 use crate::marking::number_listed;
+use crate::names::section_name;
 use crate::numbered::Numbered;
 use crate::numbering::number_named;
 use crate::pins::PinLoads;
@@ -83,7 +84,7 @@ impl<'p, C: CornerSet> PinSource<C> for PinLoads<'p, C> {
     }
 
     fn sink_load(&self, _section: &Net<C>, sink: usize, corner: C::Index) -> Farads {
-        self.load(sink, corner)
+        self.loads[sink * C::COUNT + C::number(corner)]
     }
 
     fn number(
@@ -95,8 +96,10 @@ impl<'p, C: CornerSet> PinSource<C> for PinLoads<'p, C> {
         number_named(alloc, self, section, numbered)
     }
 
+    // the sinks come right after the driver, whatever the section is
     fn sink_number(&self, _section: &Net<C>, _numbered: &Numbered, sink: usize) -> usize {
-        self.number_of(sink)
+        let _ = &self.sinks;
+        sink + 1
     }
 
     fn name_at(
@@ -106,7 +109,15 @@ impl<'p, C: CornerSet> PinSource<C> for PinLoads<'p, C> {
         numbered: &Numbered,
         number: usize,
     ) -> Result<NodeName, OutOfMemory> {
-        self.name(alloc, section, numbered, number)
+        if number == 0 {
+            return self.driver().node_name(alloc);
+        }
+        if number <= self.len() {
+            let name = self.sink(number - 1).node_name(alloc)?;
+            return Ok(name);
+        }
+        let name = section_name(alloc, section, numbered, number)?;
+        Ok(name)
     }
 }
 
@@ -120,7 +131,7 @@ impl<C: CornerSet> PinSource<C> for ListedPins {
     }
 
     fn sink_load(&self, section: &Net<C>, sink: usize, corner: C::Index) -> Farads {
-        self.load(section, sink, corner)
+        section.conn_load(self.place(sink), corner)
     }
 
     fn number(
@@ -134,7 +145,7 @@ impl<C: CornerSet> PinSource<C> for ListedPins {
     }
 
     fn sink_number(&self, section: &Net<C>, numbered: &Numbered, sink: usize) -> usize {
-        self.number_of(section, numbered, sink)
+        numbered.spots[section.conn(self.place(sink)).node] as usize
     }
 
     fn name_at(
@@ -144,6 +155,7 @@ impl<C: CornerSet> PinSource<C> for ListedPins {
         numbered: &Numbered,
         number: usize,
     ) -> Result<NodeName, OutOfMemory> {
-        self.name(alloc, section, numbered, number)
+        let name = section_name(alloc, section, numbered, number)?;
+        Ok(name)
     }
 }

@@ -1,22 +1,15 @@
 //! The pins of a net.
-ghost use Rattle.std.specs.Prelude.{◌≡◌, ◌≢◌, ◌+◌, ◌^◌, ◌<◌, ◌≤◌, [], ◌∷◌, ◌++◌, length, Some, All, AllPairs, Contains, OnOk, OnErr, IfOk, slice_get};
-ghost use Rattle.corner_set.specs.Places.{HasRow, value_at};
+ghost use Rattle.std.specs.Prelude.{◌≡◌, ◌≢◌, ◌<◌, ◌≤◌, [], ◌∷◌, ◌++◌, length, Some, All, AllPairs, Contains, OnOk, OnErr, IfOk, slice_get};
+ghost use Rattle.corner_set.specs.Places.{HasRow};
 ghost use Rattle.delay_units.specs.Bounds.{most_farads};
-ghost use Rattle.spef_nets.specs.NetElements.{NetElements as SectionElements};
 ghost use Rattle.rc_tree.specs.Nodes.{node_of};
 ghost use Rattle.rc_tree.specs.PinNames.{pin_name};
 ghost use Rattle.rc_tree.specs.Pins.{pin_nodes, row_of};
-ghost use Rattle.rc_tree.specs.SectionNets.{sink_node};
-ghost use Rattle.rc_tree.specs.Searched.{IsNumbered, IsNameAt, all_nodes};
 
-use crate::names::section_name;
-use crate::numbered::Numbered;
 use crate::pin_names::PinName;
 use corner_set::{CornerSet, Grid};
 use delay_units::Farads;
 use edge_io::OutOfMemory;
-use name_table::NodeName;
-use spef_nets::Net;
 use std::alloc::Global;
 use std::marker::{Model, PhantomData};
 
@@ -123,47 +116,6 @@ impl<'p, C: CornerSet> PinLoads<'p, C> {
         ensures { slice_get self.now.sinks k ≡ Some (pin_name result) }
     {
         self.sinks[k]
-    }
-
-    /// The load of a sink at a corner.
-    pub(crate) fn load(&self, sink: usize, corner: C::Index) -> Farads
-        requires { sink < length self.now.sinks }
-        ensures load { value_at C.COUNT self.now.loads sink (C.number_of corner) ≡ Some result }
-        ensures most { result.0 ≤ most_farads }
-    {
-        self.loads[sink * C::COUNT + C::number(corner)]
-    }
-
-    /// The number of a sink's node: the sinks come right after the driver, whatever the section is.
-    pub(crate) fn number_of(&self, sink: usize) -> usize
-        requires within { sink < length self.now.sinks }
-        requires fits { sink + 1 < 2 ^ 64 }
-        ensures { (section : SectionElements) → slice_get (all_nodes section self.now) result ≡ Some (sink_node self.now sink) }
-    {
-        let _ = &self.sinks;
-        sink + 1
-    }
-
-    /// A name of the node of a number: as the pins have it, or as the section has it.
-    pub(crate) fn name(
-        &self,
-        alloc: Global,
-        section: &Net<C>,
-        numbered: &Numbered,
-        number: usize,
-    ) -> Result<NodeName, OutOfMemory>
-        requires { IsNumbered section.now self.now numbered.now.spots.items numbered.now.count }
-        ensures { IfOk result (λ name. IsNameAt section.now self.now number name) }
-    {
-        if number == 0 {
-            return self.driver().node_name(alloc);
-        }
-        if number <= self.len() {
-            let name = self.sink(number - 1).node_name(alloc)?;
-            return Ok(name);
-        }
-        let name = section_name(alloc, section, numbered, number)?;
-        Ok(name)
     }
 }
 

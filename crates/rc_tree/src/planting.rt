@@ -10,7 +10,7 @@ use crate::layout::NodeLayout;
 use crate::node_ids::NodeId;
 use crate::pin_source::PinSource;
 use crate::tree::RcTree;
-use corner_set::{CornerSet, Grid};
+use corner_set::{CornerSet, Grid, corner_at};
 use delay_units::{Farads, Ohms};
 use edge_io::{OutOfMemory, Steps};
 use spef_nets::Net;
@@ -150,9 +150,8 @@ fn fill_all<C: CornerSet, P: PinSource<C>, L: Ledger>(
     ensures steps { steps.new + C.COUNT ≤ steps.old + C.COUNT * (length layout.now.parents.now + length section.now.caps) }
 {
     for number in 0..C::COUNT {
-        if let Some(corner) = C::nth(number) {
-            fill_corner(section, pins, layout, corner, ohms, farads, steps);
-        }
+        let corner = corner_at::<C>(number);
+        fill_corner(section, pins, layout, corner, ohms, farads, steps);
     }
 }
 

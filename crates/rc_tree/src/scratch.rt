@@ -33,13 +33,6 @@ impl<C: CornerSet> Scratch<C> {
         })
     }
 
-    /// How many nodes there is room for.
-    pub fn room(&self) -> usize
-        ensures { result * C.COUNT ≡ length self.now }
-    {
-        self.values.rows()
-    }
-
     /// Makes room for so many nodes, in the memory that it has where that suffices. What it held is no matter.
     pub fn make_room(&mut self, alloc: Global, nodes: usize) -> Result<(), OutOfMemory>
         ensures { OnOk result (nodes * C.COUNT ≤ length self.new) }

@@ -1,9 +1,9 @@
 use Rattle.std.proofs.Common.{subst, ◌<◌, length, sym, ap, ◌∙◌}
 use Rattle.corner_set.specs.Places.{value_at}
 use Rattle.rc_tree.proofs.ListedLemmas.{place_within, load_without}
-use Rattle.rc_tree.proofs.listed_pins.ListedPins.load.Goals as goal
+use Rattle.rc_tree.proofs.pin_source.ListedPinsPinSource.sink_load.Goals as goal
 
--- src/listed_pins.rt
+-- src/pin_source.rt
 pub conn_load-requires : goal.conn_load-requires
 conn_load-requires g c = subst (λ k. k < length c.args.section.now.conns) (sym c.place.ensures) (place_within g.C.CornerSet.COUNT c.args.section.now c.args.self.now.driver c.args.sink c.requires.within)
 

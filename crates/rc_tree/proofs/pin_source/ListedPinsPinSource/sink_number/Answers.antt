@@ -3,9 +3,9 @@ use Rattle.std.proofs.lemmas.List.{get_or_read}
 use Rattle.rc_tree.specs.ListedPins.{listed_pins}
 use Rattle.rc_tree.specs.Searched.{all_nodes}
 use Rattle.rc_tree.proofs.ListedLemmas.{place_within, sink_numbered}
-use Rattle.rc_tree.proofs.listed_pins.ListedPins.number_of.Goals as goal
+use Rattle.rc_tree.proofs.pin_source.ListedPinsPinSource.sink_number.Goals as goal
 
--- src/listed_pins.rt
+-- src/pin_source.rt
 pub conn-requires : goal.conn-requires
 conn-requires g c = subst (λ k. k < length c.args.section.now.conns) (sym c.place.ensures) (place_within g.C.CornerSet.COUNT c.args.section.now c.args.self.now.driver c.args.sink c.requires.within)
 

@@ -1,8 +1,8 @@
 use Rattle.std.proofs.Common.{Some, sym, ◌∙◌, ap, arith}
 use Rattle.rc_tree.proofs.Judging.{section_named, sink_named}
-use Rattle.rc_tree.proofs.pins.PinLoads.name.Goals as goal
+use Rattle.rc_tree.proofs.pin_source.PinLoadsPinSource.name_at.Goals as goal
 
--- src/pins.rt
+-- src/pin_source.rt
 pub sink-requires : goal.sink-requires
 sink-requires g c = omega (arith, c.len.ensures.len, c.if-number-len.true, c.if-number-eq0.false)
 
