@@ -7,7 +7,7 @@ ghost use Rattle.elmore_pass.specs.Columns.{column, farads_of, ohms_of, KeepsOth
 ghost use Rattle.elmore_pass.specs.Delays.{HasDelay};
 
 use crate::passes::{gather, place_farads, spread};
-use corner_set::CornerSet;
+use corner_set::{CornerSet, corner_at};
 use edge_io::Steps;
 use rc_tree::{RcTree, Scratch};
 use std::sync::ledger::Ledger;
@@ -29,9 +29,8 @@ pub fn elmore_into<C: CornerSet, L: Ledger>(
         return;
     }
     for number in 0..C::COUNT {
-        if let Some(corner) = C::nth(number) {
-            delays_at(tree, corner, scratch, steps);
-        }
+        let corner = corner_at::<C>(number);
+        delays_at(tree, corner, scratch, steps);
     }
 }
 

@@ -7,4 +7,4 @@ mod passes;
 mod rounded;
 
 pub use corners::elmore_into;
-pub use rounded::{sink_atto, sink_femto};
+pub use rounded::sink_femto;

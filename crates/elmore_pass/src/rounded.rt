@@ -14,12 +14,3 @@ pub fn sink_femto(value: u128) -> Femto
 {
     Femto(half_up(value as i128, 1_000_000_000_000))
 }
-
-/// An Elmore delay in units of 10^-27 s, below 5.6 * 10^37, rounded to an attosecond.
-pub fn sink_atto(value: u128) -> i128
-    requires { value < delay_limit }
-    ensures rounded { IsRounding (pos value) (pos (10 ^ 9)) result }
-    ensures only { (v : ℤ) → IsRounding (pos value) (pos (10 ^ 9)) v → v ≡ result }
-{
-    half_up(value as i128, 1_000_000_000)
-}
