@@ -1,6 +1,6 @@
 -- Rows of values, when there is one more.
 use Rattle.std.proofs.Common.{◌≡◌, ℕ, ◌+◌, ◌*◌, ◌<◌, List, [], ◌∷◌, ◌++◌, length, ◌⊎◌, inl, inr, ⊎_elim, refl, sym, ap, ◌∙◌, subst, arith, length-append, append-nil, append_assoc}
-use Rattle.std.specs.Prelude.{Option, Some, None, slice_get, All}
+use Rattle.std.specs.Prelude.{Option, Some, slice_get, All}
 use Rattle.std.proofs.lemmas.Bool.{cases_eq}
 use Rattle.std.proofs.lemmas.List.Elements.{All-append, All-push}
 use Rattle.corner_set.specs.declared.pick.Pick.{Pick}
@@ -88,7 +88,3 @@ module _ {I T : Type 0} (corners : Corners I) (P : Pick → T → Type 0) (old :
 
   pub row_ends : (new : List T) → AddsUpto corners old new P corners.count → ((corner : I) → corners.number corner < corners.count) → AddsRow corners old new P
   row_ends new adds below = record { row = adds.row; is = adds.is; holds = record { count = adds.count; each = λ corner. adds.each corner (below corner); only = adds.only } }
-
--- each number below the count is that of a corner
-pub corner_there : {I : Type 0} (corner_of : ℕ → Option I) (number : ℕ) → (index : I) × (corner_of number ≡ Some index) → corner_of number ≡ None → ⊥
-corner_there corner_of number (index, is) none = absurd (cc)

@@ -15,7 +15,7 @@ use crate::net_name::NetName;
 use crate::parts::{Ends, Listed};
 use crate::referred::Referred;
 use crate::tables::Tables;
-use corner_set::{CornerSet, Pick};
+use corner_set::{CornerSet, Pick, corner_at};
 use delay_units::{Farads, Ohms};
 use edge_io::OutOfMemory;
 use edge_io::lists::{empty, push};
@@ -47,10 +47,8 @@ fn push_farads<C: CornerSet>(
     ensures { OnOk result (AddsRow (corners_of C.COUNT C.number_of C.member_of pick) values.old.items values.new.items (FaradsOf grains)) }
 {
     for number in 0..C::COUNT {
-        match C::nth(number) {
-            Some(corner) => push(values, Farads(grains.of(C::member(corner, pick))))?,
-            None => {}
-        }
+        let member = C::member(corner_at::<C>(number), pick);
+        push(values, Farads(grains.of(member)))?;
     }
     Ok(())
 }
@@ -63,10 +61,8 @@ fn push_ohms<C: CornerSet>(
     ensures { OnOk result (AddsRow (corners_of C.COUNT C.number_of C.member_of pick) values.old.items values.new.items (OhmsOf grains)) }
 {
     for number in 0..C::COUNT {
-        match C::nth(number) {
-            Some(corner) => push(values, Ohms(grains.of(C::member(corner, pick))))?,
-            None => {}
-        }
+        let member = C::member(corner_at::<C>(number), pick);
+        push(values, Ohms(grains.of(member)))?;
     }
     Ok(())
 }

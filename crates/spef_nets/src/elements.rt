@@ -21,20 +21,6 @@ pub struct Elements {
 }
 
 impl Elements {
-    /// No element. It takes no memory.
-    pub fn new(alloc: Global) -> Elements
-        ensures { rows_of result ≡ no_rows }
-    {
-        Elements {
-            conns: Vec::new(alloc),
-            loads: Vec::new(alloc),
-            caps: Vec::new(alloc),
-            farads: Vec::new(alloc),
-            joints: Vec::new(alloc),
-            ohms: Vec::new(alloc),
-        }
-    }
-
     /// No element, with room for so many connections, capacitances and resistors.
     pub fn with_room<C: CornerSet>(
         alloc: Global,

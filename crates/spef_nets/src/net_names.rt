@@ -58,13 +58,6 @@ impl<'r> NetNames<'r> {
         place_of(&self.names, name)
     }
 
-    /// No two names are the same. It does nothing when it is called.
-    pub fn distinct(&self)
-        ensures { AreDistinct self.now }
-    {
-        let _ = &self.names;
-    }
-
     /// The name of a number.
     pub fn name(&self, place: usize) -> &[u8]
         requires { place < length self.now }

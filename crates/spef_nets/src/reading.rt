@@ -127,8 +127,32 @@ fn push_all<'r, 'f, C: CornerSet>(
 {
     let mut draft = Draft::new(source.alloc, source.file, source.head);
     let mut joints = Vec::new(source.alloc);
+    push_each::<C>(source, nets, tables, &mut draft, &mut joints)
+}
+
+// The same with a draft and a list of joints, which are let go of in one place, where all ways out have come together.
+fn push_each<'r, 'f, C: CornerSet>(
+    source: &Source<'r, 'f>,
+    nets: &mut NetNames<'r>,
+    tables: &mut Tables,
+    draft: &mut Draft<'r, 'f>,
+    joints: &mut Vec<Joined>,
+) -> Result<(), SectionEnd>
+    requires file { (drafted draft.old).refs.file ≡ source.now.file.now }
+    requires head { IsHeadOf source.now.file.now source.now.head.now }
+    requires nets { nets.old ≡ [] }
+    requires nodes { tables.old.nodes.items ≡ [] }
+    requires rows { rows_of tables.old.elements ≡ no_rows }
+    requires ends { tables.old.ends.items ≡ [] }
+    ensures ok { OnOk result (AreNets (corners_of C.COUNT C.number_of C.member_of source.now.pick) source.now.file.now source.now.head.now
+        (nets_in source.now.file.now C.COUNT nets.new tables.new)) }
+    ensures held { OnOk result (HoldNets source.now.file.now source.now.head.now C.COUNT nets.new tables.new) }
+    ensures count { OnOk result (length nets.new ≡ length source.now.file.now.reading.sections) }
+    ensures refused { IfErr result (IsSectionEnd source.now.file.now source.now.head.now) }
+    ensures faultless { OnOk result (AreFaultless source.now.file.now source.now.head.now) }
+{
     for _ in 0..source.file.section_count() {
-        push_next::<C>(source, nets, tables, &mut draft, &mut joints)?;
+        push_next::<C>(source, nets, tables, draft, joints)?;
     }
     Ok(())
 }

@@ -1,6 +1,5 @@
 //! The nets of a file.
 ghost use Rattle.std.specs.Prelude.{◌≡◌, ◌<◌, ℕ, length, map, slice_get, All, Some, Contains, IfSome, IfNone};
-ghost use Rattle.name_table.specs.Names.{AreDistinct};
 ghost use Rattle.spef_nets.specs.NetElements.{NetElements, AreWhole, net_names};
 
 use crate::net::Net;
@@ -86,13 +85,6 @@ impl<'r, 'f, C: CornerSet> Sections<'r, 'f, C> {
         } else {
             self.find(net)
         }
-    }
-
-    /// No two nets have one name. It does nothing when it is called.
-    pub fn distinct(&self)
-        ensures { AreDistinct (net_names self.now) }
-    {
-        self.nets.distinct();
     }
 
     /// Each net is whole. It does nothing when it is called.

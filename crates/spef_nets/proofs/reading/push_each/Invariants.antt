@@ -2,7 +2,7 @@ use Rattle.std.specs.Prelude.{◌≡◌}
 use Rattle.spef_nets.specs.DraftOf.{drafted}
 use Rattle.spef_nets.specs.Drafts.{corners_of}
 use Rattle.spef_nets.proofs.ReadingLemmas.{AreRead}
-use Rattle.spef_nets.proofs.reading.push_all.Given as goal
+use Rattle.spef_nets.proofs.reading.push_each.Given as goal
 
 abbrev pub invariant-loop : goal.invariant-loop
 invariant-loop g l =

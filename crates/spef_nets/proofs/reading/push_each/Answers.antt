@@ -1,12 +1,12 @@
 use Rattle.std.proofs.Common.{◌≡◌, length, arith}
 use Rattle.spef_nets.specs.Drafts.{corners_of}
 use Rattle.spef_nets.proofs.ReadingLemmas.{no_nets, one_more, all_nets, all_faultless}
-use Rattle.spef_nets.proofs.reading.push_all.Goals as goal
+use Rattle.spef_nets.proofs.reading.push_each.Goals as goal
 
 pub loop-init : goal.loop-init
 loop-init g c = (
   no_nets (corners_of g.C.CornerSet.COUNT g.C.CornerSet.number_of g.C.CornerSet.member_of c.args.source.now.pick) c.args.source.now.file.now c.args.source.now.head.now c.requires.head c.args.nets.now c.args.tables.now c.requires.nets c.requires.nodes c.requires.rows c.requires.ends,
-  c.new-draft.ensures,
+  c.requires.file,
 )
 
 pub loop-preserved : goal.loop-preserved
