@@ -19,12 +19,15 @@ pub fn is_other(text: &[u8]) -> bool
     !is_broken(text) && !is_top_text(text)
 }
 
+// A keyword of the file's head, or `*D_NET`, or one that is refused there.
 fn is_top_text(text: &[u8]) -> bool
     ensures { result ≡ holds_of is_top (word_of text.now) }
 {
     match word_of(text) {
         None => false,
-        Some(word) => word.is_top(),
+        Some(Word::Induc | Word::Load | Word::Port | Word::Internal | Word::Node) => false,
+        Some(Word::Conn | Word::Cap | Word::Res | Word::End | Word::Confidence) => false,
+        Some(_) => true,
     }
 }
 
@@ -44,13 +47,11 @@ pub fn is_loose_as(text: &[u8], word: Option<Word>) -> bool
     !is_broken(text) && !is_tight_word(word)
 }
 
+// A keyword that ends what stands loose in a connection.
 fn is_tight_word(word: Option<Word>) -> bool
     ensures { result ≡ holds_of is_tight word }
 {
-    match word {
-        None => false,
-        Some(word) => word.is_tight(),
-    }
+    !matches!(word, None | Some(Word::Confidence))
 }
 
 /// A byte from 33 to 126 that is no letter, digit, `_`, `"`, `*` or backslash.

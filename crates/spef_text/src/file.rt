@@ -1,5 +1,5 @@
 //! A SPEF file that has been read.
-ghost use Rattle.std.specs.Prelude.{◌≡◌, ◌-◌, ◌^◌, ◌<◌, ◌≤◌, length, slice_get, Some};
+ghost use Rattle.std.specs.Prelude.{◌≡◌, ◌^◌, ◌<◌, ◌≤◌, length, slice_get, Some};
 ghost use Rattle.spef_text.specs.Starts.{texts, short_lens};
 ghost use Rattle.spef_text.specs.Entries.{section_at};
 ghost use Rattle.spef_text.specs.SpefFiles.{SpefText, IsFormed, IsKept};
@@ -7,7 +7,6 @@ ghost use Rattle.spef_text.specs.SpefFiles.{SpefText, IsFormed, IsKept};
 use crate::entries::{Cap, Conn, Res};
 use crate::head_items::HeadItems;
 use crate::sections::Sections;
-use crate::starts::token_at;
 use std::marker::Model;
 
 /// A SPEF file: its tokens, and what they say by the grammar. Contracts see the texts of the tokens, and the reading.
@@ -35,19 +34,6 @@ impl<'a> Model for SpefFile<'a> {
 }
 
 impl<'a> SpefFile<'a> {
-    /// The text of a token. Tokens count from 1.
-    pub fn token(&self, t: u64) -> &[u8]
-        requires first { 0 < t }
-        requires last { t ≤ length self.now.texts }
-        ensures { slice_get self.now.texts (t - 1) ≡ Some result.now }
-    {
-        token_at(
-            self.bytes,
-            self.starts[t as usize - 1],
-            self.lens[t as usize - 1],
-        )
-    }
-
     /// The law of files, which its contract states: a file says what its tokens say by the grammar, has fewer than 2^30 of them,
     /// and no more sections. It does nothing when it is called.
     pub fn formed(&self)

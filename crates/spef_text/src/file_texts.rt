@@ -6,7 +6,7 @@ use crate::file::SpefFile;
 use crate::starts::token_at;
 
 impl<'a> SpefFile<'a> {
-    /// The text of a token, as `token` gives it, or nothing where the file has no such token. Tokens count from 1.
+    /// The text of a token, or nothing where the file has no such token. Tokens count from 1.
     pub fn text_of(&self, number: u64) -> &[u8]
         ensures { result.now ≡ text_of self.now number }
     {

@@ -1,7 +1,7 @@
 //! What the reader waits for, and what each token does.
 ghost use Rattle.std.specs.Prelude.{◌≡◌, ℕ, true, false, if◌then◌else◌, slice_index, IfSome};
 ghost use Rattle.spef_text.specs.Classes.{is_tight, holds_of};
-ghost use Rattle.spef_text.specs.Modes.{start_step, top_step, sections_step, total_step, confident_step, conns_step, left_step, tail_step, caps_step, ress_step, next_mode, may_end};
+ghost use Rattle.spef_text.specs.Modes.{start_step, top_step, sections_step, total_step, confident_step, conns_step, left_step, tail_step, next_mode, may_end};
 
 use crate::classes::{
     is_direction, is_id, is_index, is_loose, is_map_name, is_mark, is_other, is_ref, is_two_marks,
@@ -248,27 +248,6 @@ pub(crate) fn tail_step(conn: ConnAt, word: Option<Word>, loose: bool) -> Step
     }
 }
 
-/// What a keyword does where a capacitance may begin.
-fn caps_step(word: Option<Word>) -> Step
-    ensures { result ≡ caps_step word }
-{
-    match word {
-        Some(Word::Res) => Step::Go(Mode::Ress),
-        Some(Word::End) => Step::Close(None),
-        _ => Step::Refuse,
-    }
-}
-
-/// What a keyword does where a resistance may begin.
-fn ress_step(word: Option<Word>) -> Step
-    ensures { result ≡ ress_step word }
-{
-    match word {
-        Some(Word::End) => Step::Close(None),
-        _ => Step::Refuse,
-    }
-}
-
 /// The first byte of a text, and the second, or 0.
 fn first_byte(text: &[u8]) -> u8
     ensures { result ≡ slice_index text.now 0 }
@@ -472,9 +451,12 @@ pub(crate) fn cap_id_step(text: &[u8]) -> Step
     ensures { (mark number : ℕ) → result ≡ next_mode Mode.Caps mark number text.now }
 {
     if is_id(text) {
-        Step::Go(Mode::CapFirst)
-    } else {
-        caps_step(word_of(text))
+        return Step::Go(Mode::CapFirst);
+    }
+    match word_of(text) {
+        Some(Word::Res) => Step::Go(Mode::Ress),
+        Some(Word::End) => Step::Close(None),
+        _ => Step::Refuse,
     }
 }
 
@@ -483,9 +465,11 @@ pub(crate) fn res_id_step(text: &[u8]) -> Step
     ensures { (mark number : ℕ) → result ≡ next_mode Mode.Ress mark number text.now }
 {
     if is_id(text) {
-        Step::Go(Mode::ResFirst)
-    } else {
-        ress_step(word_of(text))
+        return Step::Go(Mode::ResFirst);
+    }
+    match word_of(text) {
+        Some(Word::End) => Step::Close(None),
+        _ => Step::Refuse,
     }
 }
 

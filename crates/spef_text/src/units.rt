@@ -22,38 +22,30 @@ fn same_word(one: &[u8], other: &[u8]) -> bool
     one.eq_ignore_ascii_case(other)
 }
 
-fn cap_power(word: &[u8]) -> Option<i32>
-    ensures { result ≡ power_of Quantity.Capacitance word.now }
-{
-    if same_word(word, b"FF") {
-        Some(Farads::FEMTOFARAD_POWER)
-    } else if same_word(word, b"PF") {
-        Some(Farads::PICOFARAD_POWER)
-    } else {
-        None
-    }
-}
-
-fn res_power(word: &[u8]) -> Option<i32>
-    ensures { result ≡ power_of Quantity.Resistance word.now }
-{
-    if same_word(word, b"OHM") {
-        Some(Ohms::OHM_POWER)
-    } else if same_word(word, b"KOHM") {
-        Some(Ohms::KILOOHM_POWER)
-    } else {
-        None
-    }
-}
-
 impl Quantity {
     // The power of ten that a word stands for, in any case of letters.
     fn power_of(self, word: &[u8]) -> Option<i32>
         ensures { result ≡ power_of self word.now }
     {
         match self {
-            Quantity::Capacitance => cap_power(word),
-            Quantity::Resistance => res_power(word),
+            Quantity::Capacitance => {
+                if same_word(word, b"FF") {
+                    Some(Farads::FEMTOFARAD_POWER)
+                } else if same_word(word, b"PF") {
+                    Some(Farads::PICOFARAD_POWER)
+                } else {
+                    None
+                }
+            }
+            Quantity::Resistance => {
+                if same_word(word, b"OHM") {
+                    Some(Ohms::OHM_POWER)
+                } else if same_word(word, b"KOHM") {
+                    Some(Ohms::KILOOHM_POWER)
+                } else {
+                    None
+                }
+            }
         }
     }
 

@@ -1,6 +1,6 @@
 //! The keywords of SPEF.
 ghost use Rattle.std.specs.Prelude.{◌≡◌, map, None, if◌then◌else◌, IfSome, Some};
-ghost use Rattle.spef_text.specs.Classes.{word_of, keywords, lookup, is_top, is_tight, lone_word, sifted_word};
+ghost use Rattle.spef_text.specs.Classes.{word_of, keywords, lookup, lone_word, sifted_word};
 
 use edge_io::are_equal;
 
@@ -175,24 +175,4 @@ pub fn word_of(text: &[u8]) -> Option<Word>
     ensures { result ≡ word_of text.now }
 {
     sifted_word(text)
-}
-
-impl Word {
-    /// A keyword of the file's head, or `*D_NET`, or one that is refused there.
-    pub fn is_top(self) -> bool
-        ensures { result ≡ is_top self }
-    {
-        match self {
-            Word::Induc | Word::Load | Word::Port | Word::Internal | Word::Node => false,
-            Word::Conn | Word::Cap | Word::Res | Word::End | Word::Confidence => false,
-            _ => true,
-        }
-    }
-
-    /// A keyword that ends what stands loose in a connection.
-    pub fn is_tight(self) -> bool
-        ensures { result ≡ is_tight self }
-    {
-        !matches!(self, Word::Confidence)
-    }
 }
