@@ -161,8 +161,7 @@ fn keep_path<C: CornerSet>(
     ensures cells { Extends (length names.new) cells.old.items cells.new.items }
     ensures times { ExtendsTimes times.old.items times.new.items }
 {
-    let rise = keep_edge(times, rise)?;
-    let fall = keep_edge(times, fall)?;
+    let edges = keep_edges(times, rise, fall)?;
     let from = keep_again(names, before.0, row.from)?;
     let to = keep_again(names, before.1, row.to)?;
     let cell = keep_cell(names, cells, row.cell, row.instance)?;
@@ -170,9 +169,26 @@ fn keep_path<C: CornerSet>(
         cell,
         from,
         to,
-        rise,
-        fall,
+        rise: edges.0,
+        fall: edges.1,
     })
+}
+
+// Keeps the times of both edges.
+fn keep_edges<C: CornerSet>(
+    times: &mut Vec<Femto>,
+    rise: Option<&Grid<C, Femto>>,
+    fall: Option<&Grid<C, Femto>>,
+) -> Result<(Option<usize>, Option<usize>), OutOfMemory>
+    requires rise { IsEdge C.COUNT (edge_times rise) }
+    requires fall { IsEdge C.COUNT (edge_times fall) }
+    ensures rise { IfOk result (λ places. KeepsEdge C.COUNT times.new.items (edge_times rise.entry) places.0) }
+    ensures fall { IfOk result (λ places. KeepsEdge C.COUNT times.new.items (edge_times fall.entry) places.1) }
+    ensures times { ExtendsTimes times.old.items times.new.items }
+{
+    let rise = keep_edge(times, rise)?;
+    let fall = keep_edge(times, fall)?;
+    Ok((rise, fall))
 }
 
 // Keeps the times of an edge.
