@@ -36,11 +36,7 @@ pub(crate) fn run(
     let Fan { last, previous } = fan_of(alloc, targets, nodes)?;
     let order = free_nodes(alloc, &last)?;
     let mut progress = Progress { order, waits: last };
-    for head in 0..nodes {
-        if head < progress.order.len() {
-            pass_all(head, sources, targets, &outgoing, &previous, &mut progress)?;
-        }
-    }
+    pass_nodes(nodes, sources, targets, &outgoing, &previous, &mut progress)?;
     Ok(progress)
 }
 
@@ -55,6 +51,32 @@ fn free_nodes(alloc: Global, waits: &[Option<usize>]) -> Result<Vec<usize>, OutO
         }
     }
     Ok(order)
+}
+
+// Passes all links from each node of the order, which grows on the way.
+fn pass_nodes(
+    nodes: usize,
+    sources: &[usize],
+    targets: &[usize],
+    outgoing: &Fan,
+    previous: &[Option<usize>],
+    progress: &mut Progress,
+) -> Result<(), OutOfMemory>
+    requires same { length targets.now ≡ length sources.now }
+    requires sources { All (λ node. node < nodes) sources.now }
+    requires targets { All (λ node. node < nodes) targets.now }
+    requires outgoing { IsFan sources.now nodes outgoing.now.last.items outgoing.now.previous.items }
+    requires previous { ArePrevious targets.now previous.now }
+    requires waiting { IsWaiting nodes sources.now targets.now progress.old.order.items progress.old.waits.items }
+    ensures waiting { OnOk result (IsWaiting nodes sources.now targets.now progress.new.order.items progress.new.waits.items) }
+    ensures stuck { OnOk result (AreStuck nodes sources.now targets.now progress.new.waits.items) }
+{
+    for head in 0..nodes {
+        if head < progress.order.len() {
+            pass_all(head, sources, targets, outgoing, previous, progress)?;
+        }
+    }
+    Ok(())
 }
 
 // Passes all links from the node at a place of the order.

@@ -1,6 +1,6 @@
 use Rattle.std.proofs.Common.{arith}
 use Rattle.graph_order.proofs.Waiting.{stuck_end}
-use Rattle.graph_order.proofs.progress.run.Goals as goal
+use Rattle.graph_order.proofs.progress.pass_nodes.Goals as goal
 
 -- src/progress.rt
 pub returns-clause-stuck : goal.returns-clause-stuck

@@ -1,5 +1,5 @@
 use Rattle.graph_order.specs.Progress.{IsWaiting, ArePassed}
-use Rattle.graph_order.proofs.progress.run.Given as goal
+use Rattle.graph_order.proofs.progress.pass_nodes.Given as goal
 
 abbrev pub invariant-loop-head : goal.invariant-loop-head
 invariant-loop-head l = record {
