@@ -41,8 +41,8 @@ impl EdgeStates {
 }
 
 impl FlatArc {
-    // Whether the output pin has an edge by this arc.
-    pub(crate) fn has(&self, edge: Edge) -> bool
+    /// Whether the output pin has an edge by this arc.
+    pub fn has(&self, edge: Edge) -> bool
         ensures { result ≡ has_edge self.now edge }
     {
         match edge {

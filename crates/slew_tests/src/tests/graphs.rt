@@ -83,7 +83,7 @@ fn cycles_begin_at_their_least_node(rt: HostRuntime) -> Result<(), Fail> {
         (twice.as_slice(), [1, 2].as_slice()),
     ] {
         let cycle = answer_of(alloc, 5, links)?.err().ok_or("a cycle")?;
-        assert_eq!(rt; cycle.as_slice(), want);
+        assert!(rt; cycle.as_slice() == want);
     }
     Ok(())
 }
@@ -103,7 +103,7 @@ fn a_chain_of_many_nodes_is_ordered(rt: HostRuntime) -> Result<(), Fail> {
 #[test]
 fn chains_go_back_from_the_last_link(rt: HostRuntime) -> Result<(), Fail> {
     let fan = fan_of(rt.alloc(), &[1, 0, 1], 3)?;
-    assert_eq!(rt; fan.last.as_slice(), [Some(1), Some(2), None].as_slice());
-    assert_eq!(rt; fan.previous.as_slice(), [None, None, Some(0)].as_slice());
+    assert!(rt; fan.last.as_slice() == [Some(1), Some(2), None].as_slice());
+    assert!(rt; fan.previous.as_slice() == [None, None, Some(0)].as_slice());
     Ok(())
 }
