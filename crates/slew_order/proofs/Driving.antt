@@ -1,9 +1,9 @@
 -- A sink of a net is not its driver: the one is an input, and the other an output.
 use Rattle.std.proofs.Common.{◌≡◌, ℕ, suc, ◌+◌, ◌<◌, ◌∙◌, ap, sym, refl, subst, Bool, true, false, not, ◌==◌, if◌then◌else◌, List, [], ◌∷◌, length, filter, get_or, slice_get, Option, Some, None, arith}
 use Rattle.std.specs.Prelude.{All, option_to_list, ⊤}
-use Rattle.std.proofs.lemmas.Bool.{cond_both, and_parts, eqb-true}
+use Rattle.std.proofs.lemmas.Bool.{cond_both, and_parts, eqb-true, false≢true}
 use Rattle.std.proofs.lemmas.List.Elements.{All-nil, All-cons, All-append, All-head, All-filter, All-map, All-get_or}
-use Rattle.std.proofs.lemmas.Option.{get_or_from_slice_get, slice_get-get_or}
+use Rattle.std.proofs.lemmas.Option.{get_or_from_slice_get, slice_get-get_or, same_Some}
 use Rattle.cell_models.specs.NamedSets.{NamedCells}
 use Rattle.cell_models.specs.declared.cell.Direction.{Direction}
 use Rattle.cell_models.specs.declared.cell.Direction.TheVariants.{Input, Output, Inout, Internal}
@@ -73,22 +73,22 @@ module _ (cells : List NamedCells) (netlist : FlatNetlist) (test : Direction →
 
   -- the pin that an end is passes
   that_pin : (i p : ℕ) (at : End) → is_pin i p at ≡ true → Holds at → Passes i p
-  that_pin i p (end.Port _) is holds = cc
+  that_pin i p (end.Port _) is holds = absurd (false≢true is)
   that_pin i p (end.Pin this at) is holds =
       let both = and_parts (this == i) (at == p) is in
       subst (λ k. Passes i k) (eqb-true at p both.1) (subst (λ j. Passes j at) (eqb-true this i both.0) holds)
 
 not_both : (direction : Direction) → is_input_pin direction ≡ true → is_output_pin direction ≡ true → ⊥
-not_both Input one other = cc
-not_both Output one other = cc
-not_both Inout one other = cc
-not_both Internal one other = cc
+not_both Input one other = false≢true other
+not_both Output one other = false≢true one
+not_both Inout one other = false≢true one
+not_both Internal one other = false≢true one
 
 -- a pin is not both an input and an output
 not_pin : (cells : List NamedCells) (netlist : FlatNetlist) (i p : ℕ) → Passes cells netlist is_input_pin i p → Passes cells netlist is_output_pin i p → ⊥
 not_pin cells netlist i p one other =
     let same : Some one.pin ≡ Some other.pin = sym one.here ∙ other.here in
-    let pins : one.pin ≡ other.pin = cc in
+    let pins = same_Some one.pin other.pin same in
     not_both other.pin.direction (ap (λ p. is_input_pin p.direction) (sym pins) ∙ one.pass) other.pass
 
 module _ (cells : List NamedCells) (netlist : FlatNetlist) (linked : IsLinked cells netlist) (net : ℕ) (within : net < length netlist.nets) where

@@ -5,7 +5,7 @@ use Rattle.std.specs.Option.{option_map_or}
 use Rattle.std.proofs.lemmas.Bool.{cases_lt}
 use Rattle.std.proofs.lemmas.List.{get_or_past, get_or-map, length-map}
 use Rattle.std.proofs.lemmas.List.Elements.{All-nil, All-cons, All-head, All-get_or}
-use Rattle.std.proofs.lemmas.Option.{slice_get-get_or, slice_get_within, get_or_from_slice_get}
+use Rattle.std.proofs.lemmas.Option.{slice_get-get_or, slice_get_within, get_or_from_slice_get, none-some}
 use Rattle.cell_models.specs.NamedSets.{NamedCells, set_cells}
 use Rattle.cell_models.specs.Cells.{TimedCell, HasDirection, IsArcOf, IsCell}
 use Rattle.cell_models.specs.declared.cell.Direction.TheVariants.{Input}
@@ -43,12 +43,12 @@ module _ (cells : List NamedCells) (netlist : FlatNetlist) (linked : IsLinked ce
     | inl within ↦ elim (cases_lt pin (length (instance_at netlist i).nets)) [
       | inl has ↦ linked.nets i pin net (instance_at netlist i) (slice_get-get_or netlist.instances i no_instance within)
           (slice_get-get_or (instance_at netlist i).nets pin None has ∙ ap Some on)
-      | inr past ↦ absurd (let none = get_or_past (instance_at netlist i).nets pin None past in cc)
+      | inr past ↦ absurd (none-some net (sym (get_or_past (instance_at netlist i).nets pin None past) ∙ on))
     ]
     | inr past ↦ absurd (
         let none : instance_at netlist i ≡ no_instance = get_or_past netlist.instances i no_instance past in
         let empty : net_on netlist i pin ≡ None = ap (λ instance. get_or instance.nets pin None) none in
-        cc)
+        none-some net (sym empty ∙ on))
   ]
 
   -- the nets of flat arcs are nets
@@ -80,7 +80,7 @@ nets_there cells netlist linked arcs flat is = subst (HaveNets (length netlist.n
 -- an arc has at each corner what it has at the first, but for its tables
 entry_there : (models : List TimedCell) (count corner i : ℕ) (arc : Arc) (cell : TimedCell) → AreCornerCells count models → slice_get models corner ≡ Some cell
     → slice_get cell.arcs i ≡ Some arc → arc_entry arc ≡ arc_entry (get_or (arcs_at models 0) i no_arc)
-entry_there [] count corner i arc cell whole here at = cc
+entry_there [] count corner i arc cell whole here at = absurd (none-some cell here)
 entry_there (first ∷ models) count corner i arc cell whole here at =
     let same = same_arcs cell first (shape_there (first ∷ models) corner cell here whole.shaped) in
     let within = slice_get_within cell.arcs i arc at in
@@ -96,7 +96,7 @@ same_entry models count corner i arc whole at = by (slice_get models corner) ref
   where
     by : (found : Option TimedCell) → slice_get models corner ≡ found → slice_get (option_map_or (λ cell. cell.arcs) found []) i ≡ Some arc
         → arc_entry arc ≡ arc_entry (get_or (arcs_at models 0) i no_arc)
-    by None here at = cc
+    by None here at = absurd (none-some arc at)
     by (Some cell) here at = entry_there models count corner i arc cell whole here at
 
 -- arcs of one entry are one flat arc

@@ -1,7 +1,7 @@
 -- The function is what a lookup answers, and nothing else is.
-use Rattle.std.proofs.Common.{◌≡◌, ℕ, ◌≤◌, false, ◌&&◌, nat_lt, nat_le, sym, refl, subst, Option, None, Result, ℤ, pos, ◌+ℤ◌, ◌*ℤ◌, ◌≤ℤ◌, unsigned_abs, inl, inr, arith}
+use Rattle.std.proofs.Common.{◌≡◌, ℕ, ◌≤◌, Bool, true, false, ◌&&◌, nat_lt, nat_le, sym, refl, ap, subst, Option, None, Result, ℤ, pos, ◌+ℤ◌, ◌*ℤ◌, ◌≤ℤ◌, unsigned_abs, inl, inr, arith}
 use Rattle.std.proofs.lemmas.Int.{ints}
-use Rattle.std.proofs.lemmas.Bool.{cond_both, and_parts, and_cases, leb-true, leb-false, ltb-true, ltb-false}
+use Rattle.std.proofs.lemmas.Bool.{cond_both, and_parts, and_cases, leb-true, leb-false, ltb-true, ltb-false, false≢true}
 use Rattle.delay_units.specs.Rounding.{IsRounding}
 use Rattle.delay_units.proofs.RoundingLemmas.{division, rest_in_range, rounding_from}
 use Rattle.nldm_lookup.specs.Axes.{most}
@@ -19,6 +19,15 @@ use Rattle.nldm_lookup.proofs.Scaling.{scale_sum, product_some}
 use Rattle.nldm_lookup.proofs.Sizes.{weighed_small}
 use Rattle.slew_order.specs.Lookups.{half_up, is_passed, between_on, quotient_of, value_of, axis_end, answer_of, lookup_of, LookupFunction}
 use Rattle.slew_order.proofs.BetweenPoints.{passed_where_true, within_where_false, between_is}
+
+-- answers past an axis are told apart
+abbrev is_refuse : Beyond → Bool
+is_refuse Refuse = true
+is_refuse _ = false
+
+abbrev is_extend : Beyond → Bool
+is_extend Extend = true
+is_extend _ = false
 
 -- a half more, rounded down, is rounded half up: 2n + d is v times 2d, and a rest that is less than 2d
 half_up_rounds : (n d : ℤ) → pos 1 ≤ℤ d → IsRounding n d (half_up n d)
@@ -66,7 +75,7 @@ module _ (table : TimingTable) (slew load : ℕ) (grain : Grain) where
       (λ slew_is. cond_both (is_passed table.load load) _ _ (Answers Refuse)
       (λ is. load_outside (within_where_false table.slew slew slew_is) (passed_where_true table.load load is))
       (λ load_is. value_is Refuse whole (λ _. within_where_false table.slew slew slew_is) (λ _. within_where_false table.load load load_is)
-      (λ other. absurd (cc))))
+      (λ other. absurd (false≢true (ap is_extend other)))))
 
   extends : IsTable table → Answers Extend (axis_end table slew load Extend)
   extends whole =
@@ -74,11 +83,11 @@ module _ (table : TimingTable) (slew load : ℕ) (grain : Grain) where
       (λ is.
       let both = and_parts (is_passed table.load load) (nat_lt most load) is in
       far_load (far (passed_where_true table.load load both.0) (ltb-true most load both.1)))
-      (λ is. value_is Extend whole (λ other. absurd (cc)) (λ other. absurd (cc)) (λ _. near_where_false is))
+      (λ is. value_is Extend whole (λ other. absurd (false≢true (ap is_refuse other))) (λ other. absurd (false≢true (ap is_refuse other))) (λ _. near_where_false is))
 
   answers : (beyond : Beyond) → IsTable table → Answers beyond (axis_end table slew load beyond)
   answers Refuse whole = refuses whole
-  answers Edge whole = value_is Edge whole (λ other. absurd (cc)) (λ other. absurd (cc)) (λ other. absurd (cc))
+  answers Edge whole = value_is Edge whole (λ other. absurd (false≢true (ap is_refuse other))) (λ other. absurd (false≢true (ap is_refuse other))) (λ other. absurd (false≢true (ap is_extend other)))
   answers Extend whole = extends whole
 
   -- the function is an answer

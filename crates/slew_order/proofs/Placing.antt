@@ -1,5 +1,6 @@
 -- The table of which sink of its net each pin is, by one sink more.
 use Rattle.std.proofs.Common.{◌≡◌, ◌≢◌, ℕ, suc, ◌+◌, ◌<◌, ◌∙◌, ap, sym, refl, subst, true, false, if◌then◌else◌, List, [], ◌∷◌, length, length-set, drop, get_or, set, get_or-set_same, get_or-set_other, replicate, Some, None, inl, inr, ◌⊎◌, arith}
+use Rattle.std.proofs.lemmas.Option.{none-some, same_Some}
 use Rattle.std.proofs.lemmas.Bool.{cases_lt, cases_eq}
 use Rattle.std.proofs.Math.Seq.{drop-cons}
 use Rattle.std.proofs.lemmas.List.{get_or_past, length-replicate}
@@ -19,12 +20,12 @@ pub on_within : (netlist : FlatNetlist) (i pin net : ℕ) → net_on netlist i p
 on_within netlist i pin net on = elim (cases_lt i (length netlist.instances)) [
   | inl within ↦ elim (cases_lt pin (length (instance_at netlist i).nets)) [
     | inl has ↦ (within, has)
-    | inr past ↦ absurd (let none = get_or_past (instance_at netlist i).nets pin None past in cc)
+    | inr past ↦ absurd (none-some net (sym (get_or_past (instance_at netlist i).nets pin None past) ∙ on))
   ]
   | inr past ↦ absurd (
       let none : instance_at netlist i ≡ no_instance = get_or_past netlist.instances i no_instance past in
       let empty : net_on netlist i pin ≡ None = ap (λ instance. get_or instance.nets pin None) none in
-      cc)
+      none-some net (sym empty ∙ on))
 ]
 
 -- another sink than the pin
@@ -110,7 +111,7 @@ module _ (netlist : FlatNetlist) (starts : List ℕ) (are : ArePinStarts netlist
             let apart : start_in starts i' + pin' ≢ row = λ same.
             (let one = own_place i pin net i' pin' other on on' same in
             let nets : net_on netlist i' pin' ≡ net_on netlist i pin = ap (λ k. net_on netlist k pin') one.0 ∙ ap (λ k. net_on netlist i k) one.1 in
-            let both : other ≡ net = cc in
+            let both : other ≡ net = same_Some other net (sym on' ∙ nets ∙ on) in
             absurd (omega (arith, below, both))) in
             get_or-set_other places row (start_in starts i' + pin') sink 0 apart ∙ held.before i' pin' other below on' has;
         here = λ i' pin' on'. elim (same_or_apart i pin i' pin') [

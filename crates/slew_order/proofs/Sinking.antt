@@ -1,9 +1,10 @@
 -- An input pin of a cell on a net is one of the sinks of the net.
 use Rattle.std.proofs.Common.{◌≡◌, ℕ, zero, suc, ◌+◌, ◌<◌, ◌∙◌, ap, sym, refl, subst, Bool, true, false, ◌==◌, if◌then◌else◌, List, [], ◌∷◌, ◌++◌, length, map, filter, get_or, slice_get, take, Option, Some, None, arith}
+use Rattle.std.proofs.lemmas.Bool.{true≢false, false≢true}
 use Rattle.std.specs.Prelude.{All}
 use Rattle.std.proofs.lemmas.List.{take_more, map-append}
 use Rattle.std.proofs.lemmas.List.Elements.{All-nil, All-cons, All-append}
-use Rattle.std.proofs.lemmas.Option.{slice_get-get_or}
+use Rattle.std.proofs.lemmas.Option.{slice_get-get_or, none-some, same_Some}
 use Rattle.cell_models.specs.NamedSets.{NamedCells}
 use Rattle.cell_models.specs.Cells.{HasDirection}
 use Rattle.cell_models.specs.declared.cell.Direction.TheVariants.{Input}
@@ -28,7 +29,7 @@ step_has true p n below = omega arith
 step_has false p n below = omega (arith, below refl)
 
 tail_has : (b : Bool) (p n : ℕ) → (if b then 0 else suc p) < suc n → b ≡ false → p < n
-tail_has true p n below off = cc
+tail_has true p n below off = absurd (true≢false off)
 tail_has false p n below off = omega (arith, below)
 
 has_left : (i pin : ℕ) (xs ys : List End) → Has i pin xs → Has i pin (xs ++ ys)
@@ -44,7 +45,7 @@ self_pin : (i pin : ℕ) → is_pin i pin (end.Pin i pin) ≡ true
 self_pin i pin = grind arith
 
 has_self : (i pin : ℕ) (xs : List End) → Has i pin (end.Pin i pin ∷ xs)
-has_self i pin xs = step_has (is_pin i pin (end.Pin i pin)) (pin_place i pin xs) (length xs) (λ off. absurd (let self = self_pin i pin in cc))
+has_self i pin xs = step_has (is_pin i pin (end.Pin i pin)) (pin_place i pin xs) (length xs) (λ off. absurd (true≢false (sym (self_pin i pin) ∙ off)))
 
 ends_join : (n : ℕ) (xs ys : List EndOn) → ends_on n (xs ++ ys) ≡ ends_on n xs ++ ends_on n ys
 ends_join n [] ys = refl
@@ -61,7 +62,7 @@ on_itself i pin n = by (n == n) (grind arith)
   where
     by : (b : Bool) → b ≡ true → map (λ (e : EndOn). e.at) (if b then record { net = n; at = end.Pin i pin } ∷ [] else []) ≡ end.Pin i pin ∷ []
     by true is = refl
-    by false is = cc
+    by false is = absurd (false≢true is)
 
 module _ (n : ℕ) where
   pass_pin : (i pin : ℕ) (b : Bool) (head rest : List EndOn) → Has i pin (ends_on n rest) → Has i pin (ends_on n (if b then head ++ rest else rest))
@@ -71,15 +72,15 @@ module _ (n : ℕ) where
   this_pin : (i pin : ℕ) (b : Bool) (rest : List EndOn) → b ≡ true → Has i pin (ends_on n (if b then end_at i pin (Some n) ++ rest else rest))
   this_pin i pin true rest is = subst (Has i pin) (sym (ends_join n (end_at i pin (Some n)) rest ∙ ap (λ list. list ++ ends_on n rest) (on_itself i pin n)))
       (has_self i pin (ends_on n rest))
-  this_pin i pin false rest is = cc
+  this_pin i pin false rest is = absurd (false≢true is)
 
   sunk_pin : (i from : ℕ) (pins : List Pin) (nets : List (Option ℕ)) (k : ℕ) (pin : Pin) → slice_get pins k ≡ Some pin → pin.direction ≡ Input
       → slice_get nets k ≡ Some (Some n) → Has i (from + k) (ends_on n (pin_ends is_input_pin i from pins nets))
-  sunk_pin i from [] nets k pin here input on = cc
-  sunk_pin i from (first ∷ pins) [] k pin here input on = cc
+  sunk_pin i from [] nets k pin here input on = absurd (none-some pin here)
+  sunk_pin i from (first ∷ pins) [] k pin here input on = absurd (none-some (Some n) on)
   sunk_pin i from (first ∷ pins) (net ∷ nets) zero pin here input on =
-      let is_first : first ≡ pin = cc in
-      let is_net : net ≡ Some n = cc in
+      let is_first : first ≡ pin = same_Some first pin here in
+      let is_net : net ≡ Some n = same_Some net (Some n) on in
       let taken : is_input_pin first.direction ≡ true = ap is_input_pin (ap (λ p. p.direction) is_first ∙ input) in
       let at : from ≡ from + zero = omega arith in
       subst (λ f. Has i f (ends_on n (pin_ends is_input_pin i from (first ∷ pins) (net ∷ nets)))) at
@@ -94,9 +95,9 @@ module _ (n : ℕ) where
   sunk_instance : (cells : List NamedCells) (from : ℕ) (instances : List FlatInstance) (i k : ℕ) (instance : FlatInstance) (pin : Pin)
       → slice_get instances i ≡ Some instance → slice_get (pins_of cells instance.cell) k ≡ Some pin → pin.direction ≡ Input
       → slice_get instance.nets k ≡ Some (Some n) → Has (from + i) k (ends_on n (instance_ends cells is_input_pin from instances))
-  sunk_instance cells from [] i k instance pin there here input on = cc
+  sunk_instance cells from [] i k instance pin there here input on = absurd (none-some instance there)
   sunk_instance cells from (first ∷ instances) zero k instance pin there here input on =
-      let same : first ≡ instance = cc in
+      let same : first ≡ instance = same_Some first instance there in
       let at : from ≡ from + zero = omega arith in
       let one = pin_ends is_input_pin from 0 (pins_of cells first.cell) first.nets in
       let rest = instance_ends cells is_input_pin (suc from) instances in

@@ -101,14 +101,7 @@ impl<C: CornerSet> Slews<C> {
             return None;
         };
         let load = loaded.nets.load(net, corner);
-        match look_up(
-            &tables.delay,
-            slew,
-            load,
-            Grain::Femto,
-            self.beyond(),
-            steps,
-        ) {
+        match look_up(&tables.delay, slew, load, Grain::Femto, self.beyond, steps) {
             Ok(delay) => Some(Femto(delay as i128)),
             Err(_) => None,
         }

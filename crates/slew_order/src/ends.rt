@@ -1,6 +1,6 @@
 //! Why a design has no slews.
 
-ghost use Rattle.std.specs.Prelude.{◌≡◌, ◌<◌, ◌↔◌, [], length, slice_get, Some, IsTrue};
+ghost use Rattle.std.specs.Prelude.{◌≡◌, ◌<◌, length, slice_get, Some};
 
 use crate::arcs::ArcAt;
 use cell_models::{Edge, Part};
@@ -12,7 +12,7 @@ use std::marker::Model;
 /// Arcs of instances, one after another. Contracts see the list of them.
 #[derive(Drop)]
 pub struct ArcList {
-    arcs: Vec<ArcAt>,
+    pub(crate) arcs: Vec<ArcAt>,
 }
 
 impl Model for ArcList {
@@ -25,25 +25,11 @@ impl Model for ArcList {
 }
 
 impl ArcList {
-    /// The list of these arcs.
-    pub(crate) fn of(arcs: Vec<ArcAt>) -> ArcList
-        ensures { result ≡ arcs.items }
-    {
-        ArcList { arcs }
-    }
-
     /// How many arcs there are.
     pub fn len(&self) -> usize
         ensures { result ≡ length self.now }
     {
         self.arcs.len()
-    }
-
-    /// Whether there is no arc.
-    pub fn is_empty(&self) -> bool
-        ensures { IsTrue result ↔ (self.now ≡ []) }
-    {
-        self.arcs.is_empty()
     }
 
     /// The arc at a place, from 0.

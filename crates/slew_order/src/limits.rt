@@ -1,5 +1,5 @@
 //! The first slew past the limit behind a wire.
-ghost use Rattle.std.specs.Prelude.{◌≡◌, ◌<◌, ◌≤◌, get_or, length, IfSome, IfNone};
+ghost use Rattle.std.specs.Prelude.{◌≡◌, ◌<◌, ◌≤◌, get_or, length, IfErr, IfSome, IfNone, OnOk};
 ghost use Rattle.netlist_link.specs.FlatNetlist.{net_at};
 ghost use Rattle.netlist_link.specs.declared.ends.End.TheVariants.{Port};
 ghost use Rattle.slew_states.specs.PinState.{most};
@@ -85,28 +85,7 @@ fn limit_of_edge<C: CornerSet>(
     None
 }
 
-// The first of them at a sink that is an input pin, by edge (rise first) and corner.
-fn limit_of_pin<C: CornerSet>(
-    design: &Design<'_, C>,
-    net: usize,
-    sink: usize,
-    corners: &[NetStates],
-) -> Option<Limit>
-    requires net { net < length design.now.netlist.nets }
-    requires sink { sink < length (net_at design.now.netlist net).sinks }
-    requires pin { IsPin (get_or (net_at design.now.netlist net).sinks sink (Port 0)) }
-    requires states { AreNetStates design.now corners.now }
-    ensures here { IfSome result (λ limit. (limit.net ≡ net) × (limit.sink ≡ sink)) }
-    ensures first { IfSome result (λ limit. IsFirstOfSink design.now net sink limit.edge limit.corner limit.slew) }
-    ensures none { IfNone result (NoLimitOf design.now net sink) }
-{
-    if let Some(limit) = limit_of_edge(design, net, sink, Edge::Rise, corners) {
-        return Some(limit);
-    }
-    limit_of_edge(design, net, sink, Edge::Fall, corners)
-}
-
-// The first of them at a sink.
+// The first of them at a sink, which is an input pin then, by edge (rise first) and corner.
 fn limit_of_sink<C: CornerSet>(
     design: &Design<'_, C>,
     net: usize,
@@ -120,10 +99,13 @@ fn limit_of_sink<C: CornerSet>(
     ensures first { IfSome result (λ limit. IsFirstOfSink design.now net sink limit.edge limit.corner limit.slew) }
     ensures none { IfNone result (NoLimitOf design.now net sink) }
 {
-    match design.netlist().sink(net, sink) {
-        End::Port(_) => None,
-        End::Pin { .. } => limit_of_pin(design, net, sink, corners),
+    let End::Pin { .. } = design.netlist().sink(net, sink) else {
+        return None;
+    };
+    if let Some(limit) = limit_of_edge(design, net, sink, Edge::Rise, corners) {
+        return Some(limit);
     }
+    limit_of_edge(design, net, sink, Edge::Fall, corners)
 }
 
 // The first of them on a net, by sink.
@@ -147,11 +129,8 @@ fn limit_of_net<C: CornerSet>(
     None
 }
 
-/// The first slew of a driver that is past the limit behind the wire to an input pin, by net, sink, edge (rise first) and corner.
-pub(crate) fn first_limit<C: CornerSet>(
-    design: &Design<'_, C>,
-    corners: &[NetStates],
-) -> Option<Limit>
+// The first slew of a driver that is past the limit behind the wire to an input pin, by net, sink, edge (rise first) and corner.
+fn first_limit<C: CornerSet>(design: &Design<'_, C>, corners: &[NetStates]) -> Option<Limit>
     requires states { AreNetStates design.now corners.now }
     ensures first { IfSome result (λ limit. IsFirstLimit design.now limit.net limit.sink limit.edge limit.corner limit.slew) }
     ensures small { IfSome result (λ limit. limit.slew ≤ most) }
@@ -165,21 +144,27 @@ pub(crate) fn first_limit<C: CornerSet>(
     None
 }
 
-/// The end of a design by its first slew that is past the limit.
-pub(crate) fn limit_end<C: CornerSet>(design: &Design<'_, C>, limit: Limit) -> SlewEnd
+/// Asks whether a slew is past the limit behind a wire.
+pub(crate) fn ask_limits<C: CornerSet>(
+    design: &Design<'_, C>,
+    corners: &[NetStates],
+) -> Result<(), SlewEnd>
     requires none { HasNoCycle design.now.netlist design.now.cells }
     requires refusals { NoRefusals design.now (length (arcs_in design.now)) }
-    requires first { IsFirstLimit design.now limit.net limit.sink limit.edge limit.corner limit.slew }
-    requires small { limit.slew ≤ most }
-    ensures { IsSlewEnd design.now result }
+    requires states { AreNetStates design.now corners.now }
+    ensures limits { OnOk result (NoLimits design.now (length design.now.netlist.nets)) }
+    ensures end { IfErr result (IsSlewEnd design.now) }
 {
+    let Some(limit) = first_limit(design, corners) else {
+        return Ok(());
+    };
     let elmore = design.elmore(limit.net, limit.sink, design.corner(limit.corner));
-    SlewEnd::SlewLimit {
+    Err(SlewEnd::SlewLimit {
         net: limit.net,
         sink: limit.sink,
         edge: limit.edge,
         corner: limit.corner,
         slew: Atto(limit.slew as i64),
         elmore,
-    }
+    })
 }

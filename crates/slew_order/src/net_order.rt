@@ -55,5 +55,5 @@ fn arcs_of(alloc: Global, arcs: &[ArcAt], numbers: &[usize]) -> Result<ArcList, 
     for place in 0..numbers.len() {
         push(&mut list, arcs[numbers[place]])?;
     }
-    Ok(ArcList::of(list))
+    Ok(ArcList { arcs: list })
 }

@@ -32,12 +32,6 @@ impl Model for NetStates {
 }
 
 impl NetStates {
-    fn of(states: Vec<EdgeStates>) -> NetStates
-        ensures { result ≡ states.items }
-    {
-        NetStates { states }
-    }
-
     /// The states, by the numbers of the nets.
     pub(crate) fn as_slice(&self) -> &[EdgeStates]
         ensures { result.now ≡ self.now }
@@ -71,7 +65,7 @@ fn settle_at<C: CornerSet, L: Ledger>(
         order,
         steps,
     )?;
-    Ok(NetStates::of(states))
+    Ok(NetStates { states })
 }
 
 /// The state of a net at an edge.

@@ -1,23 +1,23 @@
 //! The slews of a design, or why it has none.
-ghost use Rattle.std.specs.Prelude.{◌≡◌, ◌+◌, ◌*◌, ◌<◌, ◌≤◌, pos, ◌≤ℤ◌, unsigned_abs, length, IfOk, IfErr, OnOk};
+ghost use Rattle.std.specs.Prelude.{◌≡◌, ◌+◌, ◌*◌, ◌<◌, ◌≤◌, pos, ◌≤ℤ◌, unsigned_abs, IfOk, IfErr, OnOk};
 ghost use Rattle.slew_states.specs.PinState.{most};
 ghost use Rattle.slew_order.specs.Cycles.{HasNoCycle};
 ghost use Rattle.slew_order.specs.Loaded.{source_in};
 ghost use Rattle.slew_order.specs.NetStates.{AreNetStates, edges_in};
 ghost use Rattle.slew_order.specs.SinkPlaces.{ArePlaces};
 ghost use Rattle.slew_order.specs.Sinks.{ArePinStarts};
-ghost use Rattle.slew_order.specs.SlewEnds.{IsSlewEnd, NoRefusals, NoLimits};
+ghost use Rattle.slew_order.specs.SlewEnds.{IsSlewEnd};
 ghost use Rattle.slew_order.specs.Slews.{AreSlews};
-ghost use Rattle.slew_order.specs.Timings.{arcs_in, source_of};
+ghost use Rattle.slew_order.specs.Timings.{source_of};
 
 use crate::design::Design;
 use crate::ends::SlewEnd;
 use crate::flattening::drivers_of;
-use crate::limits::{first_limit, limit_end};
+use crate::limits::ask_limits;
 use crate::loaded::LoadedNetlist;
 use crate::net_order::net_order;
 use crate::net_states::{NetStates, settle_corners};
-use crate::refusals::{first_refusal, refused_end};
+use crate::refusals::ask_lookups;
 use crate::sinks::{PinSinks, pin_sinks};
 use crate::slews::Slews;
 use corner_set::{Beyond, CornerSet, WireSlew};
@@ -41,38 +41,6 @@ fn states_of<C: CornerSet, L: Ledger>(
     let order = net_order(alloc, design)?;
     let corners = settle_corners(alloc, design, &drivers, &order, steps)?;
     Ok(corners)
-}
-
-// Asks whether a look-up is refused.
-fn ask_lookups<C: CornerSet, L: Ledger>(
-    design: &Design<'_, C>,
-    corners: &[NetStates],
-    steps: &mut Steps<L>,
-) -> Result<(), SlewEnd>
-    requires none { HasNoCycle design.now.netlist design.now.cells }
-    requires states { AreNetStates design.now corners.now }
-    ensures refusals { OnOk result (NoRefusals design.now (length (arcs_in design.now))) }
-    ensures end { IfErr result (IsSlewEnd design.now) }
-    ensures steps { steps.new ≤ steps.old + 64 * (design.now.count * edges_in design.now) }
-{
-    match first_refusal(design, corners, steps) {
-        Some(refusal) => Err(refused_end(design, refusal)),
-        None => Ok(()),
-    }
-}
-
-// Asks whether a slew is past the limit behind a wire.
-fn ask_limits<C: CornerSet>(design: &Design<'_, C>, corners: &[NetStates]) -> Result<(), SlewEnd>
-    requires none { HasNoCycle design.now.netlist design.now.cells }
-    requires refusals { NoRefusals design.now (length (arcs_in design.now)) }
-    requires states { AreNetStates design.now corners.now }
-    ensures limits { OnOk result (NoLimits design.now (length design.now.netlist.nets)) }
-    ensures end { IfErr result (IsSlewEnd design.now) }
-{
-    match first_limit(design, corners) {
-        Some(limit) => Err(limit_end(design, limit)),
-        None => Ok(()),
-    }
 }
 
 // The slews of a design, whose pins are these sinks.

@@ -1,5 +1,5 @@
 //! The first look-up that is refused.
-ghost use Rattle.std.specs.Prelude.{◌≡◌, ◌+◌, ◌*◌, ◌<◌, ◌≤◌, ◌↔◌, if◌then◌else◌, length, true, IsTrue, IfSome, IfNone};
+ghost use Rattle.std.specs.Prelude.{◌≡◌, ◌+◌, ◌*◌, ◌<◌, ◌≤◌, ◌↔◌, if◌then◌else◌, length, true, IsTrue, IfErr, IfSome, IfNone, OnOk};
 ghost use Rattle.slew_states.specs.declared.arcs.Driver.TheVariants.{Pin};
 ghost use Rattle.slew_states.specs.Arcs.{arc_at, driver_at, has_edge};
 ghost use Rattle.slew_states.specs.PinState.{IsSmall, worst};
@@ -19,7 +19,7 @@ use corner_set::CornerSet;
 use edge_io::Steps;
 use netlist_link::{End, Netlist};
 use nldm_lookup::LookupEnd;
-use slew_states::{EdgeStates, FlatArc, PinState, worst_input};
+use slew_states::{EdgeStates, PinState, worst_input};
 use std::sync::ledger::Ledger;
 
 /// A look-up that is refused, by the numbers of its arc and its corner.
@@ -29,16 +29,6 @@ pub(crate) struct Refusal {
     pub(crate) edge: Edge,
     pub(crate) corner: usize,
     pub(crate) end: PartEnd,
-}
-
-// Whether the output pin has an edge by this arc.
-fn has_edge(arc: &FlatArc, edge: Edge) -> bool
-    ensures { result ≡ has_edge arc.now edge }
-{
-    match edge {
-        Edge::Rise => arc.rise,
-        Edge::Fall => arc.fall,
-    }
 }
 
 /// Known with the worst input slew of an arc at an edge of its output and a corner.
@@ -115,7 +105,7 @@ fn refusal_at<C: CornerSet, L: Ledger>(
     ensures none { IfNone result (NoRefusalAt design.now arc edge number) }
     ensures steps { steps.new ≤ steps.old + 64 * (if has_edge (arc_at (flat_in design.now) arc) edge then 1 else 0) }
 {
-    if !has_edge(&design.flat()[arc], edge) {
+    if !design.flat()[arc].has(edge) {
         return None;
     }
     if is_taken(design, arc, edge, number, states) {
@@ -185,9 +175,9 @@ fn refusal_of_edge<C: CornerSet, L: Ledger>(
     None
 }
 
-/// The first look-up that is refused, by arc, edge (rise first) and corner. It takes at most 64 steps for each corner and each pair of
-/// an arc and an edge that it has.
-pub(crate) fn first_refusal<C: CornerSet, L: Ledger>(
+// The first look-up that is refused, by arc, edge (rise first) and corner. It takes at most 64 steps for each corner and each pair of
+// an arc and an edge that it has.
+fn first_refusal<C: CornerSet, L: Ledger>(
     design: &Design<'_, C>,
     corners: &[NetStates],
     steps: &mut Steps<L>,
@@ -219,26 +209,35 @@ pub(crate) fn first_refusal<C: CornerSet, L: Ledger>(
     None
 }
 
-/// The end of a design by its first look-up that is refused.
-pub(crate) fn refused_end<C: CornerSet>(design: &Design<'_, C>, refusal: Refusal) -> SlewEnd
+/// Asks whether a look-up is refused. It takes at most 64 steps for each corner and each pair of an arc and an edge that it has.
+pub(crate) fn ask_lookups<C: CornerSet, L: Ledger>(
+    design: &Design<'_, C>,
+    corners: &[NetStates],
+    steps: &mut Steps<L>,
+) -> Result<(), SlewEnd>
     requires none { HasNoCycle design.now.netlist design.now.cells }
-    requires first { IsFirstRefusal design.now refusal.arc refusal.edge refusal.corner refusal.end }
-    ensures { IsSlewEnd design.now result }
+    requires states { AreNetStates design.now corners.now }
+    ensures refusals { OnOk result (NoRefusals design.now (length (arcs_in design.now))) }
+    ensures end { IfErr result (IsSlewEnd design.now) }
+    ensures steps { steps.new ≤ steps.old + 64 * (design.now.count * edges_in design.now) }
 {
+    let Some(refusal) = first_refusal(design, corners, steps) else {
+        return Ok(());
+    };
     let at = design.arcs()[refusal.arc];
     match refusal.end.end {
-        LookupEnd::Outside(outside) => SlewEnd::Outside {
+        LookupEnd::Outside(outside) => Err(SlewEnd::Outside {
             at,
             edge: refusal.edge,
             corner: refusal.corner,
             part: refusal.end.part,
             outside,
-        },
-        LookupEnd::PastTime => SlewEnd::PastTime {
+        }),
+        LookupEnd::PastTime => Err(SlewEnd::PastTime {
             at,
             edge: refusal.edge,
             corner: refusal.corner,
             part: refusal.end.part,
-        },
+        }),
     }
 }

@@ -26,7 +26,7 @@ use std::marker::{Model, PhantomData};
 pub struct Slews<C: CornerSet> {
     corners: Vec<NetStates>,
     pins: PinSinks,
-    beyond: Beyond,
+    pub(crate) beyond: Beyond,
     mode: WireSlew,
     slew: u64,
     set: PhantomData<C>,
@@ -59,13 +59,6 @@ impl<C: CornerSet> Slews<C> {
             slew,
             set: PhantomData,
         }
-    }
-
-    // What a look-up does past an axis.
-    pub(crate) fn beyond(&self) -> Beyond
-        ensures { result ≡ self.now.beyond }
-    {
-        self.beyond
     }
 
     /// The state of a pin of an instance, at an edge and a corner.

@@ -1,20 +1,27 @@
 //! What is asked of small designs. Each net has a load of 1 fF, and no wire has an Elmore sum unless one is set.
-ghost use Rattle.std.specs.Prelude.{◌≡◌, ◌<◌, ◌≤◌, pos, ◌≤ℤ◌, IfOk};
+ghost use Rattle.std.specs.Prelude.{◌≡◌, ◌<◌, pos, ◌≤ℤ◌, IfOk};
 ghost use Rattle.slew_order.specs.NetTimes.{Fits, elmore_limit};
 ghost use Rattle.slew_order.specs.Slews.{AreTablesOf};
 
-use cell_models::{Edge, Part};
-use corner_set::{Beyond, Single, WireSlew};
-use design_phases::{Design, read_design};
+use cell_models::Edge;
+use corner_set::Single;
+use delay_core::{Design, read_design};
 use delay_units::{Atto, Farads};
 use edge_io::{MemShelf, OutOfMemory, Steps, Text, TextList};
 use netlist_link::Netlist;
-use nldm_lookup::Outside;
-use slew_order::{ArcAt, ArcList, LoadedNetlist, NetDelays, SlewEnd, Slews, propagate};
+use nldm_lookup::Beyond;
+use slew_order::{ArcAt, LoadedNetlist, NetDelays, SlewEnd, Slews, propagate};
 use std::alloc::Global;
 use std::marker::Brand;
+use std::process::Abort;
 use std::sync::ledger::{Blank, Ledger};
 use worked_files::LIBRARY;
+
+/// An instance, a pin of it and an edge, and the slew there in attoseconds.
+pub type PinSlew = (usize, usize, Edge, Option<i64>);
+
+/// An instance, an arc of it and an edge, and the delay there in femtoseconds.
+pub type ArcDelay = (usize, usize, Edge, Option<i128>);
 
 /// The design of a netlist over the library.
 pub fn design_of(alloc: Global, netlist: &[u8]) -> Result<Option<Design<Single>>, OutOfMemory> {
@@ -52,20 +59,14 @@ fn load_all(netlist: &Netlist, nets: &mut NetDelays<Single>)
     }
 }
 
-/// Sets the Elmore sum of a sink of a net, if it is there.
-pub fn set_wire(
-    netlist: &Netlist,
-    nets: &mut NetDelays<Single>,
-    net: usize,
-    sink: usize,
-    elmore: u128,
-)
+/// Sets the Elmore sum of the first sink of the first net, if it is there.
+pub fn set_first(netlist: &Netlist, nets: &mut NetDelays<Single>, elmore: u128)
     requires fits { Fits netlist.now nets.old }
     requires small { elmore < elmore_limit }
     ensures { Fits netlist.now nets.new }
 {
-    if net < netlist.net_count() && sink < netlist.sink_count(net) {
-        nets.set_elmore(net, sink, (), elmore);
+    if netlist.net_count() > 0 && netlist.sink_count(0) > 0 {
+        nets.set_elmore(0, 0, (), elmore);
     }
 }
 
@@ -135,14 +136,30 @@ pub fn slew_at(
     Some(slew.0)
 }
 
-fn delay_by<L: Ledger>(
+/// The slews at some pins are these.
+pub fn slews_are(
+    rt: &impl Abort,
     slews: &Slews<Single>,
     design: &Design<Single>,
     nets: &NetDelays<Single>,
-    at: ArcAt,
-    edge: Edge,
+    wants: &[PinSlew],
+)
+    requires tables { AreTablesOf design.now.netlist 1 slews.now }
+    requires fits { Fits design.now.netlist nets.now }
+{
+    for want in wants {
+        assert!(rt; slew_at(slews, design, nets, want.0, want.1, want.2) == want.3);
+    }
+}
+
+fn delays_by<L: Ledger>(
+    rt: &impl Abort,
+    slews: &Slews<Single>,
+    design: &Design<Single>,
+    nets: &NetDelays<Single>,
+    wants: &[ArcDelay],
     blank: Blank,
-) -> Option<i128>
+)
     requires name { blank.name ≡ L.name }
     requires parts { blank.parts ≡ L.parts }
     requires some_part { 0 < blank.parts }
@@ -150,78 +167,40 @@ fn delay_by<L: Ledger>(
     requires fits { Fits design.now.netlist nets.now }
 {
     let mut steps = Steps::<L>::new(blank);
-    let netlist = design.netlist();
-    let cells = design.cells();
-    if at.instance >= netlist.instance_count() {
-        return None;
-    }
-    if at.arc >= cells.set(netlist.cell_of(at.instance)).arc_count() {
-        return None;
-    }
     let with_loads = LoadedNetlist {
         linked: design.linked(),
         nets,
     };
-    let delay = slews.delay(&with_loads, at, edge, (), &mut steps)?;
-    Some(delay.0)
+    for want in wants {
+        assert!(rt; want.0 < design.netlist().instance_count());
+        assert!(rt;
+            want.1
+                < design
+                    .cells()
+                    .set(design.netlist().cell_of(want.0))
+                    .arc_count()
+        );
+        let at = ArcAt {
+            instance: want.0,
+            arc: want.1,
+        };
+        match slews.delay(&with_loads, at, want.2, (), &mut steps) {
+            Some(delay) => assert!(rt; Some(delay.0) == want.3),
+            None => assert!(rt; want.3.is_none()),
+        }
+    }
 }
 
-/// The delay of an arc in femtoseconds.
-pub fn delay_of(
+/// The delays of some arcs are these.
+pub fn delays_are(
+    rt: &impl Abort,
     slews: &Slews<Single>,
     design: &Design<Single>,
     nets: &NetDelays<Single>,
-    at: ArcAt,
-    edge: Edge,
-) -> Option<i128>
+    wants: &[ArcDelay],
+)
     requires tables { AreTablesOf design.now.netlist 1 slews.now }
     requires fits { Fits design.now.netlist nets.now }
 {
-    delay_by::<Brand>(slews, design, nets, at, edge, Blank::new(1))
-}
-
-/// The arcs of a cycle.
-pub fn cycle_of(end: SlewEnd) -> Option<ArcList> {
-    match end {
-        SlewEnd::Loop(cycle) => Some(cycle),
-        SlewEnd::Outside { .. } => None,
-        SlewEnd::PastTime { .. } => None,
-        SlewEnd::SlewLimit { .. } => None,
-        SlewEnd::OutOfMemory => None,
-    }
-}
-
-/// A look-up that is outside.
-pub fn outside_of(end: SlewEnd) -> Option<(ArcAt, Edge, Part, Outside)> {
-    match end {
-        SlewEnd::Loop(_) => None,
-        SlewEnd::Outside {
-            at,
-            edge,
-            corner: _,
-            part,
-            outside,
-        } => Some((at, edge, part, outside)),
-        SlewEnd::PastTime { .. } => None,
-        SlewEnd::SlewLimit { .. } => None,
-        SlewEnd::OutOfMemory => None,
-    }
-}
-
-/// A slew that is past the limit: the net, the sink, the edge and the slew.
-pub fn limit_of(end: SlewEnd) -> Option<(usize, usize, Edge, i64)> {
-    match end {
-        SlewEnd::Loop(_) => None,
-        SlewEnd::Outside { .. } => None,
-        SlewEnd::PastTime { .. } => None,
-        SlewEnd::SlewLimit {
-            net,
-            sink,
-            edge,
-            corner: _,
-            slew,
-            elmore: _,
-        } => Some((net, sink, edge, slew.0)),
-        SlewEnd::OutOfMemory => None,
-    }
+    delays_by::<Brand>(rt, slews, design, nets, wants, Blank::new(1))
 }

@@ -1,17 +1,16 @@
 //! Small designs, worked by hand.
-ghost use Rattle.std.specs.Prelude.{pos, ◌≤ℤ◌};
-ghost use Rattle.slew_order.specs.NetTimes.{Fits};
-ghost use Rattle.slew_order.specs.Slews.{AreTablesOf};
+ghost use Rattle.std.specs.Prelude.{◌<◌, pos, ◌≤ℤ◌};
+ghost use Rattle.slew_order.specs.NetTimes.{elmore_limit};
 
 use crate::tests::asking::{
-    cycle_of, delay_of, design_of, limit_of, loaded, outside_of, set_wire, slew_at, slews_of,
+    ArcDelay, PinSlew, delays_are, design_of, loaded, set_first, slew_at, slews_are, slews_of,
 };
 use cell_models::{Edge, Part};
 use corner_set::{Beyond, Single, WireSlew};
 use design_phases::Design;
 use edge_io::{OutOfMemory, Text};
-use nldm_lookup::Which;
-use slew_order::{ArcAt, NetDelays, SlewEnd, Slews};
+use nldm_lookup::{Beyond, Which};
+use slew_order::SlewEnd;
 use std::alloc::Global;
 use std::process::Abort;
 use std::test::Fail;
@@ -49,74 +48,6 @@ fn reconvergent(alloc: Global) -> Result<Text, OutOfMemory> {
     Ok(netlist)
 }
 
-/// The slew at a pin, in attoseconds.
-#[derive(Clone, Copy)]
-struct PinSlew {
-    instance: usize,
-    pin: usize,
-    edge: Edge,
-    slew: Option<i64>,
-}
-
-/// The delay of an arc, in femtoseconds.
-#[derive(Clone, Copy)]
-struct ArcDelay {
-    at: ArcAt,
-    edge: Edge,
-    delay: Option<i128>,
-}
-
-const fn pin(instance: usize, pin: usize, edge: Edge, slew: Option<i64>) -> PinSlew {
-    PinSlew {
-        instance,
-        pin,
-        edge,
-        slew,
-    }
-}
-
-const fn arc(instance: usize, arc: usize, edge: Edge, delay: Option<i128>) -> ArcDelay {
-    ArcDelay {
-        at: ArcAt { instance, arc },
-        edge,
-        delay,
-    }
-}
-
-/// The slews at some pins are these.
-fn slews_are(
-    rt: &impl Abort,
-    slews: &Slews<Single>,
-    design: &Design<Single>,
-    nets: &NetDelays<Single>,
-    wants: &[PinSlew],
-)
-    requires tables { AreTablesOf design.now.netlist 1 slews.now }
-    requires fits { Fits design.now.netlist nets.now }
-{
-    for want in wants {
-        let slew = slew_at(slews, design, nets, want.instance, want.pin, want.edge);
-        assert_eq!(rt; slew, want.slew);
-    }
-}
-
-/// The delays of some arcs are these.
-fn delays_are(
-    rt: &impl Abort,
-    slews: &Slews<Single>,
-    design: &Design<Single>,
-    nets: &NetDelays<Single>,
-    wants: &[ArcDelay],
-)
-    requires tables { AreTablesOf design.now.netlist 1 slews.now }
-    requires fits { Fits design.now.netlist nets.now }
-{
-    for want in wants {
-        let delay = delay_of(slews, design, nets, want.at, want.edge);
-        assert_eq!(rt; delay, want.delay);
-    }
-}
-
 /// The design of a netlist has these slews and delays, where its input ports have 20 ps.
 fn answers(
     rt: &impl Abort,
@@ -139,108 +70,82 @@ fn design_answers(
     arcs: &[ArcDelay],
 ) -> Result<(), Fail> {
     let nets = loaded(alloc, design.netlist())?;
-    loads_answer(rt, alloc, design, &nets, pins, arcs)
-}
-
-fn loads_answer(
-    rt: &impl Abort,
-    alloc: Global,
-    design: &Design<Single>,
-    nets: &NetDelays<Single>,
-    pins: &[PinSlew],
-    arcs: &[ArcDelay],
-) -> Result<(), Fail>
-    requires { Fits design.now.netlist nets.now }
-{
     match slews_of(
         alloc,
         design,
-        nets,
+        &nets,
         20_000_000,
         Beyond::Refuse,
         WireSlew::Same,
     ) {
         Ok(slews) => {
-            slews_are(rt, &slews, design, nets, pins);
-            delays_are(rt, &slews, design, nets, arcs);
+            slews_are(rt, &slews, design, &nets, pins);
+            delays_are(rt, &slews, design, &nets, arcs);
             Ok(())
         }
         Err(_) => Err(Fail::from("slews")),
     }
 }
 
-/// Why the design of a netlist has no slews, where its input ports have a slew in attoseconds.
-fn end_of(alloc: Global, netlist: &[u8], slew: i64) -> Result<SlewEnd, Fail>
-    requires not_negative { pos 0 ≤ℤ slew }
-    requires small { slew ≤ℤ pos 1000000000000 }
-{
-    match design_of(alloc, netlist)? {
-        Some(design) => design_end(alloc, &design, slew),
-        None => Err(Fail::from("design")),
-    }
-}
-
-fn design_end(alloc: Global, design: &Design<Single>, slew: i64) -> Result<SlewEnd, Fail>
-    requires not_negative { pos 0 ≤ℤ slew }
-    requires small { slew ≤ℤ pos 1000000000000 }
-{
-    let nets = loaded(alloc, design.netlist())?;
-    match slews_of(alloc, design, &nets, slew, Beyond::Refuse, WireSlew::Same) {
-        Ok(_) => Err(Fail::from("an end")),
-        Err(end) => Ok(end),
-    }
-}
-
-/// The rise at the inverter behind a wire whose own slew is 15 ps, or why there is none.
-fn behind_wire(
+/// What is said of a design whose input ports have a slew in attoseconds: the rise at the first pin, or why there are no slews. The
+/// wire to the first sink has an Elmore sum in 10^-27 s.
+fn said(
     alloc: Global,
+    netlist: &[u8],
     slew: i64,
     beyond: Beyond,
     mode: WireSlew,
+    elmore: u128,
 ) -> Result<Result<Option<i64>, SlewEnd>, Fail>
     requires not_negative { pos 0 ≤ℤ slew }
     requires small { slew ≤ℤ pos 1000000000000 }
+    requires short { elmore < elmore_limit }
 {
-    match design_of(alloc, INVERTER)? {
-        Some(design) => behind_wire_of(alloc, &design, slew, beyond, mode),
+    match design_of(alloc, netlist)? {
+        Some(design) => design_said(alloc, &design, slew, beyond, mode, elmore),
         None => Err(Fail::from("design")),
     }
 }
 
-fn behind_wire_of(
+fn design_said(
     alloc: Global,
     design: &Design<Single>,
     slew: i64,
     beyond: Beyond,
     mode: WireSlew,
+    elmore: u128,
 ) -> Result<Result<Option<i64>, SlewEnd>, Fail>
     requires not_negative { pos 0 ≤ℤ slew }
     requires small { slew ≤ℤ pos 1000000000000 }
+    requires short { elmore < elmore_limit }
 {
     let mut nets = loaded(alloc, design.netlist())?;
-    set_wire(design.netlist(), &mut nets, 0, 0, 6_827_492_035_000_000);
+    set_first(design.netlist(), &mut nets, elmore);
     match slews_of(alloc, design, &nets, slew, beyond, mode) {
         Ok(slews) => Ok(Ok(slew_at(&slews, design, &nets, 0, 0, Edge::Rise))),
         Err(end) => Ok(Err(end)),
     }
 }
 
+/// The Elmore sum of a wire whose own slew is 15 ps.
+const OWN_15_PS: u128 = 6_827_492_035_000_000;
+
 #[test]
 fn a_flip_flop_ends_a_path(rt: HostRuntime) -> Result<(), Fail> {
     let pins = [
-        pin(0, 0, Edge::Rise, Some(20_000_000)),
-        pin(0, 1, Edge::Rise, Some(13_600_000)),
-        pin(0, 1, Edge::Fall, Some(12_000_000)),
-        pin(0, 2, Edge::Rise, Some(15_000_000)),
-        pin(0, 3, Edge::Rise, None),
-        pin(1, 0, Edge::Fall, Some(14_000_000)),
-        pin(1, 1, Edge::Rise, Some(13_600_000)),
+        (0, 0, Edge::Rise, Some(20_000_000)),
+        (0, 1, Edge::Rise, Some(13_600_000)),
+        (0, 1, Edge::Fall, Some(12_000_000)),
+        (0, 2, Edge::Rise, Some(15_000_000)),
+        (0, 3, Edge::Rise, None),
+        (1, 0, Edge::Fall, Some(14_000_000)),
+        (1, 1, Edge::Rise, Some(13_600_000)),
     ];
     let arcs = [
-        arc(0, 0, Edge::Rise, Some(100_000)),
-        arc(0, 1, Edge::Rise, None),
-        arc(1, 0, Edge::Rise, Some(22_000)),
-        arc(1, 0, Edge::Fall, Some(11_500)),
+        (0, 0, Edge::Rise, Some(100_000)),
+        (0, 1, Edge::Rise, None),
+        (1, 0, Edge::Rise, Some(22_000)),
+        (1, 0, Edge::Fall, Some(11_500)),
     ];
     answers(&rt, rt.alloc(), FLIP_FLOP, &pins, &arcs)
 }
@@ -248,14 +153,11 @@ fn a_flip_flop_ends_a_path(rt: HostRuntime) -> Result<(), Fail> {
 #[test]
 fn a_tied_pin_gives_nothing(rt: HostRuntime) -> Result<(), Fail> {
     let pins = [
-        pin(0, 1, Edge::Rise, None),
-        pin(0, 2, Edge::Rise, Some(11_000_000)),
-        pin(0, 2, Edge::Fall, Some(10_000_000)),
+        (0, 1, Edge::Rise, None),
+        (0, 2, Edge::Rise, Some(11_000_000)),
+        (0, 2, Edge::Fall, Some(10_000_000)),
     ];
-    let arcs = [
-        arc(0, 0, Edge::Rise, Some(50_000)),
-        arc(0, 1, Edge::Rise, None),
-    ];
+    let arcs = [(0, 0, Edge::Rise, Some(50_000)), (0, 1, Edge::Rise, None)];
     answers(&rt, rt.alloc(), TIED, &pins, &arcs)
 }
 
@@ -263,72 +165,108 @@ fn a_tied_pin_gives_nothing(rt: HostRuntime) -> Result<(), Fail> {
 fn reconvergent_gates_have_the_slews_of_their_tables(rt: HostRuntime) -> Result<(), Fail> {
     let netlist = reconvergent(rt.alloc())?;
     let pins = [
-        pin(63, 2, Edge::Rise, Some(11_000_000)),
-        pin(63, 2, Edge::Fall, Some(10_000_000)),
+        (63, 2, Edge::Rise, Some(11_000_000)),
+        (63, 2, Edge::Fall, Some(10_000_000)),
     ];
     let arcs = [
-        arc(63, 0, Edge::Rise, Some(50_000)),
-        arc(63, 0, Edge::Fall, Some(40_000)),
+        (63, 0, Edge::Rise, Some(50_000)),
+        (63, 0, Edge::Fall, Some(40_000)),
     ];
     answers(&rt, rt.alloc(), netlist.bytes(), &pins, &arcs)
 }
 
 #[test]
 fn a_latch_is_a_cycle_from_its_least_net(rt: HostRuntime) -> Result<(), Fail> {
-    let end = end_of(rt.alloc(), LATCH, 20_000_000)?;
-    let cycle = cycle_of(end).ok_or("a cycle")?;
-    if cycle.len() != 2 {
-        return Err(Fail::from("two arcs"));
+    match said(
+        rt.alloc(),
+        LATCH,
+        20_000_000,
+        Beyond::Refuse,
+        WireSlew::Same,
+        0,
+    )? {
+        Err(SlewEnd::Loop(cycle)) => {
+            assert!(rt; cycle.len() == 2);
+            // Net q stands before net qn, and pin B of u2 is on it.
+            let (first, second) = (cycle.get(0), cycle.get(1));
+            assert!(rt; first.instance == 1 && first.arc == 1);
+            assert!(rt; second.instance == 0 && second.arc == 1);
+            Ok(())
+        }
+        _ => Err(Fail::from("a cycle")),
     }
-    // Net q stands before net qn, and pin B of u2 is on it.
-    assert_eq!(rt;
-        cycle.get(0),
-        ArcAt {
-            instance: 1,
-            arc: 1
-        }
-    );
-    assert_eq!(rt;
-        cycle.get(1),
-        ArcAt {
-            instance: 0,
-            arc: 1
-        }
-    );
-    Ok(())
 }
 
 #[test]
 fn the_first_look_up_outside_is_told(rt: HostRuntime) -> Result<(), Fail> {
-    let end = end_of(rt.alloc(), INVERTER, 40_000_000)?;
-    let (at, edge, part, outside) = outside_of(end).ok_or("outside")?;
-    assert_eq!(rt;
-        at,
-        ArcAt {
-            instance: 0,
-            arc: 0
+    match said(
+        rt.alloc(),
+        INVERTER,
+        40_000_000,
+        Beyond::Refuse,
+        WireSlew::Same,
+        0,
+    )? {
+        Err(
+            SlewEnd::Outside {
+                at,
+                edge,
+                corner: _,
+                part,
+                outside,
+            },
+        ) => {
+            assert!(rt; at.instance == 0 && at.arc == 0);
+            assert!(rt; matches!(edge, Edge::Rise) && matches!(part, Part::Delay));
+            assert!(rt; matches!(outside.axis, Which::Slew) && outside.value == 40_000_000);
+            Ok(())
         }
-    );
-    assert_eq!(rt; edge, Edge::Rise);
-    assert_eq!(rt; part, Part::Delay);
-    assert_eq!(rt; outside.axis, Which::Slew);
-    assert_eq!(rt; outside.value, 40_000_000);
-    Ok(())
+        _ => Err(Fail::from("outside")),
+    }
 }
 
 #[test]
 fn a_wire_joins_its_own_slew(rt: HostRuntime) -> Result<(), Fail> {
-    let same = behind_wire(rt.alloc(), 20_000_000, Beyond::Refuse, WireSlew::Same)?;
-    assert_eq!(rt; same.ok().ok_or("slews")?, Some(20_000_000));
-    let joined = behind_wire(rt.alloc(), 20_000_000, Beyond::Refuse, WireSlew::Rss)?;
-    assert_eq!(rt; joined.ok().ok_or("slews")?, Some(25_000_000));
+    for (mode, want) in [(WireSlew::Same, 20_000_000), (WireSlew::Rss, 25_000_000)] {
+        match said(
+            rt.alloc(),
+            INVERTER,
+            20_000_000,
+            Beyond::Refuse,
+            mode,
+            OWN_15_PS,
+        )? {
+            Ok(slew) => assert!(rt; slew == Some(want)),
+            Err(_) => return Err(Fail::from("slews")),
+        }
+    }
     Ok(())
 }
 
 #[test]
 fn a_slew_past_the_limit_is_told(rt: HostRuntime) -> Result<(), Fail> {
-    let made = behind_wire(rt.alloc(), 1_000_000_000_000, Beyond::Edge, WireSlew::Rss)?;
-    let limit = limit_of(made.err().ok_or("an end")?).ok_or("a limit")?;
-    assert_eq!(rt; limit, (0, 0, Edge::Rise, 1_000_000_000_000));
-    Ok(())
+    match said(
+        rt.alloc(),
+        INVERTER,
+        1_000_000_000_000,
+        Beyond::Edge,
+        WireSlew::Rss,
+        OWN_15_PS,
+    )? {
+        Err(
+            SlewEnd::SlewLimit {
+                net,
+                sink,
+                edge,
+                corner: _,
+                slew,
+                elmore: _,
+            },
+        ) => {
+            assert!(rt; net == 0 && sink == 0 && matches!(edge, Edge::Rise));
+            assert!(rt; slew.0 == 1_000_000_000_000);
+            Ok(())
+        }
+        _ => Err(Fail::from("a limit")),
+    }
 }
