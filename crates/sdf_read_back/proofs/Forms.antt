@@ -26,6 +26,7 @@ use Rattle.sdf_read_back.proofs.Lines.{path_tokens_shape}
 use Rattle.sdf_read_back.proofs.Quotes.{quoted_means}
 use Rattle.sdf_read_back.proofs.TokenLists.{left, right, word, text_token, numbers, edge_tokens, wire_tokens, path_tokens, delay_tokens, cell_tokens, wires_tokens, head_tokens, type_tokens, instance_tokens, design_tokens, sdf_tokens}
 use Rattle.sdf_read_back.proofs.Values.{IsDelay as FewTimes, picoseconds, numbers_are_word, numbers_say, low_is_no_keyword}
+use Rattle.sdf_reader.proofs.Clashes.{never_empty, same_others}
 
 -- what the heads of the text set
 abbrev pub head : Head
@@ -199,7 +200,8 @@ no_star name is = by (bytes_eq name (codes "*")) refl
     by : (same : Bool) → bytes_eq name (codes "*") ≡ same → same ≡ false
     by true e =
         let star : name ≡ codes "*" = (bytes_eq-Decides name (codes "*")).0 e in
-        absurd (let spelled : canonical 47 (codes "*") ≡ codes "*" = subst (λ (n : List ℕ). canonical 47 n ≡ n) star is.stays in cc)
+        let spelled : canonical 47 (codes "*") ≡ codes "*" = subst (λ (n : List ℕ). canonical 47 n ≡ n) star is.stays in
+        never_empty (same_others spelled)
     by false e = refl
 
 named_place : (cell instance : List ℕ) → IsSettled instance → record { cell = meaning (quoted cell); instance = instance_of 47 instance } ≡ place_in cell instance

@@ -10,6 +10,7 @@ use Rattle.edge_io.specs.Bytes.{begins_with, backslash, slash, left_bracket, rig
 use Rattle.token_texts.specs.ByteLemmas.{not_byte}
 use Rattle.sdf_read_back.specs.Names.{begins_comment, IsSettled}
 use Rattle.sdf_read_back.proofs.Words.{GoesOn, both_go_on, nothing_goes_on, bare_goes_on, taken_goes_on, begins_from, bare_from, IsWord, always_word, slash_word}
+use Rattle.sdf_reader.proofs.Clashes.{never_true, never_false, never_more}
 
 -- ---- bytes
 
@@ -52,7 +53,7 @@ bracket_is byte is = by (byte == left_bracket) refl (byte == right_bracket) refl
     by : (opens : Bool) → (byte == left_bracket) ≡ opens → (closes : Bool) → (byte == right_bracket) ≡ closes → (opens || closes) ≡ true → IsLetters (byte ∷ [])
     by true e _ _ either = rw ((Decides-eqb byte left_bracket).0 e) (bare_goes_on 91 refl refl, (91, [], refl, omega arith))
     by false _ true f either = rw ((Decides-eqb byte right_bracket).0 f) (bare_goes_on 93 refl refl, (93, [], refl, omega arith))
-    by false _ false _ either = absurd (cc)
+    by false _ false _ either = never_true either
 
 -- it is a slash, or begins with a byte from 48 on
 abbrev IsRespelled : List ℕ → Type 0
@@ -151,7 +152,7 @@ no_comment_first first [] least = refl
 no_comment_first first (second ∷ rest) least = by (first == slash) (not_byte first 47 (λ e. omega (arith, e, least)))
   where
     by : (is : Bool) → is ≡ false → (is && second == slash) ≡ false
-    by true e = absurd (cc)
+    by true e = never_false e
     by false e = refl
 
 pub well_spelled_settles : (name : List ℕ) → IsWellSpelled name → IsSettled name
@@ -159,6 +160,6 @@ well_spelled_settles name is =
     let begins = name_begins name is in
     record {
       stays = stays_alone name (well_spelled_stays_lem name is);
-      some = λ e. absurd (let none : [] ≡ begins.0 ∷ begins.1 = sym e ∙ begins.2 in cc);
+      some = λ e. never_more (sym e ∙ begins.2);
       no_comment = ap begins_comment begins.2 ∙ no_comment_first begins.0 begins.1 begins.3;
     }

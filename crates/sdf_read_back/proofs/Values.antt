@@ -20,6 +20,7 @@ use Rattle.sdf_read_back.proofs.Digits.{decimal_writes, last_are_digits}
 use Rattle.sdf_read_back.proofs.Times.{printed_is_time}
 use Rattle.sdf_read_back.proofs.TokenLists.{numbers}
 use Rattle.sdf_read_back.proofs.Words.{both, GoesOn, both_go_on, nothing_goes_on, bare_goes_on, BeginsWord, begins_from, bare_from, IsWordText, word_and}
+use Rattle.sdf_reader.proofs.Clashes.{never_true}
 
 -- ---- words
 
@@ -123,7 +124,7 @@ differs first byte low high =
 
 not_same : (byte : ℕ) (known bytes : List ℕ) → byte < 65 → is_high known ≡ true → same_word known (byte ∷ bytes) ≡ false
 unfolding same_word
-not_same byte [] bytes low high = absurd (cc)
+not_same byte [] bytes low high = never_true high
 not_same byte (first ∷ known) bytes low high = ap (λ t. t && bytes_eq (map to_ascii_lowercase known) (map to_ascii_lowercase bytes)) (differs first byte low high)
 
 none_in : (table : List (List ℕ × Keyword)) (byte : ℕ) (bytes : List ℕ) → byte < 65 → list_all (λ (entry : List ℕ × Keyword). is_high entry.0) table ≡ true → lookup table (byte ∷ bytes) ≡ None

@@ -16,6 +16,7 @@ use Rattle.name_table.proofs.Spelling.{spelled_is_letter}
 use Rattle.name_table.specs.declared.spef_names.SpefMarks.{SpefMarks}
 use Rattle.sdf_read_back.specs.WellSpelledNodes.{Symbol, letter, mark, mark_or_letter, symbol_of, symbols_of, IsPieceOf, alone, with_bit, IsPartOf, piece, pieces, IsPath, one_part, parts, WholeWellSpelled, HalvesWellSpelled}
 use Rattle.sdf_read_back.proofs.Words.{both}
+use Rattle.sdf_reader.proofs.Clashes.{never_more, never_empty, same_first, same_others}
 
 -- ---- the text of symbols
 
@@ -91,10 +92,10 @@ record TakesLetter (symbols : List Symbol) (front rest : List ℕ) : Type 0 wher
   marks : AreMarks others
 
 head_of : (x y : ℕ) (xs ys : List ℕ) → x ∷ xs ≡ y ∷ ys → x ≡ y
-head_of x y xs ys e = cc
+head_of x y xs ys e = same_first e
 
 tail_of : (x y : ℕ) (xs ys : List ℕ) → x ∷ xs ≡ y ∷ ys → xs ≡ ys
-tail_of x y xs ys e = cc
+tail_of x y xs ys e = same_others e
 
 apart : (byte : ℕ) → is_plain byte ≡ true → is_plain byte ≡ false → ⊥
 apart byte is is_not = true≢false (sym is ∙ is_not)
@@ -103,8 +104,8 @@ slash_is_not_plain : (byte : ℕ) → is_plain byte ≡ true → byte ≡ backsl
 slash_is_not_plain byte is e = apart byte is (ap is_plain e)
 
 take_letter : (symbols : List Symbol) (front rest : List ℕ) → AreMarks symbols → IsLetter front → text symbols ≡ front ++ rest → TakesLetter symbols front rest
-take_letter [] front rest are (plain {byte} is) e = absurd (cc)
-take_letter [] front rest are (taken {byte} is_not) e = absurd (cc)
+take_letter [] front rest are (plain {byte} is) e = never_more e
+take_letter [] front rest are (taken {byte} is_not) e = never_more e
 take_letter (mark known ∷ others) front rest are (plain {byte} is) e = absurd (apart byte is (sym (ap is_plain (head_of known byte (text others) rest e)) ∙ are.0.0))
 take_letter (mark known ∷ others) front rest are (taken {byte} is_not) e = absurd (are.0.1 (head_of known backslash (text others) (byte ∷ rest) e))
 take_letter (letter known ∷ others) front rest are (plain {byte} is) e = by (is_plain known) refl e
@@ -142,7 +143,7 @@ record TakesMark (symbols : List Symbol) (byte : ℕ) (rest : List ℕ) : Type 0
   marks : AreMarks others
 
 take_mark : (symbols : List Symbol) (byte : ℕ) (rest : List ℕ) → AreMarks symbols → IsMark byte → text symbols ≡ byte ∷ rest → TakesMark symbols byte rest
-take_mark [] byte rest are is e = absurd (cc)
+take_mark [] byte rest are is e = never_more e
 take_mark (mark known ∷ others) byte rest are is e = record {
   others = others;
   splits = ap (λ b. mark b ∷ others) (head_of known byte (text others) rest e);
@@ -161,7 +162,7 @@ spelled_alone byte known e = by (is_plain byte) e
   where
     by : (is : Bool) → cond is (byte ∷ []) (backslash ∷ byte ∷ []) ≡ known ∷ [] → byte ≡ known
     by true f = head_of byte known [] [] f
-    by false f = absurd (cc)
+    by false f = never_empty (same_others f)
 
 -- symbols at the front are of this kind, and the others are the rest
 record Takes (Kind : List Symbol → Type 0) (symbols : List Symbol) (rest : List ℕ) : Type 0 where
@@ -241,12 +242,12 @@ take_part symbols front rest are (sdf.pieces {first = one} {rest = more} is othe
 -- symbols have a text
 no_symbol : (symbols : List Symbol) → text symbols ≡ [] → symbols ≡ []
 no_symbol [] e = refl
-no_symbol (mark byte ∷ symbols) e = absurd (cc)
+no_symbol (mark byte ∷ symbols) e = never_empty e
 no_symbol (letter byte ∷ symbols) e = absurd (by (is_plain byte) e)
   where
     by : (is : Bool) → cond is (byte ∷ []) (backslash ∷ byte ∷ []) ++ text symbols ≡ [] → ⊥
-    by true f = cc
-    by false f = cc
+    by true f = never_empty f
+    by false f = never_empty f
 
 path_taken : (symbols : List Symbol) (name : List ℕ) → AreMarks symbols → IsWellSpelled name → text symbols ≡ name → IsPath symbols
 path_taken symbols name are (sdf.one_part {part = only} is) e =

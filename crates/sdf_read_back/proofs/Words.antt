@@ -13,6 +13,7 @@ use Rattle.token_texts.specs.declared.cuts.Cut.TheVariants.{Take}
 use Rattle.sdf_read_back.proofs.TokenLists.{left, right, word}
 use Rattle.sdf_reader.proofs.Cutting.{cut_blank, cut_left, cut_right, cut_slash, cut_word}
 use Rattle.token_texts.specs.ByteLemmas.{not_byte}
+use Rattle.sdf_reader.proofs.Clashes.{never_true, never_false}
 
 -- ---- tokens
 
@@ -145,12 +146,12 @@ word_close text rest others is are = word_at text 41 rest (right ∷ others) is 
 
 pub both : (p q : Bool) → (p && q) ≡ true → (p ≡ true) × (q ≡ true)
 both true true e = (refl, refl)
-both true false e = absurd (cc)
-both false q e = absurd (cc)
+both true false e = never_true e
+both false q e = never_true e
 
 pub not_true : (p : Bool) → not p ≡ true → p ≡ false
 not_true false e = refl
-not_true true e = absurd (cc)
+not_true true e = never_true e
 
 pub bare_go_on : (text : List ℕ) → list_all is_bare text ≡ true → GoesOn text
 bare_go_on [] all = nothing_goes_on
@@ -162,8 +163,8 @@ bare_go_on (byte ∷ text) all =
 -- bytes from 48 on
 or_false : (p q : Bool) → p ≡ false → q ≡ false → (p || q) ≡ false
 or_false false false e f = refl
-or_false true q e f = absurd (cc)
-or_false false true e f = absurd (cc)
+or_false true q e f = never_false e
+or_false false true e f = never_false f
 
 and_false : (p q : Bool) → q ≡ false → (p && q) ≡ false
 and_false true q e = e
@@ -192,7 +193,7 @@ bare_from byte least other =
   where
     true_both : (p q : Bool) → p ≡ true → q ≡ true → (p && q) ≡ true
     true_both true q e f = f
-    true_both false q e f = absurd (cc)
+    true_both false q e f = never_true e
 
     four : (a b c d : Bool) → a ≡ false → b ≡ false → c ≡ false → d ≡ false → (a || b || c || d) ≡ false
     four a b c d p q r s = or_false (a || b || c) d (or_false (a || b) c (or_false a b p q) r) s
@@ -215,7 +216,7 @@ high_go_on (byte ∷ text) all =
     both_go_on (byte ∷ []) text (bare_goes_on byte (bare_from byte (leb-true 48 byte own.0) other) other) (high_go_on text parts.1)
 
 pub high_word : (text : List ℕ) → is_high_word text ≡ true → IsWord text
-high_word [] all = absurd (cc)
+high_word [] all = never_true all
 high_word (byte ∷ bytes) all =
     let parts = both (is_high byte) (list_all is_high bytes) all in
     let own = both (nat_le 48 byte) (not (byte == 92)) parts.0 in

@@ -21,11 +21,12 @@ use Rattle.sdf_reader.proofs.Living.{lives}
 use Rattle.sdf_reader.proofs.Fitting.{fits}
 use Rattle.sdf_reader.proofs.Refusing.{end_cause}
 use Rattle.sdf_reader.proofs.Loosening.{any, any_decides, Alike, reaches_like, Stays, in_number, nowhere, stays, completes_there, refused_there}
+use Rattle.sdf_reader.proofs.Clashes.{never_some, same_some}
 
 take_one_more : (texts : List Lexeme) (n : ℕ) (text : Lexeme) → slice_get texts n ≡ Some text → take (suc n) texts ≡ take n texts ++ text ∷ []
-take_one_more [] zero text e = absurd (cc)
-take_one_more [] (suc n) text e = absurd (cc)
-take_one_more (t ∷ texts) zero text e = let same : t ≡ text = cc in ap (λ x. x ∷ []) same
+take_one_more [] zero text e = never_some e
+take_one_more [] (suc n) text e = never_some e
+take_one_more (t ∷ texts) zero text e = ap (λ x. x ∷ []) (same_some e)
 take_one_more (t ∷ texts) (suc n) text e = ap (λ l. t ∷ l) (take_one_more texts n text e)
 
 module _ (number : Timescale → List ℕ → Option Value) (texts : List Lexeme) (stop : Stop State SdfCause) (at : Stopped IsToken (next number) finish first_state 1 texts stop) where

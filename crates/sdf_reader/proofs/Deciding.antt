@@ -18,6 +18,7 @@ use Rattle.delay_units.proofs.NormalNumbers.{Decision, found, none, decide_numbe
 use Rattle.delay_units.proofs.OneDecimal.{one_decimal}
 use Rattle.sdf_reader.proofs.OneValue.{one_word_value}
 use Rattle.sdf_reader.proofs.ValueLemmas.{no_triple, no_member, none_single, none_behind, none_triple, triple_made}
+use Rattle.sdf_reader.proofs.Clashes.{never_some, same_some}
 
 -- ---- times
 
@@ -140,8 +141,8 @@ finds_in scale word value (none never) other = absurd (never value other)
 
 means_in : (scale : Timescale) (word : List ℕ) (value : Value) (d : Decision Value (IsValue scale word)) → value_in d ≡ Some value → IsValue scale word value
 unfolding value_in
-means_in scale word value (found v is) e = let same : v ≡ value = cc in subst (IsValue scale word) same is
-means_in scale word value (none never) e = absurd (cc)
+means_in scale word value (found v is) e = subst (IsValue scale word) (same_some e) is
+means_in scale word value (none never) e = never_some e
 
 pub decides : Decides IsValue deciding
 unfolding deciding

@@ -1,3 +1,4 @@
+pub mod Clashes
 pub mod Cutting
 pub mod Saying
 pub mod ScaleWords

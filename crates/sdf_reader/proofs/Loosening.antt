@@ -18,13 +18,14 @@ use Rattle.sdf_reader.specs.declared.rows.SdfRow.{SdfRow}
 use Rattle.sdf_reader.specs.declared.timescales.Timescale.{Timescale}
 use Rattle.sdf_reader.specs.declared.ends.SdfCause.{SdfCause}
 use Rattle.sdf_reader.specs.declared.ends.SdfCause.TheVariants.{BadNumber}
+use Rattle.sdf_reader.proofs.Clashes.{never, never_refused, same_ok, same_err, same_some}
 
 -- any word says a value without a number
 abbrev pub any : Timescale → List ℕ → Option Value
 any scale word = Some no_value
 
 pub any_decides : Decides IsAnyWord any
-any_decides = record { finds = λ scale word value is. ap (λ v. Some v) (sym is); means = λ scale word value e. (let same : value ≡ no_value = cc in same) }
+any_decides = record { finds = λ scale word value is. ap (λ v. Some v) (sym is); means = λ scale word value e. sym (same_some e) }
 
 -- two states that wait for the same
 pub record Alike (one other : State) : Type 0 where
@@ -41,12 +42,11 @@ module _ (number : Timescale → List ℕ → Option Value) where
   -- states that steps make, which are alike
   both : (some after like : State) (answer : Result State SdfCause) → Gives (Ok some) after → answer ≡ Ok like → some.mode ≡ like.mode → LeadsLike answer after
   both some after like answer e is m =
-      let same : some ≡ after = cc in
-      (like, is, record { mode = ap (λ (s : State). s.mode) (sym same) ∙ m })
+      (like, is, record { mode = ap (λ (s : State). s.mode) (sym (same_ok e)) ∙ m })
 
   numbered : (found : Option Value) (s after like : State) → Alike s like → Gives (numbered_by found s) after → LeadsLike (numbered_by (Some no_value) like) after
   numbered (Some value) s after like alike e = both _ after _ _ e refl alike.mode
-  numbered None s after like alike e = absurd (cc)
+  numbered None s after like alike e = never e
 
   -- what one takes, the other takes
   action_like : (action : Action) (s after like : State) (bytes : List ℕ) → Alike s like → Gives (applied number action s bytes) after → LeadsLike (applied any action like bytes) after
@@ -54,7 +54,7 @@ module _ (number : Timescale → List ℕ → Option Value) where
   action_like _ s after like bytes alike e = both _ after _ _ e refl alike.mode
 
   moved_like : (k : Kind) (move : Move) (s after like : State) (bytes : List ℕ) → Alike s like → Gives (moved number k move s bytes) after → LeadsLike (moved any k move like bytes) after
-  moved_like k None s after like bytes alike e = absurd (cc)
+  moved_like k None s after like bytes alike e = never e
   moved_like k (Some to) s after like bytes alike e = action_like to.1 (to_mode to.0 s) after (to_mode to.0 like) bytes (record { mode = refl }) e
 
   next_like : (s after like : State) (token : Token Lexeme) → Alike s like → Gives (next number s token) after → LeadsLike (next any like token) after
@@ -77,15 +77,15 @@ module _ (number : Timescale → List ℕ → Option Value) where
     nowhere : next_of s.mode (class_of token.kind token.bytes) token.bytes ≡ None → Stays s token (cause_of token.kind)
 
   no_number : (m : Mode) (found : Option Value) (s : State) (token : Lexeme) (cause : SdfCause) → next_of s.mode (class_of token.kind token.bytes) token.bytes ≡ Some (m, Number) → numbered_by found (to_mode m s) ≡ Err cause → Stays s token cause
-  no_number m (Some value) s token cause is e = absurd (cc)
-  no_number m None s token cause is e = let same : BadNumber ≡ cause = cc in subst (Stays s token) same (in_number is)
+  no_number m (Some value) s token cause is e = never_refused e
+  no_number m None s token cause is e = subst (Stays s token) (same_err e) (in_number is)
 
   stays_by : (m : Mode) (action : Action) (s : State) (token : Lexeme) (cause : SdfCause) → next_of s.mode (class_of token.kind token.bytes) token.bytes ≡ Some (m, action) → applied number action (to_mode m s) token.bytes ≡ Err cause → Stays s token cause
   stays_by m Number s token cause is e = no_number m (number s.scale token.bytes) s token cause is e
-  stays_by m _ s token cause is e = absurd (cc)
+  stays_by m _ s token cause is e = never_refused e
 
   pub stays : (s : State) (token : Lexeme) (cause : SdfCause) (move : Move) → next_of s.mode (class_of token.kind token.bytes) token.bytes ≡ move → moved number token.kind move s token.bytes ≡ Err cause → Stays s token cause
-  stays s token cause None is e = let same : cause_of token.kind ≡ cause = cc in subst (Stays s token) same (nowhere is)
+  stays s token cause None is e = subst (Stays s token) (same_err e) (nowhere is)
   stays s token cause (Some to) is e = stays_by to.0 to.1 s token cause is e
 
 module _ (number : Timescale → List ℕ → Option Value) where
@@ -105,6 +105,6 @@ module _ (number : Timescale → List ℕ → Option Value) where
       → step_of number last text.kind text.bytes ≡ Err cause → outcome (next number) finish s n ((front ++ text ∷ []) ++ more) ≡ Ok value → ⊥
   refused_there {s} {n = n} text cause more value there refusal made =
       let stops : outcome (next number) finish s n (text ∷ more) ≡ Err (record { number = n; state = s; cause = cause }) = ap (go_on n s (λ (x : State). outcome (next number) finish x (n + 1) more)) refusal in
-      absurd (cc)
+      never (sym stops ∙ made)
   refused_there {s} {n = n} text cause more value (step {after = after} {text = first} {texts = texts} e rest) refusal made =
       refused_there text cause more value rest refusal (sym (made_behind s after n first ((texts ++ text ∷ []) ++ more) e) ∙ made)

@@ -31,6 +31,7 @@ use Rattle.sdf_reader.proofs.ScaleTexts.{read_scale, read_scale_in_two}
 use Rattle.sdf_reader.proofs.Taking.{entry_of, one_more}
 use Rattle.sdf_reader.proofs.Refusing.{broken_nowhere}
 use Rattle.sdf_reader.proofs.Places.{InHeads, in_heads, heads_grow, InCells, in_cells, Typed, is_typed, InCell, in_cell, InDelay, in_delay, InAbsolute, in_absolute, cell_goes_on, delay_goes_on, absolute_grows, absolute_goes_on, absolute_ends, delay_ends, cell_ends, Nest, flat, deeper, nest_piece, nest_group}
+use Rattle.sdf_reader.proofs.Clashes.{never, same_ok, never_true}
 
 abbrev state_at : Mode → List SdfRow → Head → List ℕ → Option (List ℕ) → Entry → State
 state_at m rows head cell instance entry = record { mode = m; divider = head.divider; scale = head.scale; cell = cell; instance = instance; entry = entry; rows = rows }
@@ -156,11 +157,6 @@ module _ (IsNumber : Timescale → List ℕ → Value → Type 0) where
         → (here ≡ [] → IsSdfBy IsNumber from rows)
         → Meant (state_at mode.End rows head cell instance entry) from here
 
--- a keyword is a word
-word_of : (k : Kind) (bytes : List ℕ) (keyword : Keyword) → keyword_in k bytes ≡ Some keyword → k ≡ kind.Word
-word_of kind.Word bytes keyword e = refl
-word_of _ bytes keyword e = absurd (cc)
-
 -- a word that is no keyword of its own
 other_word : (own : Keyword → Bool) (token : Tok) (found : Option Keyword) → keyword_in token.text.kind token.text.bytes ≡ found → holds_of own found ≡ false → Is kind.Word token → IsOther own token
 other_word own token found is none_own w = (w, ap (holds_of own) (subst (λ (k : Kind). keyword_in k token.text.bytes ≡ found) w is) ∙ none_own)
@@ -168,8 +164,8 @@ other_word own token found is none_own w = (w, ap (holds_of own) (subst (λ (k :
 -- a word that is kept out of an IOPATH is RETAIN
 retain_of : (found : Option Keyword) → is_retain shape.Path found ≡ true → found ≡ Some key.Retain
 retain_of (Some key.Retain) e = refl
-retain_of (Some _) e = absurd (cc)
-retain_of None e = absurd (cc)
+retain_of (Some _) e = never_true e
+retain_of None e = never_true e
 
 -- a list with one more at its end has a first
 pub split : (values : List Value) (value : Value) → (first : Value) × (others : List Value) × (values ++ value ∷ [] ≡ first ∷ others)
@@ -182,15 +178,12 @@ module _ (IsNumber : Timescale → List ℕ → Value → Type 0) (read : Timesc
   Gives answer after = answer ≡ Ok after
 
   becomes : {from here : List Tok} (state after : State) → Gives (Ok state) after → Meant IsNumber state from here → Meant IsNumber after from here
-  becomes {from} {here} state after e meant = let same : state ≡ after = cc in subst (λ (s : State). Meant IsNumber s from here) same meant
+  becomes {from} {here} state after e meant = subst (λ (s : State). Meant IsNumber s from here) (same_ok e) meant
 
   -- ---- what the token is, where a step was made
 
-  never : {A : Type 0} {cause : SdfCause} {after : State} → Gives (Err cause) after → A
-  never e = absurd (cc)
-
   nowhere : {A : Type 0} (k : Kind) (move : Move) (s after : State) (bytes : List ℕ) → move ≡ None → Gives (moved read k move s bytes) after → A
-  nowhere k move s after bytes is e = absurd (let wrong : Gives (Err (cause_of k)) after = sym (ap (λ (m : Move). moved read k m s bytes) is) ∙ e in cc)
+  nowhere k move s after bytes is e = let wrong : Gives (Err (cause_of k)) after = sym (ap (λ (m : Move). moved read k m s bytes) is) ∙ e in never wrong
 
   -- a token by its class
   by_class : {A : Type 0} (s after : State) (k : Kind) (bytes : List ℕ) → Gives (step read s k bytes) after
@@ -422,7 +415,7 @@ module _ (IsNumber : Timescale → List ℕ → Value → Type 0) (read : Timesc
   a_word {head = head} {rows = rows} {cell = cell} {instance = instance} {entry = entry} {token = token} {after = after} shape.Path true is w inside begins b same e =
       becomes (state_at (mode.Over site.Entries 1) rows head cell instance entry) after e
       (strays inside (with_retain begins b (ap (λ (k : Kind). keyword_in k token.text.bytes) w ∙ retain_of (keyword_of token.text.bytes) is)) (deeper (flat nothing_more) b (and_piece nothing_more (ap is_piece w))))
-  a_word shape.Wire true is w inside begins b same e = absurd (cc)
+  a_word shape.Wire true is w inside begins b same e = never_true is
 
   a_number : {head : Head} {rows : List SdfRow} {cell : List ℕ} {instance : Option (List ℕ)} {entry : Entry} {from all here : List Tok} {begin token : Tok} {some other : List ℕ} {values : List Value} {after : State} (shape : Shape) (k : Kind) → token.text.kind ≡ k
       → InAbsolute IsNumber head cell instance rows from all → Begun IsNumber head.scale shape all some other values (begin ∷ token ∷ here) → Is kind.LeftParen begin
@@ -546,39 +539,39 @@ module _ (IsNumber : Timescale → List ℕ → Value → Type 0) (read : Timesc
 
   -- the end of the file
   ends : {s : State} {from : List Tok} {rows : List SdfRow} → Meant IsNumber s from [] → finish s ≡ Ok rows → IsSdfBy IsNumber from rows
-  ends {from = from} {rows = rows} (at_end {rows = said} is) e = let same : said ≡ rows = cc in subst (λ (r : List SdfRow). IsSdfBy IsNumber from r) same (is refl)
-  ends at_start e = absurd (cc)
-  ends (at_file_word b) e = absurd (cc)
-  ends (at_heads a) e = absurd (cc)
-  ends (at_head_word a b) e = absurd (cc)
-  ends (at_design a b k) e = absurd (cc)
-  ends (at_divider a b k) e = absurd (cc)
-  ends (at_scale a b k) e = absurd (cc)
-  ends (in_scale a b k w f) e = absurd (cc)
-  ends (at_head_end a) e = absurd (cc)
-  ends (at_cells a) e = absurd (cc)
-  ends (at_cell_word a b) e = absurd (cc)
-  ends (at_type_open a b k) e = absurd (cc)
-  ends (at_type_word a b k l) e = absurd (cc)
-  ends (at_type_text a b k l m) e = absurd (cc)
-  ends (at_type_end a b k l m n) e = absurd (cc)
-  ends (at_instance_open a) e = absurd (cc)
-  ends (at_instance_word a b) e = absurd (cc)
-  ends (at_instance_name a b k) e = absurd (cc)
-  ends (at_instance_end a b k w) e = absurd (cc)
-  ends (at_specs a) e = absurd (cc)
-  ends (at_spec_word a b) e = absurd (cc)
-  ends (at_delays a) e = absurd (cc)
-  ends (at_delay_word a b) e = absurd (cc)
-  ends (at_entries a) e = absurd (cc)
-  ends (at_entry_word a b) e = absurd (cc)
-  ends (at_from a b k) e = absurd (cc)
-  ends (at_to a b k n) e = absurd (cc)
-  ends (at_first_value a b) e = absurd (cc)
-  ends (at_number a b c d) e = absurd (cc)
-  ends (at_number_end a b c d f g h) e = absurd (cc)
-  ends (at_values a b c) e = absurd (cc)
-  ends (in_over a b) e = absurd (cc)
+  ends {from = from} {rows = rows} (at_end is) e = subst (λ (r : List SdfRow). IsSdfBy IsNumber from r) (same_ok e) (is refl)
+  ends at_start e = never e
+  ends (at_file_word b) e = never e
+  ends (at_heads a) e = never e
+  ends (at_head_word a b) e = never e
+  ends (at_design a b k) e = never e
+  ends (at_divider a b k) e = never e
+  ends (at_scale a b k) e = never e
+  ends (in_scale a b k w f) e = never e
+  ends (at_head_end a) e = never e
+  ends (at_cells a) e = never e
+  ends (at_cell_word a b) e = never e
+  ends (at_type_open a b k) e = never e
+  ends (at_type_word a b k l) e = never e
+  ends (at_type_text a b k l m) e = never e
+  ends (at_type_end a b k l m n) e = never e
+  ends (at_instance_open a) e = never e
+  ends (at_instance_word a b) e = never e
+  ends (at_instance_name a b k) e = never e
+  ends (at_instance_end a b k w) e = never e
+  ends (at_specs a) e = never e
+  ends (at_spec_word a b) e = never e
+  ends (at_delays a) e = never e
+  ends (at_delay_word a b) e = never e
+  ends (at_entries a) e = never e
+  ends (at_entry_word a b) e = never e
+  ends (at_from a b k) e = never e
+  ends (at_to a b k n) e = never e
+  ends (at_first_value a b) e = never e
+  ends (at_number a b c d) e = never e
+  ends (at_number_end a b c d f g h) e = never e
+  ends (at_values a b c) e = never e
+  ends (in_over a b) e = never e
 
   along : {s : State} {from here : List Tok} {rows : List SdfRow} → Meant IsNumber s from here → Accepts (next read) finish s here rows → IsSdfBy IsNumber from rows
   along meant (ended e) = ends meant e

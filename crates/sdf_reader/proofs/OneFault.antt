@@ -26,24 +26,25 @@ use Rattle.sdf_reader.proofs.Refusing.{broken_nowhere, end_cause}
 use Rattle.sdf_reader.proofs.Loosening.{Stays, in_number, nowhere, stays}
 use Rattle.sdf_reader.proofs.Causing.{here, number_place, no_number_place}
 use Rattle.sdf_reader.proofs.SoFar.{fitting, made, says_rows}
+use Rattle.sdf_reader.proofs.Clashes.{never_some, never_none, same_some, never_false}
 
 -- a token that is not broken, and is refused where no number may stand
 plain_cause : (k : Kind) → is_broken k ≡ false → cause.Unexpected ≡ cause_of k
-plain_cause kind.Bad e = absurd (cc)
-plain_cause kind.OpenQuoted e = absurd (cc)
-plain_cause kind.OpenNote e = absurd (cc)
+plain_cause kind.Bad e = never_false e
+plain_cause kind.OpenQuoted e = never_false e
+plain_cause kind.OpenNote e = never_false e
 plain_cause _ e = refl
 
 module _ (number : Timescale → List ℕ → Option Value) (texts : List Lexeme) (stop : Stop State SdfCause) (at : Stopped IsToken (next number) finish first_state 1 texts stop) where
   same_token : (token other : Lexeme) → slice_get texts at.taken ≡ Some token → token_at texts stop.number ≡ Some other → other ≡ token
-  same_token token other e there = let known : token_at texts stop.number ≡ Some token = here number texts stop at (Some token) e in cc
+  same_token token other e there = same_some (sym there ∙ here number texts stop at (Some token) e)
 
   -- a broken token is refused for its own cause wherever it stands
   broken : (token : Lexeme) (c given : SdfCause) (k : Kind) → token.kind ≡ k → class_of k token.bytes ≡ class.Broken → cause_of k ≡ c → Stays number stop.state token given → c ≡ given
   broken token c given k is breaks because (in_number waits) =
       let nothing : next_of stop.state.mode (class_of token.kind token.bytes) token.bytes ≡ None =
       ap (λ (x : Kind). next_of stop.state.mode (class_of x token.bytes) token.bytes) is ∙ ap (λ (x : Class). next_of stop.state.mode x token.bytes) breaks ∙ broken_nowhere stop.state.mode token.bytes in
-      absurd (cc)
+      never_some (sym nothing ∙ waits)
   broken token c given k is breaks because (nowhere refuses) = sym because ∙ ap cause_of (sym is)
 
   in_a_number : (token : Lexeme) (given : SdfCause) → slice_get texts at.taken ≡ Some token → IsNumberPlace texts stop.number → Stays number stop.state token given → cause.BadNumber ≡ given
@@ -61,18 +62,21 @@ module _ (number : Timescale → List ℕ → Option Value) (texts : List Lexeme
       broken token cause.OpenText given kind.OpenQuoted (ap (λ (t : Lexeme). t.kind) (sym (same_token token other e there)) ∙ is) refl refl s
   at_a_token token given c e s (open_comment {token = other} there is) =
       broken token cause.OpenComment given kind.OpenNote (ap (λ (t : Lexeme). t.kind) (sym (same_token token other e there)) ∙ is) refl refl s
-  at_a_token token given c e s (end_inside there) = absurd (let known : token_at texts stop.number ≡ Some token = here number texts stop at (Some token) e in cc)
+  at_a_token token given c e s (end_inside there) = never_none (sym (here number texts stop at (Some token) e) ∙ there)
   at_a_token token given c e s (bad_number there place) = in_a_number token given e place s
   at_a_token token given c e s (unexpected {token = other} there whole none) =
       not_expected token given e (ap (λ (t : Lexeme). is_broken t.kind) (sym (same_token token other e there)) ∙ whole) none s
 
+  no_token : {A : Type 0} {token : Lexeme} → slice_get texts at.taken ≡ None → token_at texts stop.number ≡ Some token → A
+  no_token e there = never_some (sym (here number texts stop at None e) ∙ there)
+
   at_the_end : (given c : SdfCause) → slice_get texts at.taken ≡ None → given ≡ cause.EndInside → IsCause texts stop.number c → c ≡ given
   at_the_end given c e is (end_inside there) = sym is
-  at_the_end given c e is (bad_byte there k) = absurd (let known : token_at texts stop.number ≡ None = here number texts stop at None e in cc)
-  at_the_end given c e is (open_text there k) = absurd (let known : token_at texts stop.number ≡ None = here number texts stop at None e in cc)
-  at_the_end given c e is (open_comment there k) = absurd (let known : token_at texts stop.number ≡ None = here number texts stop at None e in cc)
-  at_the_end given c e is (bad_number there place) = absurd (let known : token_at texts stop.number ≡ None = here number texts stop at None e in cc)
-  at_the_end given c e is (unexpected there whole none) = absurd (let known : token_at texts stop.number ≡ None = here number texts stop at None e in cc)
+  at_the_end given c e is (bad_byte there k) = no_token e there
+  at_the_end given c e is (open_text there k) = no_token e there
+  at_the_end given c e is (open_comment there k) = no_token e there
+  at_the_end given c e is (bad_number there place) = no_token e there
+  at_the_end given c e is (unexpected there whole none) = no_token e there
 
   by_why : (o : Option Lexeme) (c : SdfCause) → slice_get texts at.taken ≡ o → Refuses (next number) finish stop o → IsCause texts stop.number c → c ≡ stop.cause
   by_why (Some token) c e (at_token refusal) is = at_a_token token stop.cause c e (stays number stop.state token stop.cause (next_of stop.state.mode (class_of token.kind token.bytes) token.bytes) refl refusal) is

@@ -3,6 +3,7 @@ use Rattle.std.proofs.Common.{◌≡◌, ℕ, suc, ◌+◌, ◌-◌, ◌<◌, �
 use Rattle.std.proofs.lemmas.List.{drop_more, drop_all}
 use Rattle.sdf_reader.specs.Tokens.{said_behind, meaning}
 use Rattle.token_texts.specs.ByteLemmas.{not_byte}
+use Rattle.sdf_reader.proofs.Clashes.{never_true, never_false}
 
 -- what the whole says is the text so far, and what the rest says
 pub record SaidSoFar (whole text : List ℕ) (taken : Bool) (place : ℕ) : Type 0 where
@@ -24,14 +25,14 @@ step_on whole text taken place takes h lt e =
 
 pub said_takes : (whole text : List ℕ) (taken : Bool) (place : ℕ) (takes : Bool) → SaidSoFar whole text taken place → place < length whole → takes ≡ (get_or whole place 0 == 92 && not taken) → takes ≡ true → SaidSoFar whole text takes (place + 1)
 said_takes whole text taken place true h lt e is = record { within = omega arith; so_far = step_on whole text taken place true h lt e }
-said_takes whole text taken place false h lt e is = absurd (cc)
+said_takes whole text taken place false h lt e is = never_true is
 
 pub said_keeps : (whole text : List ℕ) (taken : Bool) (place : ℕ) (takes : Bool) → SaidSoFar whole text taken place → place < length whole → takes ≡ (get_or whole place 0 == 92 && not taken) → takes ≡ false → SaidSoFar whole (text ++ get_or whole place 0 ∷ []) takes (place + 1)
 said_keeps whole text taken place false h lt e is = record {
   within = omega arith;
   so_far = step_on whole text taken place false h lt e ∙ sym (append_assoc text (get_or whole place 0 ∷ []) (said_behind false (drop (place + 1) whole)));
 }
-said_keeps whole text taken place true h lt e is = absurd (cc)
+said_keeps whole text taken place true h lt e is = never_false is
 
 pub said_ends : (whole text : List ℕ) (taken : Bool) (place : ℕ) → SaidSoFar whole text taken place → length whole ≤ place → text ≡ said_behind false whole
 unfolding said_behind

@@ -11,6 +11,7 @@ use Rattle.sdf_reader.specs.declared.timescales.TimeUnit.TheVariants.{Second, Mi
 use Rattle.sdf_reader.specs.declared.timescales.Timescale.{Timescale}
 use Rattle.sdf_reader.specs.declared.timescales.ScalePlace.{ScalePlace}
 use Rattle.sdf_reader.specs.declared.timescales.ScalePlace.TheVariants.{Start, Whole, Point, Fraction, Letter, Done}
+use Rattle.sdf_reader.proofs.Clashes.{never_some, same_some}
 
 -- the digits of a number
 abbrev digits : Count → List ℕ
@@ -43,7 +44,7 @@ LeadsTo (Done scale) bytes = (long : Bool) × (bytes ≡ (number long scale.coun
 
 -- what a place becomes
 arrives : (place next : ScalePlace) (bytes : List ℕ) → ◌≡◌ {A = Option ScalePlace} (Some place) (Some next) → LeadsTo place bytes → LeadsTo next bytes
-arrives place next bytes e leads = let same : place ≡ next = cc in subst (λ (p : ScalePlace). LeadsTo p bytes) same leads
+arrives place next bytes e leads = subst (λ (p : ScalePlace). LeadsTo p bytes) (same_some e) leads
 
 with_byte : (bytes others : List ℕ) (byte known : ℕ) → bytes ≡ others → (byte == known) ≡ true → bytes ++ byte ∷ [] ≡ others ++ known ∷ []
 with_byte bytes others byte known e is = ap (λ l. l ++ byte ∷ []) e ∙ ap (λ b. others ++ b ∷ []) (eqb-true byte known is)
@@ -67,13 +68,13 @@ unit_after long count byte bytes next e step = by (byte == 115) (byte == 109) (b
     by false false false true p f _ _ _ is _ _ step = a_unit long count Nanosecond byte 110 bytes next refl e is step
     by false false false false true f _ _ _ _ is _ step = a_unit long count Picosecond byte 112 bytes next refl e is step
     by false false false false false true _ _ _ _ _ is step = a_unit long count Femtosecond byte 102 bytes next refl e is step
-    by false false false false false false _ _ _ _ _ _ step = absurd (cc)
+    by false false false false false false _ _ _ _ _ _ step = never_some step
 
 -- one byte more
 zero_after : (count : Count) (byte : ℕ) (bytes : List ℕ) (next : ScalePlace) → bytes ≡ digits count → (byte == 48) ≡ true → more_zeros (tenfold count) ≡ Some next → LeadsTo next (bytes ++ byte ∷ [])
 zero_after One byte bytes next e is step = arrives (Whole Ten) next (bytes ++ byte ∷ []) step (with_byte bytes (digits One) byte 48 e is)
 zero_after Ten byte bytes next e is step = arrives (Whole Hundred) next (bytes ++ byte ∷ []) step (with_byte bytes (digits Ten) byte 48 e is)
-zero_after Hundred byte bytes next e is step = absurd (cc)
+zero_after Hundred byte bytes next e is step = never_some step
 
 whole_after : (zero point : Bool) (count : Count) (byte : ℕ) (bytes : List ℕ) (next : ScalePlace) → bytes ≡ digits count → (byte == 48) ≡ zero → (byte == 46) ≡ point
     → cond zero (more_zeros (tenfold count)) (cond point (Some (Point count)) (behind_number count byte)) ≡ Some next → LeadsTo next (bytes ++ byte ∷ [])
@@ -83,18 +84,18 @@ whole_after false false count byte bytes next e _ _ step = unit_after false coun
 
 start_after : (one : Bool) (byte : ℕ) (bytes : List ℕ) (next : ScalePlace) → bytes ≡ [] → (byte == 49) ≡ one → cond one (Some (Whole One)) None ≡ Some next → LeadsTo next (bytes ++ byte ∷ [])
 start_after true byte bytes next e is step = arrives (Whole One) next (bytes ++ byte ∷ []) step (with_byte bytes [] byte 49 e is)
-start_after false byte bytes next e is step = absurd (cc)
+start_after false byte bytes next e is step = never_some step
 
 point_after : (zero : Bool) (count : Count) (byte : ℕ) (bytes : List ℕ) (next : ScalePlace) → bytes ≡ digits count ++ 46 ∷ [] → (byte == 48) ≡ zero → cond zero (Some (Fraction count)) None ≡ Some next → LeadsTo next (bytes ++ byte ∷ [])
 point_after true count byte bytes next e is step =
     arrives (Fraction count) next (bytes ++ byte ∷ []) step (with_byte bytes (digits count ++ 46 ∷ []) byte 48 e is ∙ append_assoc (digits count) (46 ∷ []) (48 ∷ []))
-point_after false count byte bytes next e is step = absurd (cc)
+point_after false count byte bytes next e is step = never_some step
 
 letter_after : (ends long : Bool) (count : Count) (unit : TimeUnit) (byte : ℕ) (bytes : List ℕ) (next : ScalePlace) → bytes ≡ number long count ++ letters unit → (byte == 115) ≡ ends
     → cond ends (Some (Done (record { count = count; unit = unit }))) None ≡ Some next → LeadsTo next (bytes ++ byte ∷ [])
 letter_after true long count unit byte bytes next e is step =
     arrives (Done (record { count = count; unit = unit })) next (bytes ++ byte ∷ []) step (long, with_byte bytes (number long count ++ letters unit) byte 115 e is)
-letter_after false long count unit byte bytes next e is step = absurd (cc)
+letter_after false long count unit byte bytes next e is step = never_some step
 
 place_leads : (place next : ScalePlace) (byte : ℕ) (bytes : List ℕ) → LeadsTo place bytes → place_after place byte ≡ Some next → LeadsTo next (bytes ++ byte ∷ [])
 place_leads Start next byte bytes leads step = start_after (byte == 49) byte bytes next leads refl step
@@ -102,7 +103,7 @@ place_leads (Whole count) next byte bytes leads step = whole_after (byte == 48) 
 place_leads (Point count) next byte bytes leads step = point_after (byte == 48) count byte bytes next leads refl step
 place_leads (Fraction count) next byte bytes leads step = unit_after true count byte bytes next leads step
 place_leads (Letter count unit) next byte bytes leads step = letter_after (byte == 115) leads.0 count unit byte bytes next leads.1 refl step
-place_leads (Done scale) next byte bytes leads step = absurd (cc)
+place_leads (Done scale) next byte bytes leads step = never_some step
 
 -- more bytes
 on_leads : (place next : ScalePlace) (before bytes : List ℕ) → LeadsTo place before → place_on (Some place) bytes ≡ Some next → LeadsTo next (before ++ bytes)
@@ -112,7 +113,7 @@ on_leads place next before (byte ∷ bytes) leads e = by (λ behind. on_leads be
     by : ((behind : ScalePlace) → LeadsTo behind (before ++ byte ∷ []) → place_on (Some behind) bytes ≡ Some next → LeadsTo next ((before ++ byte ∷ []) ++ bytes))
         → (found : Option ScalePlace) → place_after place byte ≡ found → place_on found bytes ≡ Some next → LeadsTo next (before ++ byte ∷ bytes)
     by later (Some behind) is e = subst (LeadsTo next) (append_assoc before (byte ∷ []) bytes) (later behind (place_leads place behind byte before leads is) e)
-    by later None is e = absurd (let none : None ≡ Some next = sym (place_on_none bytes) ∙ e in cc)
+    by later None is e = let none : None ≡ Some next = sym (place_on_none bytes) ∙ e in never_some none
 
 -- each number with each unit is in the table
 in_table : (long : Bool) (count : Count) (unit : TimeUnit) → timescale_of ((number long count ++ letters unit) ++ 115 ∷ []) ≡ Some (record { count = count; unit = unit })

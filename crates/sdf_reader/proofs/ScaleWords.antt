@@ -9,6 +9,7 @@ use Rattle.sdf_reader.specs.Timescales.{scale_in, timescales, timescale_of}
 use Rattle.sdf_reader.specs.declared.timescales.Timescale.{Timescale}
 use Rattle.sdf_reader.specs.declared.timescales.ScalePlace.{ScalePlace}
 use Rattle.sdf_reader.specs.declared.timescales.ScalePlace.TheVariants.{Start, Done}
+use Rattle.sdf_reader.proofs.Clashes.{never_some, same_some}
 
 -- behind a byte that cannot go on, none can
 pub place_on_none : (bytes : List ℕ) → place_on None bytes ≡ None
@@ -31,14 +32,13 @@ AreRead [] = ⊤
 AreRead (known ∷ later) = (place_behind Start known.0 ≡ Some (Done known.1)) × AreRead later
 
 found_read : (table : List (List ℕ × Timescale)) → AreRead table → (bytes : List ℕ) (scale : Timescale) → scale_in table bytes ≡ Some scale → place_behind Start bytes ≡ Some (Done scale)
-found_read [] are bytes scale e = absurd (cc)
+found_read [] are bytes scale e = never_some e
 found_read (known ∷ later) are bytes scale e = by (found_read later are.1 bytes scale) (bytes_eq known.0 bytes) refl
   where
     by : (scale_in later bytes ≡ Some scale → place_behind Start bytes ≡ Some (Done scale)) → (same : Bool) → bytes_eq known.0 bytes ≡ same → place_behind Start bytes ≡ Some (Done scale)
     by later_read true is =
         let found : Some known.1 ≡ Some scale = sym (ap (λ t. cond t (Some known.1) (scale_in later bytes)) is) ∙ e in
-        let one : known.1 ≡ scale = cc in
-        ap (place_behind Start) (sym ((bytes_eq-Decides known.0 bytes).0 is)) ∙ are.0 ∙ ap (λ s. Some (Done s)) one
+        ap (place_behind Start) (sym ((bytes_eq-Decides known.0 bytes).0 is)) ∙ are.0 ∙ ap (λ s. Some (Done s)) (same_some found)
     by later_read false is = later_read (sym (ap (λ t. cond t (Some known.1) (scale_in later bytes)) is) ∙ e)
 
 all_read : AreRead timescales
@@ -147,5 +147,5 @@ scale_read_in_two word other scale e = by (place_behind Start word) refl
     whole = sym (place_on_append (Some Start) word other) ∙ scale_read (word ++ other) scale e
 
     by : (found : Option ScalePlace) → place_behind Start word ≡ found → (place : ScalePlace) × (place_behind Start word ≡ Some place) × (place_behind place other ≡ Some (Done scale))
-    by None is = absurd (let none : None ≡ Some (Done scale) = sym (place_on_none other) ∙ ap (λ f. place_on f other) (sym is) ∙ whole in cc)
+    by None is = let none : None ≡ Some (Done scale) = sym (place_on_none other) ∙ ap (λ f. place_on f other) (sym is) ∙ whole in never_some none
     by (Some place) is = (place, is, ap (λ f. place_on f other) (sym is) ∙ whole)

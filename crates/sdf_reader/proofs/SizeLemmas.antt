@@ -17,6 +17,7 @@ use Rattle.sdf_reader.specs.declared.rows.Value.{Value}
 use Rattle.sdf_reader.specs.declared.rows.SdfRow.{SdfRow}
 use Rattle.sdf_reader.specs.declared.timescales.Timescale.{Timescale}
 use Rattle.sdf_reader.specs.declared.ends.SdfCause.{SdfCause}
+use Rattle.sdf_reader.proofs.Clashes.{never, same_ok}
 
 -- ---- values
 
@@ -73,7 +74,7 @@ abbrev led : State → Result State SdfCause
 led s = Ok s
 
 leads : (most : ℕ) (s after : State) → Fits most s → led s ≡ led after → Fits most after
-leads most s after fits e = let same : s ≡ after = cc in subst (Fits most) same fits
+leads most s after fits e = subst (Fits most) (same_ok e) fits
 
 applied_fits : (number : Timescale → List ℕ → Option Value) → Decides IsValue number → (action : Action) (s after : State) (bytes : List ℕ) → IsValueWithin s.entry.rise → IsValueWithin s.entry.fall → applied number action s bytes ≡ Ok after → Fits (length s.rows + 1) after
 applied_fits number decides action s after bytes rise fall e = by action e
@@ -82,7 +83,7 @@ applied_fits number decides action s after bytes rise fall e = by action e
     entry_with value within = kept_fits value s.entry within (record { rise = rise; fall = fall })
 
     by_number : (found : Option Value) → number s.scale bytes ≡ found → numbered_by found s ≡ Ok after → Fits (length s.rows + 1) after
-    by_number None f e = absurd (cc)
+    by_number None f e = never e
     by_number (Some value) f e =
         let fits = entry_with value (value_within s.scale bytes value (decides.means s.scale bytes value f)) in
         leads (length s.rows + 1) _ after (record { rise = fits.rise; fall = fits.fall; rows = omega arith }) e

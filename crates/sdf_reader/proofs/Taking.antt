@@ -29,32 +29,38 @@ use Rattle.sdf_reader.specs.declared.reader.Taken.TheVariants as count
 use Rattle.sdf_reader.specs.declared.rows.Value.{Value}
 use Rattle.sdf_reader.specs.declared.rows.SdfRow.{SdfRow}
 use Rattle.sdf_reader.specs.declared.timescales.Timescale.{Timescale}
+use Rattle.sdf_reader.proofs.Clashes.{same_ok, never_some, never_true, never_false}
+
+-- a keyword is a word
+pub keyword_is_word : (k : Kind) (bytes : List ℕ) (keyword : Keyword) → keyword_in k bytes ≡ Some keyword → k ≡ kind.Word
+keyword_is_word kind.Word bytes keyword e = refl
+keyword_is_word _ bytes keyword e = never_some e
 
 -- a word that is no keyword of its own is that of a form that is passed over
 over_in_heads : (found : Option Keyword) (bytes : List ℕ) → holds_of own_in_heads found ≡ false → next_of mode.HeadWord (class.Word found) bytes ≡ pass site.Heads 0
 over_in_heads None bytes e = refl
-over_in_heads (Some key.Design) bytes e = absurd (cc)
-over_in_heads (Some key.Divider) bytes e = absurd (cc)
-over_in_heads (Some key.Timescale) bytes e = absurd (cc)
-over_in_heads (Some key.Cell) bytes e = absurd (cc)
+over_in_heads (Some key.Design) bytes e = never_false e
+over_in_heads (Some key.Divider) bytes e = never_false e
+over_in_heads (Some key.Timescale) bytes e = never_false e
+over_in_heads (Some key.Cell) bytes e = never_false e
 over_in_heads (Some _) bytes e = refl
 
 over_in_specs : (found : Option Keyword) (bytes : List ℕ) → holds_of own_in_cells found ≡ false → next_of mode.SpecWord (class.Word found) bytes ≡ pass site.Specs 0
 over_in_specs None bytes e = refl
-over_in_specs (Some key.Delay) bytes e = absurd (cc)
-over_in_specs (Some key.Absolute) bytes e = absurd (cc)
+over_in_specs (Some key.Delay) bytes e = never_false e
+over_in_specs (Some key.Absolute) bytes e = never_false e
 over_in_specs (Some _) bytes e = refl
 
 over_in_delays : (found : Option Keyword) (bytes : List ℕ) → holds_of own_in_cells found ≡ false → next_of mode.DelayWord (class.Word found) bytes ≡ pass site.Delays 0
 over_in_delays None bytes e = refl
-over_in_delays (Some key.Delay) bytes e = absurd (cc)
-over_in_delays (Some key.Absolute) bytes e = absurd (cc)
+over_in_delays (Some key.Delay) bytes e = never_false e
+over_in_delays (Some key.Absolute) bytes e = never_false e
 over_in_delays (Some _) bytes e = refl
 
 over_in_entries : (found : Option Keyword) (bytes : List ℕ) → holds_of own_in_entries found ≡ false → next_of mode.EntryWord (class.Word found) bytes ≡ pass site.Entries 0
 over_in_entries None bytes e = refl
-over_in_entries (Some key.IoPath) bytes e = absurd (cc)
-over_in_entries (Some key.Interconnect) bytes e = absurd (cc)
+over_in_entries (Some key.IoPath) bytes e = never_false e
+over_in_entries (Some key.Interconnect) bytes e = never_false e
 over_in_entries (Some _) bytes e = refl
 
 -- how many values there are, as the reader counts them
@@ -90,11 +96,6 @@ module _ (IsNumber : Timescale → List ℕ → Value → Type 0) (read : Timesc
   by_kind : (s : State) (token : Tok) (k : Kind) {after : State} {rest : List Tok} → token.text.kind ≡ k → step read s k token.text.bytes ≡ Ok after → Leads after rest → Leads s (token ∷ rest)
   by_kind s token k is e leads = taken (ap (λ (x : Kind). step read s x token.text.bytes) is ∙ e) leads
 
-  -- a keyword is a word
-  keyword_is_word : (k : Kind) (bytes : List ℕ) (keyword : Keyword) → keyword_in k bytes ≡ Some keyword → k ≡ kind.Word
-  keyword_is_word kind.Word bytes keyword e = refl
-  keyword_is_word _ bytes keyword e = absurd (cc)
-
   -- what a keyword does
   as_keyword : (s : State) (token : Tok) (keyword : Keyword) → IsKeyword keyword token → next read s token ≡ moved read kind.Word (next_of s.mode (class.Word (Some keyword)) token.text.bytes) s token.text.bytes
   as_keyword s token keyword is =
@@ -114,7 +115,7 @@ module _ (IsNumber : Timescale → List ℕ → Value → Type 0) (read : Timesc
     piece_goes : (k : Kind) (s : Site) (rows : List SdfRow) (depth : ℕ) (entry : Entry) (bytes : List ℕ) → is_piece k ≡ true → step read (at (mode.Over s depth) rows entry) k bytes ≡ Ok (at (mode.Over s depth) rows entry)
     piece_goes kind.Word s rows depth entry bytes is = refl
     piece_goes kind.Quoted s rows depth entry bytes is = refl
-    piece_goes _ s rows depth entry bytes is = absurd (cc)
+    piece_goes _ s rows depth entry bytes is = never_true is
 
     -- what stands loose in a form that is passed over
     loose : (s : Site) (rows : List SdfRow) (depth : ℕ) (entry : Entry) {from rest : List Tok} → Loose from rest → Leads (at (mode.Over s depth) rows entry) rest → Leads (at (mode.Over s depth) rows entry) from
@@ -203,8 +204,7 @@ module _ (IsNumber : Timescale → List ℕ → Value → Type 0) (read : Timesc
     peel s token after {rest} e leads =
         let first = first_step (next read) finish leads in
         let given : next read s token ≡ Ok first.0 = first.1 in
-        let same : first.0 ≡ after = cc in
-        subst (λ (x : State). Leads x rest) same first.2
+        subst (λ (x : State). Leads x rest) (same_ok (sym given ∙ e)) first.2
 
     peel_open : (rows : List SdfRow) (depth : ℕ) (entry : Entry) {token : Tok} {rest : List Tok} → Is kind.LeftParen token → Leads (at (mode.Over site.Entries depth) rows entry) (token ∷ rest) → Leads (at (mode.Over site.Entries (suc depth)) rows entry) rest
     peel_open rows depth entry {token = token} is leads =

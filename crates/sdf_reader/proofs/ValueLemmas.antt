@@ -8,6 +8,7 @@ use Rattle.sdf_reader.specs.Timescales.{power_of}
 use Rattle.sdf_reader.specs.Numbers.{IsTime, IsMember, left_out, member, AreMembers, single_value, IsValue, single, triple, HasNoColon}
 use Rattle.sdf_reader.specs.declared.rows.Value.{Value}
 use Rattle.sdf_reader.specs.declared.timescales.Timescale.{Timescale}
+use Rattle.sdf_reader.proofs.Clashes.{never_none, never_true, never_false, never_more, never_empty, same_first, same_others}
 
 -- ---- colons
 
@@ -28,13 +29,12 @@ cut_there text k lt is =
 
 -- there is one first colon
 pub one_split : (a b c d : List ℕ) → HasNoColon a → HasNoColon c → a ++ 58 ∷ b ≡ c ++ 58 ∷ d → (a ≡ c) × (b ≡ d)
-one_split [] b [] d p q e = (refl, cc)
-one_split [] b (x ∷ c) d p q e = absurd (q.0 (cc))
-one_split (x ∷ a) b [] d p q e = absurd (p.0 (cc))
+one_split [] b [] d p q e = (refl, same_others e)
+one_split [] b (x ∷ c) d p q e = absurd (q.0 (sym (same_first e)))
+one_split (x ∷ a) b [] d p q e = absurd (p.0 (same_first e))
 one_split (x ∷ a) b (y ∷ c) d p q e =
-    let rest = one_split a b c d p.1 q.1 (cc) in
-    let first : x ≡ y = cc in
-    (ap₂ (λ h t. h ∷ t) first rest.0, rest.1)
+    let rest = one_split a b c d p.1 q.1 (same_others e) in
+    (ap₂ (λ h t. h ∷ t) (same_first e) rest.0, rest.1)
 
 pub colon_inside : (a b : List ℕ) → HasNoColon (a ++ 58 ∷ b) → ⊥
 colon_inside [] b none = none.0 refl
@@ -87,15 +87,15 @@ member_has_none power text (Some time) (member is) = time_has_none power text ti
 -- a literal has a byte
 no_left : (a b : List ℕ) → [] ≡ a ++ b → a ≡ []
 no_left [] b e = refl
-no_left (x ∷ a) b e = absurd (cc)
+no_left (x ∷ a) b e = never_more e
 
 no_right : (a b : List ℕ) → [] ≡ a ++ b → [] ≡ b
 no_right [] b e = e
-no_right (x ∷ a) b e = absurd (cc)
+no_right (x ∷ a) b e = never_more e
 
 no_fraction : (fraction : Option (List ℕ)) → fraction_text fraction ≡ [] → fraction_digits fraction ≡ []
 no_fraction None e = refl
-no_fraction (Some ds) e = absurd (cc)
+no_fraction (Some ds) e = never_empty e
 
 nothing_spelled : (l : Literal) → Spells [] l → ⊥
 nothing_spelled l spells =
@@ -118,8 +118,8 @@ empty_text [] e = refl
 empty_text (b ∷ text) e = absurd (let none : length (b ∷ text) ≡ 0 = eqb-true (length (b ∷ text)) 0 e in omega (arith, none))
 
 pub some_text : (text : List ℕ) → (length text == 0) ≡ false → text ≡ [] → ⊥
-some_text [] e f = absurd (let t : true ≡ false = e in cc)
-some_text (b ∷ text) e f = absurd (cc)
+some_text [] e f = never_false e
+some_text (b ∷ text) e f = never_empty f
 
 pub empty_member : (power : ℕ) (text : List ℕ) → text ≡ [] → IsMember power text None
 empty_member power text e = subst (λ (t : List ℕ). IsMember power t None) (sym e) left_out
@@ -133,23 +133,19 @@ none_again : (power : ℕ) (text : List ℕ) (m n : Option Femto) → m ≡ None
 none_again power [] None None e left_out left_out = refl
 none_again power [] None (Some time) e left_out (member is) = absurd (nothing_spelled is.reads.literal is.reads.spells)
 none_again power (b ∷ text) None n e is other = elim is [ ]
-none_again power text (Some time) n e (member is) other = absurd (cc)
+none_again power text (Some time) n e (member is) other = never_none e
 
 none_of : (a b c : Option Femto) → (is_some a || is_some b || is_some c) ≡ false → (a ≡ None) × (b ≡ None) × (c ≡ None)
 none_of None None None e = (refl, refl, refl)
-none_of (Some a) None None e = absurd (cc)
-none_of None (Some b) None e = absurd (cc)
-none_of None None (Some c) e = absurd (cc)
-none_of (Some a) (Some b) None e = absurd (cc)
-none_of (Some a) None (Some c) e = absurd (cc)
-none_of None (Some b) (Some c) e = absurd (cc)
-none_of (Some a) (Some b) (Some c) e = absurd (cc)
+none_of (Some a) b c e = never_false e
+none_of None (Some b) c e = never_false e
+none_of None None (Some c) e = never_false e
 
 all_none : (a b c : Option Femto) → a ≡ None → b ≡ None → c ≡ None → (is_some a || is_some b || is_some c) ≡ true → ⊥
-all_none None None None p q r e = absurd (cc)
-all_none (Some a) b c p q r e = absurd (cc)
-all_none None (Some b) c p q r e = absurd (cc)
-all_none None None (Some c) p q r e = absurd (cc)
+all_none None None None p q r e = never_true e
+all_none (Some a) b c p q r e = never_none p
+all_none None (Some b) c p q r e = never_none q
+all_none None None (Some c) p q r e = never_none r
 
 -- three members that are left out make no value
 pub no_triple : (power : ℕ) (least typical largest : List ℕ) (a b c : Option Femto) (value : Value) → IsMember power least a → IsMember power typical b → IsMember power largest c

@@ -1,7 +1,7 @@
 //! What the reader waits for, and what becomes of it with each token.
 ghost use Rattle.std.specs.Prelude.{◌≡◌, ◌+◌, ◌<◌, ◌^◌};
 ghost use Rattle.sdf_reader.specs.Grammar.{is_retain};
-ghost use Rattle.sdf_reader.specs.Steps.{class_of, go, pass, divide_by, scale_from, scale_at, stray_name, site_mode, closes, depth_of, next_of};
+ghost use Rattle.sdf_reader.specs.Steps.{class_of, go, pass, divide_by, scale_from, scale_at, stray_name, closes, depth_of, next_of};
 
 use crate::scan::Kind;
 use crate::timescales::{ScalePlace, Timescale};
@@ -189,28 +189,18 @@ fn is_retain(shape: Shape, keyword: Option<Keyword>) -> bool
     }
 }
 
-impl Site {
-    /// What is waited for behind a form that was passed over.
-    pub fn mode(self) -> Mode
-        ensures { result ≡ site_mode self }
-    {
-        match self {
-            Site::Heads => Mode::Heads,
-            Site::Specs => Mode::Specs,
-            Site::Delays => Mode::Delays,
-            Site::Entries => Mode::Entries,
-        }
-    }
-}
-
 /// A `)` in a form that is passed over ends one of the others, or that form.
 fn closes(site: Site, depth: usize) -> Option<(Mode, Action)>
     ensures { result ≡ closes site depth }
 {
-    if depth == 0 {
-        go(site.mode())
-    } else {
-        pass(site, depth - 1)
+    if depth > 0 {
+        return pass(site, depth - 1);
+    }
+    match site {
+        Site::Heads => go(Mode::Heads),
+        Site::Specs => go(Mode::Specs),
+        Site::Delays => go(Mode::Delays),
+        Site::Entries => go(Mode::Entries),
     }
 }
 

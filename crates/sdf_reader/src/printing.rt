@@ -2,7 +2,7 @@
 ghost use Rattle.edge_io.specs.Gathering.{Pushes};
 ghost use Rattle.edge_io.specs.Writing.{Writes};
 ghost use Rattle.std.specs.Prelude.{◌≡◌, ◌∷◌, ◌++◌, true, false, codes};
-ghost use Rattle.sdf_reader.specs.Lines.{member_text, is_single, members_text, value_text, instance_text, both_text, same_member, same_value, wire_values_text, names_text, wire_line, path_names_text, path_line, row_line, rows_text};
+ghost use Rattle.sdf_reader.specs.Lines.{member_text, is_single, members_text, value_text, instance_text, both_text, same_member, same_value, wire_values_text, wire_line, path_names_text, path_line, row_line, rows_text};
 
 use crate::rows::{SdfRow, SdfRows, Value};
 use crate::times::print_time;
@@ -59,14 +59,6 @@ fn print_value<O: Sink>(value: &Value, sink: &mut O) -> Result<(), Failed>
     }
 }
 
-/// A name with a blank behind it.
-fn print_name<O: Sink>(name: &[u8], sink: &mut O) -> Result<(), Failed>
-    ensures writes { Writes (name.now ++ codes " ") (O.written sink.old) (O.written sink.new) (O.faults sink.old)
-        (O.faults sink.new) result }
-{
-    write_2(sink, name, b" ")
-}
-
 /// An instance with a blank behind it, or `-` where it is empty.
 fn print_instance<O: Sink>(instance: &[u8], sink: &mut O) -> Result<(), Failed>
     ensures writes { Writes (instance_text instance.now ++ codes " ") (O.written sink.old) (O.written sink.new) (O.faults sink.old)
@@ -75,7 +67,7 @@ fn print_instance<O: Sink>(instance: &[u8], sink: &mut O) -> Result<(), Failed>
     if instance.is_empty() {
         write_all(sink, b"- ")
     } else {
-        print_name(instance, sink)
+        write_2(sink, instance, b" ")
     }
 }
 
@@ -118,14 +110,6 @@ fn print_values<O: Sink>(rise: &Value, fall: &Value, sink: &mut O) -> Result<(),
     }
 }
 
-/// Two names, each with a blank behind it.
-fn print_names<O: Sink>(from: &[u8], to: &[u8], sink: &mut O) -> Result<(), Failed>
-    ensures writes { Writes (names_text from.now to.now) (O.written sink.old) (O.written sink.new) (O.faults sink.old)
-        (O.faults sink.new) result }
-{
-    write_4(sink, from, b" ", to, b" ")
-}
-
 /// The line of a wire.
 fn print_wire<O: Sink>(
     from: &[u8],
@@ -138,7 +122,7 @@ fn print_wire<O: Sink>(
         (O.faults sink.new) result }
 {
     write_all(sink, b"wire ")?;
-    print_names(from, to, sink)?;
+    write_4(sink, from, b" ", to, b" ")?;
     print_values(rise, fall, sink)?;
     write_all(sink, b"\n")?;
     Ok(())
@@ -156,7 +140,7 @@ fn print_path_names<O: Sink>(
 {
     write_all(sink, b"path ")?;
     print_instance(instance, sink)?;
-    print_names(from, to, sink)?;
+    write_4(sink, from, b" ", to, b" ")?;
     Ok(())
 }
 

@@ -14,7 +14,7 @@ use edge_io::{Failed, Sink, write_4, write_all};
 use itoa::Buffer;
 
 /// The count of wires and of paths, the sum of the typical times, and the largest time of any member.
-#[derive(Clone, Copy)]
+#[derive(Drop)]
 pub struct Summary {
     pub wires: u64,
     pub paths: u64,

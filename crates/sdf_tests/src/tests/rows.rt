@@ -4,8 +4,8 @@ ghost use Rattle.sdf_writer.specs.Bounds.{AreWithin};
 
 use corner_set::{Grid, Single};
 use delay_units::Femto;
-use edge_io::{OutOfMemory, Text};
-use sdf_writer::{PathNames, Rows};
+use edge_io::OutOfMemory;
+use sdf_writer::{PathNames, Rows, WireEnd};
 use std::alloc::Global;
 
 /// One row with this time.
@@ -27,9 +27,33 @@ pub fn add_wire(
     requires { unsigned_abs femtoseconds ≤ 10 ^ 27 }
 {
     let delay = row_of(alloc, femtoseconds)?;
-    let from = Text::from_bytes(alloc, from)?;
-    let to = Text::from_bytes(alloc, to)?;
-    rows.add_wire(from, to, &delay)
+    rows.put_wire(WireEnd::Name(from), WireEnd::Name(to), &delay)
+}
+
+/// Adds a path of one corner that only rises.
+pub fn add_rise(
+    alloc: Global,
+    rows: &mut Rows<Single>,
+    names: PathNames<'_>,
+    femtoseconds: i128,
+) -> Result<(), OutOfMemory>
+    requires { unsigned_abs femtoseconds ≤ 10 ^ 27 }
+{
+    let rise = row_of(alloc, femtoseconds)?;
+    rows.put_path(names, Some(&rise), None)
+}
+
+/// Adds a path of one corner that only falls.
+pub fn add_fall(
+    alloc: Global,
+    rows: &mut Rows<Single>,
+    names: PathNames<'_>,
+    femtoseconds: i128,
+) -> Result<(), OutOfMemory>
+    requires { unsigned_abs femtoseconds ≤ 10 ^ 27 }
+{
+    let fall = row_of(alloc, femtoseconds)?;
+    rows.put_path(names, None, Some(&fall))
 }
 
 /// A path through a cell of two inputs, from the first.

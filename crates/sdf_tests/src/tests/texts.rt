@@ -1,64 +1,38 @@
 //! The texts of small designs, worked by hand, and what a fault leaves of one.
-use super::rows::{FROM_A, FROM_B, add_wire, row_of};
-use corner_set::{Grid, Pick, Single, Triple};
+use super::rows::{FROM_A, FROM_B, add_fall, add_rise, add_wire, row_of};
+use corner_set::{CornerSet, Grid, Pick, Single, Triple};
 use delay_units::Femto;
-use edge_io::{Failed, MemSink, OutOfMemory, Text};
-use sdf_writer::{PathNames, Rows, write};
+use edge_io::{MemSink, OutOfMemory, Text};
+use sdf_writer::{PathNames, Rows, WireEnd, write};
 use std::alloc::Global;
+use std::process::Abort;
 use std::test::Fail;
 
-/// The design `top`, in which a pin drives two others.
-fn two_wires(alloc: Global) -> Result<Rows<Single>, OutOfMemory> {
-    let mut rows = Rows::new(alloc, Text::from_bytes(alloc, b"top")?);
-    add_wire(alloc, &mut rows, b"u1/Z", b"u2/A", 300)?;
-    add_wire(alloc, &mut rows, b"u1/Z", b"u3/A", 600)?;
-    Ok(rows)
-}
-
-const TWO_WIRES: &[u8] = b"(DELAYFILE
-(SDFVERSION \"3.0\")
-(DESIGN \"top\")
-(PROGRAM \"gdc\")
-(VERSION \"1\")
-(DIVIDER /)
-(TIMESCALE 1ps)
-(CELL
-(CELLTYPE \"top\")
-(INSTANCE)
-(DELAY
-(ABSOLUTE
-(INTERCONNECT u1/Z u2/A (0.300))
-(INTERCONNECT u1/Z u3/A (0.600))
-)
-)
-)
-)
-";
-
-#[test]
-fn each_wire_has_a_line(rt: HostRuntime) -> Result<(), Fail> {
-    let rows = two_wires(rt.alloc())?;
-    let mut sink = MemSink::new(rt.alloc(), 100, 1000)?;
-    assert_eq!(rt; write(&rows, &mut sink), Ok(()));
-    assert_eq!(rt; sink.written(), TWO_WIRES);
+/// The rows are written so.
+fn are_written<C: CornerSet>(
+    rt: &impl Abort,
+    alloc: Global,
+    rows: &Rows<C>,
+    text: &[u8],
+) -> Result<(), Fail> {
+    let mut sink = MemSink::new(alloc, 100, 1000)?;
+    assert!(rt; write(rows, &mut sink).is_ok());
+    assert!(rt; sink.written() == text);
     Ok(())
 }
 
-#[test]
-fn a_fault_leaves_a_front_of_the_text(rt: HostRuntime) -> Result<(), Fail> {
-    let rows = two_wires(rt.alloc())?;
-    let mut sink = MemSink::new(rt.alloc(), 100, 1000)?;
+/// A write that fails leaves a front of the text.
+fn are_cut(rt: &impl Abort, alloc: Global, rows: &Rows<Single>, text: &[u8]) -> Result<(), Fail> {
+    let mut sink = MemSink::new(alloc, 100, 1000)?;
     sink.fail_at(2)?;
-    assert_eq!(rt; write(&rows, &mut sink), Err(Failed));
-    assert_eq!(rt; Some(sink.written()), TWO_WIRES.get(..100));
+    assert!(rt; write(rows, &mut sink).is_err());
+    assert!(rt; Some(sink.written()) == text.get(..100));
     Ok(())
 }
 
 #[test]
 fn without_wires_the_cell_has_no_delays(rt: HostRuntime) -> Result<(), Fail> {
     let rows = Rows::<Single>::new(rt.alloc(), Text::from_bytes(rt.alloc(), b"a\"b\\c")?);
-    let mut sink = MemSink::new(rt.alloc(), 1000, 1000)?;
-    assert_eq!(rt; write(&rows, &mut sink), Ok(()));
     let text = b"(DELAYFILE
 (SDFVERSION \"3.0\")
 (DESIGN \"a\\\"b\\\\c\")
@@ -72,29 +46,21 @@ fn without_wires_the_cell_has_no_delays(rt: HostRuntime) -> Result<(), Fail> {
 )
 )
 ";
-    assert_eq!(rt; sink.written(), text.as_slice());
-    Ok(())
+    are_written(&rt, rt.alloc(), &rows, text)
 }
 
-/// The design `top` with one wire at three corners.
-fn wire_at_three_corners(alloc: Global) -> Result<Rows<Triple>, OutOfMemory> {
-    let mut rows = Rows::new(alloc, Text::from_bytes(alloc, b"top")?);
+/// One wire at three corners.
+fn add_wide(alloc: Global, rows: &mut Rows<Triple>) -> Result<(), OutOfMemory> {
     let mut delay = Grid::<Triple, Femto>::with_rows(alloc, 1, Femto(200))?;
     delay.set(0, Pick::Typ, Femto(-12_345));
     delay.set(0, Pick::Max, Femto(400));
-    rows.add_wire(
-        Text::from_bytes(alloc, b"a")?,
-        Text::from_bytes(alloc, b"z")?,
-        &delay,
-    )?;
-    Ok(rows)
+    rows.put_wire(WireEnd::Name(b"a"), WireEnd::Name(b"z"), &delay)
 }
 
 #[test]
 fn a_value_has_a_number_for_each_corner(rt: HostRuntime) -> Result<(), Fail> {
-    let rows = wire_at_three_corners(rt.alloc())?;
-    let mut sink = MemSink::new(rt.alloc(), 1000, 1000)?;
-    assert_eq!(rt; write(&rows, &mut sink), Ok(()));
+    let mut rows = Rows::new(rt.alloc(), Text::from_bytes(rt.alloc(), b"top")?);
+    add_wide(rt.alloc(), &mut rows)?;
     let text = b"(DELAYFILE
 (SDFVERSION \"3.0\")
 (DESIGN \"top\")
@@ -113,8 +79,7 @@ fn a_value_has_a_number_for_each_corner(rt: HostRuntime) -> Result<(), Fail> {
 )
 )
 ";
-    assert_eq!(rt; sink.written(), text.as_slice());
-    Ok(())
+    are_written(&rt, rt.alloc(), &rows, text)
 }
 
 /// The path through an inverter.
@@ -125,19 +90,20 @@ const INVERTER: PathNames<'static> = PathNames {
     to: b"Z",
 };
 
-/// The design `top`, with two wires and three paths, of which two are of one cell.
-fn wires_and_paths(alloc: Global) -> Result<Rows<Single>, OutOfMemory> {
-    let mut rows = Rows::new(alloc, Text::from_bytes(alloc, b"top")?);
-    add_wire(alloc, &mut rows, b"a", b"u1/A", 0)?;
-    add_wire(alloc, &mut rows, b"u1/Z", b"z", 0)?;
+/// Adds the path of the inverter.
+fn add_inverter(alloc: Global, rows: &mut Rows<Single>) -> Result<(), OutOfMemory> {
     let rise = row_of(alloc, 37_500)?;
     let fall = row_of(alloc, 19_500)?;
-    rows.put_path(INVERTER, Some(&rise), Some(&fall))?;
-    let fall = row_of(alloc, 12)?;
-    rows.put_path(FROM_A, None, Some(&fall))?;
-    let rise = row_of(alloc, -1_500)?;
-    rows.put_path(FROM_B, Some(&rise), None)?;
-    Ok(rows)
+    rows.put_path(INVERTER, Some(&rise), Some(&fall))
+}
+
+/// Two wires and three paths, of which two are of one cell.
+fn add_rows(alloc: Global, rows: &mut Rows<Single>) -> Result<(), OutOfMemory> {
+    add_wire(alloc, rows, b"a", b"u1/A", 0)?;
+    add_wire(alloc, rows, b"u1/Z", b"z", 300)?;
+    add_inverter(alloc, rows)?;
+    add_fall(alloc, rows, FROM_A, 12)?;
+    add_rise(alloc, rows, FROM_B, -1_500)
 }
 
 const WIRES_AND_PATHS: &[u8] = b"(DELAYFILE
@@ -153,7 +119,7 @@ const WIRES_AND_PATHS: &[u8] = b"(DELAYFILE
 (DELAY
 (ABSOLUTE
 (INTERCONNECT a u1/A (0.000))
-(INTERCONNECT u1/Z z (0.000))
+(INTERCONNECT u1/Z z (0.300))
 )
 )
 )
@@ -181,9 +147,8 @@ const WIRES_AND_PATHS: &[u8] = b"(DELAYFILE
 
 #[test]
 fn each_cell_has_its_paths(rt: HostRuntime) -> Result<(), Fail> {
-    let rows = wires_and_paths(rt.alloc())?;
-    let mut sink = MemSink::new(rt.alloc(), 1000, 1000)?;
-    assert_eq!(rt; write(&rows, &mut sink), Ok(()));
-    assert_eq!(rt; sink.written(), WIRES_AND_PATHS);
-    Ok(())
+    let mut rows = Rows::new(rt.alloc(), Text::from_bytes(rt.alloc(), b"top")?);
+    add_rows(rt.alloc(), &mut rows)?;
+    are_written(&rt, rt.alloc(), &rows, WIRES_AND_PATHS)?;
+    are_cut(&rt, rt.alloc(), &rows, WIRES_AND_PATHS)
 }

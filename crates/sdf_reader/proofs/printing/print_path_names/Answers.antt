@@ -18,7 +18,7 @@ returns-in_err-print_instance g c =
     let p = err_from_is_err_and c.from_residual-in_err-print_instance.result c.from_residual-in_err-print_instance.ensures.1 in
     rw (p.1) record { writes = writes_cut _ _ (writes_then _ _ c.in_ok-write_all.ensures.writes c.in_err-print_instance.ensures.writes) }
 
-pub returns-in_err-print_names : goal.returns-in_err-print_names
-returns-in_err-print_names g c =
-    let p = err_from_is_err_and c.from_residual-in_err-print_names.result c.from_residual-in_err-print_names.ensures.1 in
-    rw (p.1) record { writes = writes_then _ _ (writes_then _ _ c.in_ok-write_all.ensures.writes c.in_ok-print_instance.ensures.writes) c.in_err-print_names.ensures.writes }
+pub returns-in_err-write_4 : goal.returns-in_err-write_4
+returns-in_err-write_4 g c =
+    let p = err_from_is_err_and c.from_residual-in_err-write_4.result c.from_residual-in_err-write_4.ensures.1 in
+    rw (p.1) record { writes = writes_then _ _ (writes_then _ _ c.in_ok-write_all.ensures.writes c.in_ok-print_instance.ensures.writes) c.in_err-write_4.ensures.writes }

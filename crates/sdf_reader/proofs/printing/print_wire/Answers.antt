@@ -13,17 +13,17 @@ returns-in_err-write_all g c =
     let p = err_from_is_err_and c.from_residual.result c.from_residual.ensures.1 in
     rw (p.1) record { writes = writes_cut (codes "wire " ++ names ++ values) (10 ∷ []) (writes_cut (codes "wire " ++ names) values (writes_cut (codes "wire ") names c.in_err-write_all.ensures.writes)) }
 
-pub returns-in_err-print_names : goal.returns-in_err-print_names
-returns-in_err-print_names g c =
-    let p = err_from_is_err_and c.from_residual-in_err-print_names.result c.from_residual-in_err-print_names.ensures.1 in
-    rw (p.1) record { writes = writes_cut _ _ (writes_cut _ _ (writes_then _ _ c.in_ok-write_all.ensures.writes c.in_err-print_names.ensures.writes)) }
+pub returns-in_err-write_4 : goal.returns-in_err-write_4
+returns-in_err-write_4 g c =
+    let p = err_from_is_err_and c.from_residual-in_err-write_4.result c.from_residual-in_err-write_4.ensures.1 in
+    rw (p.1) record { writes = writes_cut _ _ (writes_cut _ _ (writes_then _ _ c.in_ok-write_all.ensures.writes c.in_err-write_4.ensures.writes)) }
 
 pub returns-in_err-print_values : goal.returns-in_err-print_values
 returns-in_err-print_values g c =
     let p = err_from_is_err_and c.from_residual-in_err-print_values.result c.from_residual-in_err-print_values.ensures.1 in
-    rw (p.1) record { writes = writes_cut _ _ (writes_then _ _ (writes_then _ _ c.in_ok-write_all.ensures.writes c.in_ok-print_names.ensures.writes) c.in_err-print_values.ensures.writes) }
+    rw (p.1) record { writes = writes_cut _ _ (writes_then _ _ (writes_then _ _ c.in_ok-write_all.ensures.writes c.in_ok-write_4.ensures.writes) c.in_err-print_values.ensures.writes) }
 
 pub returns-in_err-write_all-2 : goal.returns-in_err-write_all-2
 returns-in_err-write_all-2 g c =
     let p = err_from_is_err_and c.from_residual-in_err-write_all-2.result c.from_residual-in_err-write_all-2.ensures.1 in
-    rw (p.1) record { writes = writes_then _ _ (writes_then _ _ (writes_then _ _ c.in_ok-write_all.ensures.writes c.in_ok-print_names.ensures.writes) c.in_ok-print_values.ensures.writes) c.in_err-write_all-2.ensures.writes }
+    rw (p.1) record { writes = writes_then _ _ (writes_then _ _ (writes_then _ _ c.in_ok-write_all.ensures.writes c.in_ok-write_4.ensures.writes) c.in_ok-print_values.ensures.writes) c.in_err-write_all-2.ensures.writes }
