@@ -1,13 +1,11 @@
 //! One module a subject.
-mod cell_faults;
 mod cell_sets;
-mod cell_tables;
 mod cells;
+mod faults;
 mod joining;
-mod library;
+mod libraries;
 mod lookups;
 mod models;
 mod refused_files;
 mod tables;
-mod tree_tables;
 mod trees;

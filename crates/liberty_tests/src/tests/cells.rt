@@ -1,13 +1,119 @@
-//! The models of the cells of all tables, and their first faults.
-use super::cell_faults;
-use super::cell_tables::{CELLS, OUTPUTS, WantedArc, WantedPin};
-use super::library::LIBRARY_CELLS;
-use super::models::{built, built_both, built_in, built_with};
-use std::test::Fail;
-use timing_arcs::{Arc, Cell, CellFault, Direction, Pin};
+//! Models of cells. The expected answers are another reader's of the same pins and groups; those of `DEFAULTS` are worked by hand.
+use super::libraries::{DEFAULTS, MODELS};
+use super::models::built;
+use std::alloc::Global;
+use timing_arcs::{Arc, ArcKind, Cell, Direction, Pin};
 use worked_files::LIBRARY;
 
-fn is_pin(pin: &Pin, wanted: &WantedPin<'_>) -> bool {
+/// A pin: its name, its direction, and its capacitance in grains of 10^-21 F.
+type WantedPin = (&'static [u8], Direction, u64);
+
+/// An arc: the places of its pins, its kind, and whether it has a rise and a fall.
+type WantedArc = (usize, usize, ArcKind, bool, bool);
+
+/// A cell, and its pins and arcs.
+type Wanted = (&'static [u8], &'static [WantedPin], &'static [WantedArc]);
+
+/// What stands in the worked library.
+const WORKED_ROWS: [Wanted; 2] = [
+    (
+        b"XOR",
+        &[
+            (b"A", Direction::Input, 1_000_000),
+            (b"B", Direction::Input, 1_000_000),
+            (b"Z", Direction::Output, 0),
+        ],
+        &[
+            (0, 2, ArcKind::Positive, true, true),
+            (1, 2, ArcKind::Positive, true, true),
+            (0, 2, ArcKind::Negative, true, true),
+            (1, 2, ArcKind::Negative, true, true),
+        ],
+    ),
+    (
+        b"DFF",
+        &[
+            (b"CK", Direction::Input, 1_000_000),
+            (b"D", Direction::Input, 1_000_000),
+            (b"Q", Direction::Output, 0),
+            (b"QN", Direction::Output, 0),
+        ],
+        &[
+            (0, 2, ArcKind::RisingEdge, true, true),
+            (0, 3, ArcKind::RisingEdge, true, false),
+        ],
+    ),
+];
+
+/// What stands in `MODELS`.
+const MODEL_ROWS: [Wanted; 3] = [
+    // A name's first group counts, and of several attributes the last. A pin that is no input has no capacitance.
+    (
+        b"pins",
+        &[
+            (b"A", Direction::Input, 2_000_000),
+            (b"B", Direction::Output, 0),
+            (b"C", Direction::Input, 3_000_000),
+            (b"D", Direction::Input, 3_000_000),
+            (b"E", Direction::Input, 4_000_000),
+            (b"F", Direction::Inout, 0),
+            (b"G", Direction::Internal, 0),
+            (b"H", Direction::Input, 0),
+            (b"I", Direction::Input, 0),
+        ],
+        &[],
+    ),
+    // By output pin, then by group, then by related pin. One that is no input gives no arc.
+    (
+        b"arcs",
+        &[
+            (b"A", Direction::Input, 0),
+            (b"B", Direction::Input, 0),
+            (b"C", Direction::Inout, 0),
+            (b"P", Direction::Output, 0),
+            (b"Q", Direction::Output, 0),
+            (b"R", Direction::Output, 0),
+            (b"S", Direction::Output, 0),
+            (b"T", Direction::Output, 0),
+            (b"U", Direction::Output, 0),
+            (b"V", Direction::Input, 0),
+        ],
+        &[
+            (1, 4, ArcKind::Both, true, false),
+            (0, 4, ArcKind::Both, true, false),
+            (0, 4, ArcKind::Both, true, false),
+            (0, 4, ArcKind::Both, true, false),
+            (0, 5, ArcKind::FallingEdge, true, false),
+            (0, 5, ArcKind::RisingEdge, true, false),
+            (0, 5, ArcKind::Positive, true, false),
+            (0, 5, ArcKind::Negative, true, false),
+            (0, 5, ArcKind::Both, true, false),
+            (0, 5, ArcKind::Both, false, true),
+            (0, 5, ArcKind::Both, true, false),
+            (0, 6, ArcKind::Positive, true, false),
+            (1, 7, ArcKind::Negative, true, true),
+            (0, 7, ArcKind::Negative, true, true),
+            (9, 8, ArcKind::Both, true, false),
+        ],
+    ),
+    (b"twice", &[(b"A", Direction::Input, 0)], &[]),
+];
+
+/// What stands in `DEFAULTS`: the capacitance, or else the larger of the edges that there are, or else the default, times 1.5 pF.
+const DEFAULT_ROWS: [Wanted; 1] = [(
+    b"c",
+    &[
+        (b"A", Direction::Input, 1_500_000_000),
+        (b"B", Direction::Input, 9_000_000_000),
+        (b"C", Direction::Input, 9_750_000_000),
+        (b"D", Direction::Input, 4_500_000_000),
+        (b"E", Direction::Input, 3_000_000_000),
+        (b"F", Direction::Input, 10_500_000_000),
+    ],
+    &[],
+)];
+
+fn is_pin(pin: &Pin, wanted: &WantedPin) -> bool {
     pin.name.bytes() == wanted.0 && pin.direction == wanted.1 && pin.cap.0 == wanted.2
 }
 
@@ -19,99 +125,48 @@ fn is_arc(arc: &Arc, wanted: &WantedArc) -> bool {
         && arc.fall.is_some() == wanted.4
 }
 
-fn are_pins(pins: &[Pin], wanted: &[WantedPin<'_>]) -> bool {
+fn are_pins(pins: &[Pin], wanted: &[WantedPin]) -> bool {
+    for (pin, row) in pins.iter().zip(wanted) {
+        if !is_pin(pin, row) {
+            return false;
+        }
+    }
     pins.len() == wanted.len()
-        && pins
-            .iter()
-            .zip(wanted)
-            .all(|(pin, wanted)| is_pin(pin, wanted))
 }
 
 fn are_arcs(arcs: &[Arc], wanted: &[WantedArc]) -> bool {
+    for (arc, row) in arcs.iter().zip(wanted) {
+        if !is_arc(arc, row) {
+            return false;
+        }
+    }
     arcs.len() == wanted.len()
-        && arcs
-            .iter()
-            .zip(wanted)
-            .all(|(arc, wanted)| is_arc(arc, wanted))
 }
 
-/// Whether this is a model with these pins and arcs.
-fn is_model(
-    found: Option<Result<Cell, CellFault>>,
-    pins: &[WantedPin<'_>],
-    arcs: &[WantedArc],
-) -> bool {
-    match found {
-        Some(Ok(cell)) => are_pins(cell.pins(), pins) && are_arcs(cell.arcs(), arcs),
-        _ => false,
+fn is_model(cell: &Cell, wanted: &Wanted) -> bool {
+    are_pins(cell.pins(), wanted.1) && are_arcs(cell.arcs(), wanted.2)
+}
+
+fn is_built(alloc: Global, library: &[u8], wanted: &Wanted) -> bool {
+    match built(alloc, library, wanted.0) {
+        Ok(cell) => is_model(&cell, wanted),
+        Err(_) => false,
     }
 }
 
-/// The pins of a cell with the inputs A and B and the output Z.
-const USUAL_PINS: [WantedPin<'static>; 3] = [
-    (b"A", Direction::Input, 0),
-    (b"B", Direction::Input, 0),
-    (b"Z", Direction::Output, 0),
-];
-
-/// Picofarads in capitals, and no unit of time, where a nanosecond counts.
-const IN_PICOFARADS: &[u8] = b"library (l) { capacitive_load_unit (1.5, PF); \
-    cell (c) { pin (A) { direction : input; capacitance : 0.5; } } }";
-
-#[test]
-fn cells_become_models(rt: HostRuntime) -> Result<(), Fail> {
-    let alloc = rt.alloc();
-    for (cell, pins, arcs) in LIBRARY_CELLS {
-        assert!(rt;
-            is_model(built(alloc, LIBRARY, cell), pins, arcs),
-            "{cell:?}"
-        );
+/// The first row whose cell has another model, or none.
+fn first_other(alloc: Global, library: &[u8], rows: &[Wanted]) -> Option<usize> {
+    for (number, row) in rows.iter().enumerate() {
+        if !is_built(alloc, library, row) {
+            return Some(number);
+        }
     }
-    for (inside, pins, arcs) in CELLS {
-        assert!(rt; is_model(built_in(alloc, inside), pins, arcs), "{inside:?}");
-    }
-    for (inside, arcs) in OUTPUTS {
-        let found = built_with(alloc, inside);
-        assert!(rt; is_model(found, &USUAL_PINS, arcs), "{inside:?}");
-    }
-    let found = built(alloc, IN_PICOFARADS, b"c");
-    assert!(rt; is_model(found, &[(b"A", Direction::Input, 750_000_000)], &[]));
-    Ok(())
+    None
 }
 
 #[test]
-fn one_index_serves_all_cells(rt: HostRuntime) -> Result<(), Fail> {
-    let alloc = rt.alloc();
-    let (cell, pins, arcs) = LIBRARY_CELLS[0];
-    let (other, other_pins, other_arcs) = LIBRARY_CELLS[1];
-    let (one, two) = match built_both(alloc, LIBRARY, cell, other) {
-        Some((one, two)) => (Some(one), Some(two)),
-        None => (None, None),
-    };
-    assert!(rt; is_model(one, pins, arcs), "{cell:?}");
-    assert!(rt; is_model(two, other_pins, other_arcs), "{other:?}");
-    Ok(())
-}
-
-/// Whether this is that fault.
-fn is_fault(found: Option<Result<Cell, CellFault>>, fault: CellFault) -> bool {
-    match found {
-        Some(Err(end)) => end == fault,
-        _ => false,
-    }
-}
-
-#[test]
-fn the_first_fault_is_told(rt: HostRuntime) -> Result<(), Fail> {
-    let alloc = rt.alloc();
-    for (library, fault) in cell_faults::LIBRARIES {
-        assert!(rt; is_fault(built(alloc, library, b"c"), fault), "{library:?}");
-    }
-    for (inside, fault) in cell_faults::CELLS {
-        assert!(rt; is_fault(built_in(alloc, inside), fault), "{inside:?}");
-    }
-    for (inside, fault) in cell_faults::OUTPUTS {
-        assert!(rt; is_fault(built_with(alloc, inside), fault), "{inside:?}");
-    }
-    Ok(())
+fn cells_become_models(rt: HostRuntime) {
+    assert_eq!(rt; first_other(rt.alloc(), LIBRARY, &WORKED_ROWS), None);
+    assert_eq!(rt; first_other(rt.alloc(), MODELS, &MODEL_ROWS), None);
+    assert_eq!(rt; first_other(rt.alloc(), DEFAULTS, &DEFAULT_ROWS), None);
 }
