@@ -8,7 +8,7 @@ ghost use Rattle.timing_arcs.specs.CellReading.{entries_of, library_of};
 ghost use Rattle.timing_arcs.specs.CellFaults.{delay_questions, IsRefusal};
 
 use crate::cell_reading::CellReading;
-use crate::delay_groups::{add_pin_arcs, copied};
+use crate::delay_groups::{add_pin_arcs, copied, put};
 use cell_models::Arc;
 use edge_io::OutOfMemory;
 use liberty_tables::CellFault;
@@ -34,9 +34,7 @@ fn copy_arcs(start: usize, to: usize, arcs: &mut Vec<Arc>) -> Result<(), CellFau
 {
     for place in start..arcs.len() {
         let arc = led_to(&arcs[place], to)?;
-        if arcs.push(arc).is_err() {
-            return Err(CellFault::OutOfMemory);
-        }
+        put(arcs, arc)?;
     }
     Ok(())
 }

@@ -6,7 +6,7 @@ ghost use Rattle.liberty_groups.specs.Tables.{tree_of, group_at, IsGroup};
 ghost use Rattle.liberty_tables.specs.Library.{value_in, first_group};
 ghost use Rattle.timing_arcs.specs.PinModel.{PinEntry, is_output};
 ghost use Rattle.timing_arcs.specs.DelayGroups.{is_delay_type, is_delay_group, delays_in, kind_by, kind_of, ArcEntry, arcs_in, AreEdgeTables, IsRise, IsFall, IsArc};
-ghost use Rattle.timing_arcs.specs.LibraryBasis.{IsTiming, AddsArcs, AreAdded, arcs_from, questions_from, IsNoMemory};
+ghost use Rattle.timing_arcs.specs.LibraryBasis.{IsTiming, arc_from, AddsArcs, AreAdded, arcs_from, questions_from, IsNoMemory};
 ghost use Rattle.timing_arcs.specs.CellReading.{entries_of, library_of, delay_at};
 ghost use Rattle.timing_arcs.specs.CellFaults.{edge_questions, rise_questions, fall_questions, delay_questions, IsSound, IsRefusal};
 
@@ -233,6 +233,31 @@ fn read_timing(alloc: Global, cell: &CellReading<'_>, group: GroupId) -> Result<
     }
 }
 
+// An arc from one place to another.
+fn arc_of(timing: &Timing, from: usize, to: usize) -> Result<Arc, OutOfMemory>
+    ensures { IfOk result (λ arc. arc ≡ arc_from timing.now.kind timing.now.rise timing.now.fall to from) }
+{
+    let rise = copied(&timing.rise)?;
+    let fall = copied(&timing.fall)?;
+    Ok(Arc {
+        from,
+        to,
+        kind: timing.kind,
+        rise,
+        fall,
+    })
+}
+
+/// Puts an arc at the end.
+pub(crate) fn put(arcs: &mut Vec<Arc>, arc: Arc) -> Result<(), OutOfMemory>
+    ensures { OnOk result (arcs.new.items ≡ arcs.old.items ++ arc ∷ []) }
+{
+    match arcs.push(arc) {
+        Ok(()) => Ok(()),
+        Err(_) => Err(OutOfMemory),
+    }
+}
+
 // An arc for each place, with the same tables.
 fn push_arcs(
     timing: &Timing,
@@ -244,16 +269,8 @@ fn push_arcs(
     ensures memory { IfErr result IsNoMemory }
 {
     for from in places {
-        let arc = Arc {
-            from: *from,
-            to,
-            kind: timing.kind,
-            rise: copied(&timing.rise)?,
-            fall: copied(&timing.fall)?,
-        };
-        if arcs.push(arc).is_err() {
-            return Err(CellFault::OutOfMemory);
-        }
+        let arc = arc_of(timing, *from, to)?;
+        put(arcs, arc)?;
     }
     Ok(())
 }

@@ -38,8 +38,8 @@ impl Library {
     pub fn of(alloc: Global, tree: GroupTree) -> Result<Library, OutOfMemory>
         ensures { IfOk result (λ library. library ≡ tree) }
     {
-        let basis = library_basis(alloc, &tree)?;
         let cells = GroupIndex::new(alloc, &tree, tree.root(), b"cell")?;
+        let basis = library_basis(alloc, &tree)?;
         Ok(Library { tree, basis, cells })
     }
 
