@@ -5,7 +5,7 @@ use Rattle.std.specs.List.{range_with_len}
 use Rattle.cell_models.specs.declared.edge.Edge.{Edge}
 use Rattle.hierarchy.specs.Walks.{joined_from}
 use Rattle.slew_order.specs.LivePaths.{larger, largest}
-use Rattle.slew_order.proofs.Starts.{row_within}
+use Rattle.net_delays.proofs.Starts.{row_within}
 use Rattle.annotation_rows.specs.CellPaths.{path_of}
 use Rattle.annotation_rows.specs.WireRows.{at_corners}
 use Rattle.annotation_rows.specs.PathRows.{TimedDesign, IsPrinted, all_times, arc_delay, cell_arcs, delay_of_path, edge_delays}

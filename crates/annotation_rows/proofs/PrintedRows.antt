@@ -19,7 +19,7 @@ use Rattle.sdf_writer.specs.Bounds.{AreWithin}
 use Rattle.sdf_writer.specs.PathRows.{IsEdge}
 use Rattle.slew_order.specs.FlatArcs.{arc_count}
 use Rattle.slew_order.specs.LivePaths.{is_between}
-use Rattle.slew_order.specs.NetTimes.{elmore_at, elmore_limit, start_in}
+use Rattle.net_delays.specs.NetTimes.{elmore_at, elmore_limit, start_in}
 use Rattle.annotation_rows.specs.CellPaths.{arc_in, path_of}
 use Rattle.annotation_rows.specs.PathRows.{TimedDesign, IsPrinted, all_times, arc_delay, cell_arcs, delay_of_path, edge_delays, instance_rows, path_row, path_rows, rows_at, states_of, with_time}
 use Rattle.annotation_rows.specs.PrintedRows.{IsWirePrinted, IsPathPrinted, PrintedRows}

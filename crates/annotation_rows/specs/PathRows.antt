@@ -14,7 +14,7 @@ use Rattle.slew_states.specs.declared.states.PinState.{PinState}
 use Rattle.slew_order.specs.FlatArcs.{arcs_of}
 use Rattle.slew_order.specs.LivePaths.{delay_at, path_delay}
 use Rattle.slew_order.specs.NetStates.{states_at}
-use Rattle.slew_order.specs.NetTimes.{NetTimes, Fits}
+use Rattle.net_delays.specs.NetTimes.{NetTimes, Fits}
 use Rattle.slew_order.specs.Slews.{SlewTables, AreTablesOf}
 use Rattle.slew_order.specs.Timings.{SlewSource, source_of}
 use Rattle.annotation_rows.specs.CellPaths.{arc_in, path_of}

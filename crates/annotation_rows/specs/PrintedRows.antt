@@ -3,7 +3,7 @@ use Rattle.std.specs.Prelude.{◌≡◌, ℕ, ◌<◌, List, length, All}
 use Rattle.sdf_writer.specs.Bounds.{AreWithin}
 use Rattle.sdf_writer.specs.PathRows.{IsEdge}
 use Rattle.sdf_writer.specs.SdfText.{WireRow, PathRow, SdfRows}
-use Rattle.slew_order.specs.NetTimes.{elmore_limit}
+use Rattle.net_delays.specs.NetTimes.{elmore_limit}
 use Rattle.annotation_rows.specs.Annotation.{annotation_of}
 use Rattle.annotation_rows.specs.PathRows.{TimedDesign}
 

@@ -9,7 +9,7 @@ use Rattle.netlist_link.specs.declared.ends.End.{End}
 use Rattle.netlist_link.specs.declared.ends.End.TheVariants.{Port}
 use Rattle.sdf_writer.specs.SdfText.{WireRow, SdfRows}
 use Rattle.slew_order.specs.Lookups.{half_up}
-use Rattle.slew_order.specs.NetTimes.{NetTimes, elmore_at}
+use Rattle.net_delays.specs.NetTimes.{NetTimes, elmore_at}
 use Rattle.annotation_rows.specs.SdfEnds.{end_sdf}
 
 -- an Elmore sum, in 10^-27 s, rounded once to a femtosecond

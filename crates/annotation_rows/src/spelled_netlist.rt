@@ -2,7 +2,7 @@
 ghost use Rattle.std.specs.Prelude.{◌≡◌, ◌<◌, length, map, IfOk};
 ghost use Rattle.cell_models.specs.NamedSets.{set_cells};
 ghost use Rattle.netlist_link.specs.FlatPins.{pins_of};
-ghost use Rattle.slew_order.specs.NetTimes.{Fits};
+ghost use Rattle.net_delays.specs.NetTimes.{Fits};
 ghost use Rattle.annotation_rows.specs.SdfEnds.{pin_part, spelled_pins};
 
 use cell_models::{CellSet, CellSets};
@@ -10,8 +10,8 @@ use corner_set::{CornerSet, first_corner};
 use edge_io::lists::push;
 use edge_io::{OutOfMemory, TextList};
 use name_table::escape_sdf;
+use net_delays::NetDelays;
 use netlist_link::LinkedNetlist;
-use slew_order::NetDelays;
 use std::alloc::Global;
 
 /// A netlist with its cells, the loads and Elmore sums of its nets, and the names of the pins of each cell, each spelled once as one part

@@ -3,7 +3,7 @@ ghost use Rattle.std.specs.Prelude.{◌≡◌, ◌<◌, [], ◌∷◌, length, O
 ghost use Rattle.netlist_link.specs.FlatNetlist.{net_at};
 ghost use Rattle.sdf_writer.specs.Bounds.{AreWithin};
 ghost use Rattle.sdf_writer.specs.WireEnds.{end_name};
-ghost use Rattle.slew_order.specs.NetTimes.{HasSink};
+ghost use Rattle.net_delays.specs.NetTimes.{HasSink};
 ghost use Rattle.annotation_rows.specs.SdfEnds.{IsEndThere, end_sdf};
 ghost use Rattle.annotation_rows.specs.WireRows.{driven_rows, net_rows, wire_delays, wire_row, wire_rows, with_wires};
 
@@ -13,9 +13,9 @@ use corner_set::{CornerSet, Grid, corner_at};
 use delay_units::Femto;
 use edge_io::OutOfMemory;
 use elmore_pass::sink_femto;
+use net_delays::NetDelays;
 use netlist_link::End;
 use sdf_writer::{Rows, WireEnd};
-use slew_order::NetDelays;
 use std::alloc::Global;
 
 // Puts the delays of the wire to a sink into a grid of one row.

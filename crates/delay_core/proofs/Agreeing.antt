@@ -5,7 +5,7 @@ use Rattle.cell_models.specs.NamedSets.{NamedCells}
 use Rattle.netlist_link.specs.FlatNetlist.{FlatNetlist}
 use Rattle.corner_set.specs.declared.choices.Beyond.{Beyond}
 use Rattle.corner_set.specs.declared.choices.WireSlew.{WireSlew}
-use Rattle.slew_order.specs.NetTimes.{NetTimes, Fits}
+use Rattle.net_delays.specs.NetTimes.{NetTimes, Fits}
 use Rattle.slew_order.specs.Slews.{SlewTables, AreTablesOf, AreSlews}
 use Rattle.slew_order.specs.Timings.{SlewSource, source_of}
 use Rattle.net_parasitics.specs.Inputs.{Inputs}

@@ -12,7 +12,7 @@ use Rattle.verdict_phases.specs.declared.ends.NoFileEnd.{NoFileEnd}
 use Rattle.verdict_phases.specs.declared.ends.NoFileEnd.TheVariants as no_file
 use Rattle.verdict_phases.specs.declared.ends.PhaseEnd.{PhaseEnd}
 use Rattle.verdict_phases.specs.declared.ends.PhaseEnd.TheVariants as phase
-use Rattle.slew_order.specs.NetTimes.{NetTimes, Fits}
+use Rattle.net_delays.specs.NetTimes.{NetTimes, Fits}
 use Rattle.design_phases.specs.DesignReading.{LinkedDesign, ReadsDesign, with_design}
 use Rattle.design_phases.specs.DesignReading.{at_netlist as design_at_netlist, at_inputs as design_at_inputs, at_design as design_at_design}
 use Rattle.refusals.specs.Refused.{OnRefusal, AtReadFault}

@@ -4,7 +4,7 @@ use Rattle.edge_io.specs.Holding.{Held}
 use Rattle.name_table.specs.Names.{AreDistinct}
 use Rattle.spef_nets.specs.NetElements.{NetElements, net_names}
 use Rattle.spef_nets.specs.Sections.{Corners}
-use Rattle.slew_order.specs.NetTimes.{NetTimes}
+use Rattle.net_delays.specs.NetTimes.{NetTimes}
 use Rattle.slew_order.specs.Slews.{SlewTables}
 use Rattle.verdict_phases.specs.Phases.{RefusedBy, Go}
 use Rattle.design_phases.specs.DesignReading.{ReadsNetlistFile, ReadInputs, LinkedDesign, ReadsInputs, LinksInputs}

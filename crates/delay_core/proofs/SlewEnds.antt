@@ -8,7 +8,7 @@ use Rattle.netlist_link.specs.Linked.{IsLinked}
 use Rattle.slew_order.specs.Cycles.{ArcsJoin}
 use Rattle.slew_order.specs.FlatArcs.{IsArcAt}
 use Rattle.slew_order.specs.SlewEnds.{IsSlewEnd}
-use Rattle.slew_order.specs.NetTimes.{NetTimes}
+use Rattle.net_delays.specs.NetTimes.{NetTimes}
 use Rattle.slew_order.specs.Timings.{SlewSource, arcs_in, arc_number, no_arc_at}
 use Rattle.slew_order.specs.declared.arcs.ArcAt.{ArcAt}
 use Rattle.slew_order.specs.declared.ends.SlewEnd.{SlewEnd}

@@ -2,7 +2,7 @@
 use Rattle.std.proofs.Common.{◌≡◌, ℕ, Result, Ok, Err, sym, subst}
 use Rattle.std.specs.Prelude.{IsErrAnd}
 use Rattle.sdf_writer.specs.SdfText.{SdfRows}
-use Rattle.slew_order.specs.NetTimes.{NetTimes}
+use Rattle.net_delays.specs.NetTimes.{NetTimes}
 use Rattle.slew_order.specs.Slews.{SlewTables}
 use Rattle.annotation_rows.specs.Annotation.{annotation_of}
 use Rattle.annotation_rows.specs.PathRows.{timed_of}

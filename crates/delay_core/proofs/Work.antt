@@ -8,7 +8,7 @@ use Rattle.spef_text.specs.SpefFiles.{SpefText}
 use Rattle.net_parasitics.specs.WorkCounts.{IsWithin as NetsWithin}
 use Rattle.verdict_phases.specs.Phases.{Go}
 use Rattle.verdict_phases.specs.declared.ends.NoFileEnd.{NoFileEnd}
-use Rattle.slew_order.specs.NetTimes.{NetTimes}
+use Rattle.net_delays.specs.NetTimes.{NetTimes}
 use Rattle.design_phases.specs.DesignReading.{ReadInputs, LinkedDesign, LinksInputs, ReadsDesign, with_design}
 use Rattle.wire_phases.specs.SpefPhases.{ParsesSpef, HeadsSpef, NetsSpef, through, ReadsSpefFile}
 use Rattle.wire_phases.specs.SpefWork.{IsWithin}

@@ -3,7 +3,7 @@ use Rattle.std.specs.Prelude.{◌≡◌, ℕ, ◌<◌, List, All}
 use Rattle.cell_models.specs.NamedSets.{NamedCells}
 use Rattle.netlist_link.specs.FlatNetlist.{FlatNetlist}
 use Rattle.sdf_writer.specs.SdfText.{SdfRows}
-use Rattle.slew_order.specs.NetTimes.{NetTimes, elmore_limit}
+use Rattle.net_delays.specs.NetTimes.{NetTimes, elmore_limit}
 use Rattle.slew_order.specs.Slews.{SlewTables, AreSlews}
 use Rattle.annotation_rows.specs.Annotation.{annotation_of}
 use Rattle.annotation_rows.specs.PathRows.{timed_of}

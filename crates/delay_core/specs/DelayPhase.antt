@@ -5,7 +5,7 @@ use Rattle.name_table.specs.declared.spef_names.NodeName.{NodeName}
 use Rattle.netlist_link.specs.FlatNetlist.{FlatNetlist, net_at}
 use Rattle.rc_tree.specs.declared.ends.TreeEnd.{TreeEnd}
 use Rattle.rc_tree.specs.declared.ends.TreeEnd.TheVariants as tree
-use Rattle.slew_order.specs.NetTimes.{NetTimes}
+use Rattle.net_delays.specs.NetTimes.{NetTimes}
 use Rattle.net_parasitics.specs.Inputs.{Inputs}
 use Rattle.net_parasitics.specs.NetTrees.{AreNetDelays, IsParasiticsEnd}
 use Rattle.corner_set.specs.declared.choices.Missing.{Missing}

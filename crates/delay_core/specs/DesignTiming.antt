@@ -3,7 +3,7 @@ use Rattle.std.specs.Prelude.{ℕ, pos, ◌≤◌, ◌≤ℤ◌, unsigned_abs, L
 use Rattle.delay_units.specs.Bounds.{most_farads}
 use Rattle.spef_nets.specs.NetElements.{NetElements}
 use Rattle.slew_states.specs.PinState.{most}
-use Rattle.slew_order.specs.NetTimes.{NetTimes}
+use Rattle.net_delays.specs.NetTimes.{NetTimes}
 use Rattle.slew_order.specs.Slews.{SlewTables}
 use Rattle.slew_order.specs.Timings.{SlewSource, source_of}
 use Rattle.net_parasitics.specs.Inputs.{Inputs, inputs_of}

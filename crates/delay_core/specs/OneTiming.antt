@@ -2,7 +2,7 @@
 use Rattle.std.specs.Prelude.{◌<◌, Result}
 use Rattle.name_table.specs.Names.{AreDistinct}
 use Rattle.spef_nets.specs.NetElements.{net_names}
-use Rattle.slew_order.specs.NetTimes.{NetTimes}
+use Rattle.net_delays.specs.NetTimes.{NetTimes}
 use Rattle.slew_order.specs.Slews.{SlewTables}
 use Rattle.slew_order.specs.Timings.{SlewSource}
 use Rattle.net_parasitics.specs.Inputs.{Inputs}

@@ -5,7 +5,7 @@ use Rattle.edge_io.specs.Holding.{Held}
 use Rattle.spef_nets.specs.Sections.{Corners}
 use Rattle.spef_text.specs.Heads.{HeadText}
 use Rattle.spef_text.specs.SpefFiles.{SpefText}
-use Rattle.slew_order.specs.NetTimes.{NetTimes}
+use Rattle.net_delays.specs.NetTimes.{NetTimes}
 use Rattle.slew_order.specs.Slews.{SlewTables}
 use Rattle.verdict_phases.specs.Phases.{Stop, RefusedBy, Step, Go, Halt}
 use Rattle.design_phases.specs.DesignReading.{ReadInputs, LinkedDesign, LinksInputs}

@@ -4,9 +4,10 @@ ghost use Rattle.delay_core.specs.AnnotatedDesigns.{PartsAgree};
 
 use cell_models::CellSets;
 use corner_set::CornerSet;
+use net_delays::NetDelays;
 use netlist_link::Netlist;
 use sdf_writer::Rows;
-use slew_order::{NetDelays, Slews};
+use slew_order::Slews;
 use std::marker::Model;
 
 /// A design with its delays: the rows that annotate it, its netlist with its cells, the loads and Elmore sums of its nets, and the slews

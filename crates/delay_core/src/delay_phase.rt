@@ -11,11 +11,11 @@ ghost use Rattle.delay_core.specs.DelayPhase.{net_text, IsTreeRefusal, FindsDela
 use crate::settings::Settings;
 use corner_set::CornerSet;
 use edge_io::{OutOfMemory, Steps, Text};
+use net_delays::NetDelays;
 use net_parasitics::{ParasiticsEnd, net_delays};
 use netlist_link::LinkedNetlist;
 use rc_tree::TreeEnd;
 use refusals::{LimitKind, Refusal};
-use slew_order::NetDelays;
 use spef_nets::Sections;
 use std::alloc::Global;
 use std::sync::ledger::Ledger;

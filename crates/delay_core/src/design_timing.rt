@@ -1,6 +1,6 @@
 //! The delays of a linked design, from a SPEF file.
 ghost use Rattle.std.specs.Prelude.{◌≡◌, ◌^◌, ◌<◌, ◌≤◌, ◌+◌, length, IfOk, OnOk, IsTrue};
-ghost use Rattle.slew_order.specs.NetTimes.{Fits};
+ghost use Rattle.net_delays.specs.NetTimes.{Fits};
 ghost use Rattle.net_parasitics.specs.Inputs.{AreNamedApart, HaveSmallPins};
 ghost use Rattle.net_parasitics.specs.WorkCounts.{IsWithin as IsNetsWithin};
 ghost use Rattle.spef_nets.specs.Drafts.{corners_of};
@@ -22,10 +22,11 @@ use annotation_rows::annotation_rows;
 use corner_set::CornerSet;
 use design_phases::Design;
 use edge_io::Steps;
+use net_delays::NetDelays;
 use netlist_link::LinkedNetlist;
 use refusals::Refusal;
 use sdf_writer::Rows;
-use slew_order::{LoadedNetlist, NetDelays, Slews};
+use slew_order::{LoadedNetlist, Slews};
 use spef_nets::Sections;
 use spef_text::{Head, SpefFile};
 use std::alloc::Global;

@@ -8,7 +8,7 @@ use Rattle.netlist_link.specs.FlatNetlist.{FlatNetlist, net_at}
 use Rattle.netlist_link.specs.declared.ends.End.{End}
 use Rattle.spef_nets.specs.NetElements.{NetElements, net_names}
 use Rattle.rc_tree.specs.Elmore.{IsElmore}
-use Rattle.slew_order.specs.NetTimes.{NetTimes, AreNetTimes, HasNet, HasSink, Fits, AreStarts, load_at, elmore_at}
+use Rattle.net_delays.specs.NetTimes.{NetTimes, AreNetTimes, HasNet, HasSink, Fits, AreStarts, load_at, elmore_at}
 use Rattle.net_parasitics.specs.Inputs.{Inputs}
 use Rattle.net_parasitics.specs.NetSections.{IsSectionOf, is_written, is_missing, no_section}
 use Rattle.net_parasitics.specs.NetSteps.{KeepsOtherNets, AreFirstTimes, IsFirstNetEnd, IsNetEnd, net_refused, no_memory_for_it, IsFirstMissing, first_missing, TakesWork}

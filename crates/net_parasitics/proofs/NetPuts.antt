@@ -9,7 +9,7 @@ use Rattle.rc_tree.specs.Arenas.{Arena, arena_elements}
 use Rattle.rc_tree.specs.Elmore.{IsElmore}
 use Rattle.rc_tree.specs.NetLoad.{net_load}
 use Rattle.elmore_pass.specs.Delays.{HasDelay}
-use Rattle.slew_order.specs.NetTimes.{NetTimes, load_at, elmore_at, start_in, HasNet, HasSink, LeavesLoads, LeavesElmores}
+use Rattle.net_delays.specs.NetTimes.{NetTimes, load_at, elmore_at, start_in, HasNet, HasSink, LeavesLoads, LeavesElmores}
 use Rattle.net_parasitics.specs.NetSteps.{node_of_sink, HasTreeTimes, KeepsOtherCorners, KeepsOtherNets, HasOwnLoad}
 use Rattle.net_parasitics.specs.Inputs.{Inputs}
 

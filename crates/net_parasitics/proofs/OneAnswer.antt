@@ -20,8 +20,8 @@ use Rattle.rc_tree.specs.declared.ends.TreeEnd.{TreeEnd}
 use Rattle.rc_tree.specs.declared.ends.TreeEnd.TheVariants as tree
 use Rattle.rc_tree.proofs.ElmoreSums.{one_elmore}
 use Rattle.rc_tree.proofs.NetShapes.{one_shape, one_unreached}
-use Rattle.slew_order.specs.NetTimes.{NetTimes, load_at, elmore_at}
-use Rattle.slew_order.proofs.OneTables.{one_times}
+use Rattle.net_delays.specs.NetTimes.{NetTimes, load_at, elmore_at}
+use Rattle.net_delays.proofs.OneTimes.{one_times}
 use Rattle.net_parasitics.specs.Inputs.{Inputs}
 use Rattle.net_parasitics.specs.NetPins.{net_pins}
 use Rattle.net_parasitics.specs.NetSections.{IsSectionOf, is_written, is_missing}

@@ -25,7 +25,7 @@ use Rattle.rc_tree.specs.Values.{farads_at}
 use Rattle.rc_tree.specs.Walk.{Reached}
 use Rattle.rc_tree.specs.declared.ends.TreeEnd.{TreeEnd}
 use Rattle.rc_tree.specs.declared.ends.TreeEnd.TheVariants as tree
-use Rattle.slew_order.specs.NetTimes.{NetTimes, elmore_at}
+use Rattle.net_delays.specs.NetTimes.{NetTimes, elmore_at}
 use Rattle.net_parasitics.specs.Inputs.{Inputs}
 use Rattle.net_parasitics.specs.NetPins.{end_name, end_load, end_loads, net_pins}
 use Rattle.net_parasitics.specs.NetSections.{no_section, is_missing}

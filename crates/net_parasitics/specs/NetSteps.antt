@@ -6,7 +6,7 @@ use Rattle.rc_tree.specs.Elmore.{IsElmore}
 use Rattle.rc_tree.specs.NetLoad.{net_load}
 use Rattle.rc_tree.specs.declared.ends.TreeEnd.{TreeEnd}
 use Rattle.elmore_pass.specs.Delays.{HasDelay}
-use Rattle.slew_order.specs.NetTimes.{NetTimes, load_at, elmore_at, HasNet, HasSink, Fits}
+use Rattle.net_delays.specs.NetTimes.{NetTimes, load_at, elmore_at, HasNet, HasSink, Fits}
 use Rattle.net_parasitics.specs.Inputs.{Inputs}
 use Rattle.net_parasitics.specs.NetPins.{end_load}
 use Rattle.net_parasitics.specs.NetTrees.{IsMissing, IsRefused, HasTree, AreZero, HasTimes}

@@ -12,7 +12,7 @@ use Rattle.rc_tree.specs.SectionNets.{net_elements, on_net, sink_node}
 use Rattle.rc_tree.specs.Builds.{IsFit, IsTreeEnd}
 use Rattle.rc_tree.specs.declared.ends.TreeEnd.{TreeEnd}
 use Rattle.rc_tree.specs.declared.ends.TreeEnd.TheVariants as tree
-use Rattle.slew_order.specs.NetTimes.{NetTimes, AreNetTimes, Fits, load_at, elmore_at}
+use Rattle.net_delays.specs.NetTimes.{NetTimes, AreNetTimes, Fits, load_at, elmore_at}
 use Rattle.net_parasitics.specs.Inputs.{Inputs}
 use Rattle.net_parasitics.specs.NetPins.{net_pins}
 use Rattle.net_parasitics.specs.NetSections.{IsSectionOf}

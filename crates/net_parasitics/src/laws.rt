@@ -6,7 +6,7 @@ ghost use Rattle.verilog_netlist.specs.NetModules.{NetModule};
 ghost use Rattle.netlist_link.specs.FlatDesigns.{IsFlatDesign};
 ghost use Rattle.netlist_link.specs.FlatNetlist.{FlatNetlist};
 ghost use Rattle.spef_nets.specs.NetElements.{net_names};
-ghost use Rattle.slew_order.specs.NetTimes.{NetTimes};
+ghost use Rattle.net_delays.specs.NetTimes.{NetTimes};
 ghost use Rattle.net_parasitics.specs.Inputs.{Inputs, AreNamedApart};
 ghost use Rattle.net_parasitics.specs.NetTrees.{AreNetDelays, IsParasiticsEnd};
 ghost use Rattle.net_parasitics.specs.OneAnswer.{IsSameEnd};

@@ -3,14 +3,14 @@ ghost use Rattle.std.specs.Prelude.{◌≡◌, ◌+◌, ◌*◌, ◌<◌, ◌≤
 ghost use Rattle.netlist_link.specs.FlatNetlist.{net_at};
 ghost use Rattle.rc_tree.specs.Arenas.{node_count, most_elements};
 ghost use Rattle.elmore_pass.specs.Delays.{HasDelay};
-ghost use Rattle.slew_order.specs.NetTimes.{HasNet, HasSink};
+ghost use Rattle.net_delays.specs.NetTimes.{HasNet, HasSink};
 ghost use Rattle.net_parasitics.specs.NetSteps.{AreSums, HasTreeTimes, KeepsOtherCorners, KeepsOtherNets, HasOwnLoad};
 
 use crate::inputs::NetInputs;
 use corner_set::{CornerSet, corner_at};
 use edge_io::Steps;
+use net_delays::NetDelays;
 use rc_tree::{RcTree, Scratch};
-use slew_order::NetDelays;
 use std::sync::ledger::Ledger;
 
 // Puts the load of a tree and the Elmore sums of its sinks at a corner.

@@ -19,7 +19,7 @@ mod calc;
 mod corners;
 mod flat;
 mod lookup;
-mod refusals;
+mod refused;
 mod rows;
 mod show;
 mod slices;

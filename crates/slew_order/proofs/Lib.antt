@@ -1,6 +1,6 @@
-pub mod Starts
 pub mod Joined
 pub mod Links
+pub mod PinStarts
 pub mod Placing
 pub mod Sinking
 pub mod BetweenPoints

@@ -12,7 +12,7 @@ use Rattle.slew_order.specs.declared.arcs.ArcAt.{ArcAt}
 use Rattle.slew_order.specs.declared.lookups.PartEnd.{PartEnd}
 use Rattle.slew_order.specs.declared.ends.SlewEnd.TheVariants.{Loop, Outside, PastTime, SlewLimit, OutOfMemory}
 use Rattle.slew_order.specs.Cycles.{HasNoCycle, IsCycleFromLeast}
-use Rattle.slew_order.specs.NetTimes.{NetTimes, elmore_at}
+use Rattle.net_delays.specs.NetTimes.{NetTimes, elmore_at}
 use Rattle.slew_order.specs.SlewEnds.{IsRefusal, IsFirstRefusal, IsLimit, IsFirstOfSink, IsFirstLimit, NoRefusals, NoLimits}
 use Rattle.slew_order.specs.SlewLaws.{SlewsOrEnd, OneSlewEnd}
 use Rattle.slew_order.specs.Timings.{SlewSource, arcs_in, arc_number}

@@ -7,12 +7,12 @@ use Rattle.std.proofs.lemmas.List.{get_or_past, length-replicate}
 use Rattle.netlist_link.specs.FlatNetlist.{FlatNetlist, FlatNet, no_instance, no_net, instance_at, net_at}
 use Rattle.netlist_link.specs.declared.ends.End.{End}
 use Rattle.netlist_link.specs.declared.ends.End.TheVariants as end
-use Rattle.slew_order.specs.NetTimes.{start_in}
+use Rattle.net_delays.specs.NetTimes.{start_in}
 use Rattle.slew_order.specs.FlatArcs.{net_on}
 use Rattle.slew_order.specs.Sinks.{is_pin, pin_place, ArePinStarts}
 use Rattle.slew_order.specs.SinkPlaces.{IsPlaced, HasNoOther, ArePlacedTo, ArePlaces}
 use Rattle.slew_order.proofs.SinkPlacing.{place_from}
-use Rattle.slew_order.proofs.Starts.{one_row, row_below, replicated}
+use Rattle.net_delays.proofs.Starts.{one_row, row_below, replicated}
 
 -- a pin on a net is one of an instance
 pub on_within : (netlist : FlatNetlist) (i pin net : ℕ) → net_on netlist i pin ≡ Some net

@@ -5,11 +5,11 @@ use Rattle.netlist_link.specs.FlatNetlist.{FlatNetlist, instance_at, net_at}
 use Rattle.netlist_link.specs.declared.ends.End.{End}
 use Rattle.netlist_link.specs.declared.ends.End.TheVariants as end
 use Rattle.slew_order.specs.FlatArcs.{net_on}
-use Rattle.slew_order.specs.NetTimes.{start_in}
+use Rattle.net_delays.specs.NetTimes.{start_in}
 use Rattle.slew_order.specs.PinSlews.{sink_of}
 use Rattle.slew_order.specs.Sinks.{ArePinStarts, is_pin, pin_place}
 use Rattle.slew_order.specs.SinkPlaces.{ArePlaces}
-use Rattle.slew_order.proofs.Starts.{row_below}
+use Rattle.net_delays.proofs.Starts.{row_below}
 
 -- a pin that is met at a place has its first place there or before
 pub place_from : (instance pin : ℕ) (sinks : List End) (sink : ℕ) → sink < length sinks → is_pin instance pin (get_or sinks sink (end.Port 0)) ≡ true → pin_place instance pin sinks ≤ sink

@@ -18,7 +18,7 @@ use Rattle.slew_order.specs.Cycles.{HasNoCycle, related_net}
 use Rattle.slew_order.specs.Designs.{IsSource}
 use Rattle.slew_order.specs.FlatArcs.{IsArcAt, cell_arc}
 use Rattle.slew_order.specs.NetStates.{drivers_in}
-use Rattle.slew_order.specs.NetTimes.{elmore_at}
+use Rattle.net_delays.specs.NetTimes.{elmore_at}
 use Rattle.slew_order.specs.PinSlews.{sink_of, sink_state, state_of_pin, state_on}
 use Rattle.slew_order.specs.Sinks.{IsSunk, pin_place, related_sink, sink_on}
 use Rattle.slew_order.specs.SlewLaws.{DeepSlews, AgreeingCorners, WorstAtPins}

@@ -5,7 +5,7 @@ use Rattle.slew_states.specs.PinState.{most}
 use Rattle.slew_states.specs.declared.arcs.FlatArc.{FlatArc}
 use Rattle.slew_order.specs.declared.arcs.ArcAt.{ArcAt}
 use Rattle.slew_order.specs.FlatArcs.{IsArcAt}
-use Rattle.slew_order.specs.NetTimes.{Fits}
+use Rattle.net_delays.specs.NetTimes.{Fits}
 use Rattle.slew_order.specs.Sinks.{IsSunk, related_sink}
 use Rattle.slew_order.specs.Timings.{SlewSource, arcs_in, flat_in}
 

@@ -1,4 +1,3 @@
-pub mod NetTimes
 pub mod FlatArcs
 pub mod Sinks
 pub mod SinkPlaces
@@ -13,5 +12,4 @@ pub mod Slews
 pub mod PinSlews
 pub mod LivePaths
 pub mod SlewLaws
-pub mod OneTimes
 pub mod Loaded

@@ -9,7 +9,7 @@ use Rattle.slew_states.specs.declared.states.PinState.{PinState}
 use Rattle.slew_states.specs.declared.states.PinState.TheVariants.{Absent, Known, Stuck}
 use Rattle.corner_set.specs.declared.choices.WireSlew.{WireSlew}
 use Rattle.slew_order.specs.FlatArcs.{net_on}
-use Rattle.slew_order.specs.NetTimes.{NetTimes, elmore_at}
+use Rattle.net_delays.specs.NetTimes.{NetTimes, elmore_at}
 use Rattle.slew_order.specs.Sinks.{is_pin, pin_place}
 use Rattle.slew_order.specs.WireBehind.{wire_of}
 

@@ -1,7 +1,7 @@
 -- The table of which sink of its net each pin is, on its way.
 use Rattle.std.specs.Prelude.{◌≡◌, ℕ, ◌+◌, ◌<◌, List, length, drop, Some}
 use Rattle.netlist_link.specs.FlatNetlist.{FlatNetlist, net_at}
-use Rattle.slew_order.specs.NetTimes.{start_in}
+use Rattle.net_delays.specs.NetTimes.{start_in}
 use Rattle.slew_order.specs.FlatArcs.{net_on}
 use Rattle.slew_order.specs.Sinks.{pin_place}
 

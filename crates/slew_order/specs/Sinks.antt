@@ -5,7 +5,7 @@ use Rattle.netlist_link.specs.FlatNetlist.{FlatNetlist, instance_at, net_at}
 use Rattle.netlist_link.specs.declared.ends.End.{End}
 use Rattle.netlist_link.specs.declared.ends.End.TheVariants as end
 use Rattle.slew_order.specs.declared.arcs.ArcAt.{ArcAt}
-use Rattle.slew_order.specs.NetTimes.{AreSums}
+use Rattle.net_delays.specs.NetTimes.{AreSums}
 use Rattle.slew_order.specs.FlatArcs.{net_on, cell_arc}
 
 abbrev pub is_pin : ℕ → ℕ → End → Bool

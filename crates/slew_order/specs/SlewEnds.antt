@@ -14,7 +14,7 @@ use Rattle.slew_order.specs.declared.ends.SlewEnd.{SlewEnd}
 use Rattle.slew_order.specs.declared.ends.SlewEnd.TheVariants.{Loop, Outside, PastTime, SlewLimit, OutOfMemory}
 use Rattle.slew_order.specs.Cycles.{IsCycleFromLeast, HasNoCycle}
 use Rattle.slew_order.specs.NetStates.{net_state}
-use Rattle.slew_order.specs.NetTimes.{elmore_at}
+use Rattle.net_delays.specs.NetTimes.{elmore_at}
 use Rattle.slew_order.specs.Timings.{SlewSource, arcs_in, flat_in, arc_number, behind_wire, lookups_at, refused_of, wire_at}
 
 -- a sink of a net is an input pin

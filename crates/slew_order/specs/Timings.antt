@@ -18,7 +18,7 @@ use Rattle.slew_order.specs.declared.lookups.EdgeLookups.{EdgeLookups}
 use Rattle.slew_order.specs.declared.lookups.PartEnd.{PartEnd}
 use Rattle.slew_order.specs.FlatArcs.{all_arcs, cell_arc, flat_at, flat_arcs}
 use Rattle.slew_order.specs.Lookups.{lookup_of}
-use Rattle.slew_order.specs.NetTimes.{NetTimes, load_at, elmore_at}
+use Rattle.net_delays.specs.NetTimes.{NetTimes, load_at, elmore_at}
 use Rattle.slew_order.specs.Sinks.{related_sink}
 use Rattle.slew_order.specs.WireBehind.{wire_of}
 

@@ -6,7 +6,7 @@ ghost use Rattle.slew_states.specs.PinState.{most};
 ghost use Rattle.slew_order.specs.Designs.{IsSource};
 ghost use Rattle.slew_order.specs.FlatArcs.{IsArcAt, flat_at};
 ghost use Rattle.slew_order.specs.Loaded.{source_in};
-ghost use Rattle.slew_order.specs.NetTimes.{elmore_at, elmore_limit};
+ghost use Rattle.net_delays.specs.NetTimes.{elmore_at, elmore_limit};
 ghost use Rattle.slew_order.specs.Sinks.{ArePinStarts, IsSunk, related_sink};
 ghost use Rattle.slew_order.specs.SinkPlaces.{ArePlaces};
 ghost use Rattle.slew_order.specs.Timings.{arcs_in, flat_in, arc_number, behind_wire, look_at, lookups_at, tables_of, wire_at};

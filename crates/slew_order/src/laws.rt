@@ -1,6 +1,5 @@
 //! Laws of look-ups and slews.
 ghost use Rattle.slew_order.specs.Lookups.{LookupFunction};
-ghost use Rattle.slew_order.specs.OneTimes.{OneTimes};
 ghost use Rattle.slew_order.specs.SlewLaws.{DeepSlews, AgreeingCorners, WorstAtPins, LiveDelays, OneSlews, SlewsOrEnd, OneSlewEnd};
 
 /// The law of lookups, which its contract states: in a whole table a lookup answers what the function of lookups gives, and nothing
@@ -31,12 +30,6 @@ pub fn worst_at_pins()
 /// there. It does nothing when it is called.
 pub fn live_arcs_have_delays()
     ensures law { LiveDelays }
-{}
-
-/// The law of equal times, which its contract states: two tables of the loads and Elmore sums of a netlist are equal if they have the
-/// same load at each net and corner, and the same Elmore sum at each sink and corner. It does nothing when it is called.
-pub fn times_are_one()
-    ensures law { OneTimes }
 {}
 
 /// The law of one answer, which its contract states: the slews of a design are one; a design that has slews is refused for want of memory

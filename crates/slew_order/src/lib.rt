@@ -11,7 +11,6 @@ mod laws;
 mod limits;
 mod loaded;
 mod lookups;
-mod net_delays;
 mod net_order;
 mod net_states;
 mod propagation;
@@ -25,7 +24,7 @@ pub use ends::{ArcList, SlewEnd};
 pub use flattening::cell_arc;
 pub use laws::{
     corners_agree, deep_slews_are_the_same, live_arcs_have_delays, lookups_are_a_function,
-    slews_are_one, times_are_one, worst_at_pins,
+    slews_are_one, worst_at_pins,
 };
 pub use loaded::LoadedNetlist;
 pub use lookups::{EdgeLookups, PartEnd};

@@ -1,8 +1,8 @@
 //! A netlist with the loads and Elmore sums of its nets.
-ghost use Rattle.slew_order.specs.NetTimes.{Fits};
+ghost use Rattle.net_delays.specs.NetTimes.{Fits};
 
-use crate::net_delays::NetDelays;
 use corner_set::CornerSet;
+use net_delays::NetDelays;
 use netlist_link::LinkedNetlist;
 
 /// A netlist with its cells, and the loads of its nets and the Elmore sums of their sinks.

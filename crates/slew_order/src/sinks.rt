@@ -2,7 +2,7 @@
 ghost use Rattle.std.specs.Prelude.{◌≡◌, ◌+◌, ◌<◌, ◌↔◌, length, map, Some, All, IfOk, IfSome, OnOk, IsTrue};
 ghost use Rattle.netlist_link.specs.FlatNetlist.{instance_at, net_at};
 ghost use Rattle.slew_order.specs.FlatArcs.{IsArcAt, net_on};
-ghost use Rattle.slew_order.specs.NetTimes.{start_in};
+ghost use Rattle.net_delays.specs.NetTimes.{start_in};
 ghost use Rattle.slew_order.specs.Sinks.{ArePinStarts, IsSunk, is_pin, pin_place, related_sink};
 ghost use Rattle.slew_order.specs.PinSlews.{is_driver, sink_of};
 ghost use Rattle.slew_order.specs.SinkPlaces.{ArePlaces, ArePlacedTo};
@@ -138,7 +138,7 @@ pub(crate) fn related_sinks<C: CornerSet>(
 }
 
 // For each instance how many pins the instances before have, and then the number of all pins.
-#[tactic(auto, using(crate::proofs::Starts::no_sums, crate::proofs::Starts::more_sums, crate::proofs::Starts::all_sums))]
+#[tactic(auto, using(crate::proofs::PinStarts::no_pins, crate::proofs::PinStarts::more_pins, crate::proofs::PinStarts::all_pins))]
 fn pin_starts(alloc: Global, netlist: &Netlist) -> Result<Vec<usize>, OutOfMemory>
     ensures { IfOk result (λ starts. ArePinStarts netlist.now starts.items) }
 {

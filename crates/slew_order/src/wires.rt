@@ -2,7 +2,7 @@
 ghost use Rattle.std.specs.Prelude.{◌≡◌, ◌<◌, ◌≤◌, IfSome};
 ghost use Rattle.slew_states.specs.PinState.{IsSmall, behind, most};
 ghost use Rattle.corner_set.specs.declared.choices.WireSlew.TheVariants.{Rss};
-ghost use Rattle.slew_order.specs.NetTimes.{elmore_limit};
+ghost use Rattle.net_delays.specs.NetTimes.{elmore_limit};
 ghost use Rattle.slew_order.specs.WireBehind.{wire_of};
 
 use corner_set::WireSlew;

@@ -6,7 +6,7 @@ ghost use Rattle.nldm_lookup.specs.Tables.{IsSmall};
 use corner_set::Beyond;
 use delay_units::{Atto, Farads};
 use edge_io::Steps;
-use nldm_lookup::{Axis, Beyond, Grain, LookupEnd, Order, Table, Which};
+use nldm_lookup::{Axis, Grain, LookupEnd, Order, Table, Which};
 use std::alloc::Global;
 use std::marker::Brand;
 use std::sync::ledger::{Blank, Ledger};

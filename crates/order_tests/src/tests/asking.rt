@@ -1,16 +1,16 @@
 //! What is asked of small designs. Each net has a load of 1 fF, and no wire has an Elmore sum unless one is set.
 ghost use Rattle.std.specs.Prelude.{◌≡◌, ◌<◌, pos, ◌≤ℤ◌, IfOk};
-ghost use Rattle.slew_order.specs.NetTimes.{Fits, elmore_limit};
+ghost use Rattle.net_delays.specs.NetTimes.{Fits, elmore_limit};
 ghost use Rattle.slew_order.specs.Slews.{AreTablesOf};
 
 use cell_models::Edge;
-use corner_set::Single;
-use delay_core::{Design, read_design};
+use corner_set::{Beyond, Single, WireSlew};
 use delay_units::{Atto, Farads};
+use design_phases::{Design, read_design};
 use edge_io::{MemShelf, OutOfMemory, Steps, Text, TextList};
+use net_delays::NetDelays;
 use netlist_link::Netlist;
-use nldm_lookup::Beyond;
-use slew_order::{ArcAt, LoadedNetlist, NetDelays, SlewEnd, Slews, propagate};
+use slew_order::{ArcAt, LoadedNetlist, SlewEnd, Slews, propagate};
 use std::alloc::Global;
 use std::marker::Brand;
 use std::process::Abort;

@@ -1,6 +1,6 @@
 //! Small designs, worked by hand.
 ghost use Rattle.std.specs.Prelude.{◌<◌, pos, ◌≤ℤ◌};
-ghost use Rattle.slew_order.specs.NetTimes.{elmore_limit};
+ghost use Rattle.net_delays.specs.NetTimes.{elmore_limit};
 
 use crate::tests::asking::{
     ArcDelay, PinSlew, delays_are, design_of, loaded, set_first, slew_at, slews_are, slews_of,
@@ -9,7 +9,7 @@ use cell_models::{Edge, Part};
 use corner_set::{Beyond, Single, WireSlew};
 use design_phases::Design;
 use edge_io::{OutOfMemory, Text};
-use nldm_lookup::{Beyond, Which};
+use nldm_lookup::Which;
 use slew_order::SlewEnd;
 use std::alloc::Global;
 use std::process::Abort;

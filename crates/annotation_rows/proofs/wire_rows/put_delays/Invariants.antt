@@ -1,5 +1,5 @@
 use Rattle.annotation_rows.specs.WireRows.{femto_of}
-use Rattle.slew_order.specs.NetTimes.{elmore_at}
+use Rattle.net_delays.specs.NetTimes.{elmore_at}
 use Rattle.annotation_rows.proofs.Filling.{IsFilled}
 use Rattle.annotation_rows.proofs.wire_rows.put_delays.Given as goal
 

@@ -1,6 +1,6 @@
 -- Where the nets stop, the design stops; a refusal of the slews comes behind the SPEF file, and so does their work.
 use Rattle.spef_nets.specs.Drafts.{corners_of}
-use Rattle.slew_order.specs.NetTimes.{NetTimes}
+use Rattle.net_delays.specs.NetTimes.{NetTimes}
 use Rattle.design_phases.proofs.LibraryLemmas.{halted, lifted_follows}
 use Rattle.delay_core.specs.AnnotatedDesigns.{DesignDelays}
 use Rattle.delay_core.specs.TimingHalves.{slews_work, ReadsNetTimes, TimesNets, ReadsDelays, DesignWork}

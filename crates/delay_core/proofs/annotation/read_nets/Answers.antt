@@ -1,7 +1,7 @@
 -- A refusal of the nets comes behind the SPEF file, and so does their work.
 use Rattle.std.proofs.Common.{List, ℕ}
 use Rattle.spef_nets.specs.Drafts.{corners_of}
-use Rattle.slew_order.specs.NetTimes.{NetTimes}
+use Rattle.net_delays.specs.NetTimes.{NetTimes}
 use Rattle.design_phases.proofs.LibraryLemmas.{halted, lifted_follows}
 use Rattle.delay_core.specs.TimingHalves.{slews_work, FindsNets, ReadsNetTimes, at_file}
 use Rattle.delay_core.proofs.Following.{lifted_early, lifted_no_fault, nets_stop, nets_go}

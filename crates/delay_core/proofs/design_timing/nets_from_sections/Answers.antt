@@ -2,7 +2,7 @@
 use Rattle.std.specs.Prelude.{List}
 use Rattle.spef_nets.specs.Drafts.{corners_of}
 use Rattle.spef_nets.specs.NetElements.{NetElements}
-use Rattle.slew_order.specs.NetTimes.{NetTimes}
+use Rattle.net_delays.specs.NetTimes.{NetTimes}
 use Rattle.design_phases.proofs.LibraryLemmas.{no_file_on}
 use Rattle.wire_phases.specs.SpefPhases.{NetsSpef}
 use Rattle.delay_core.specs.TimingHalves.{FindsFileNets}

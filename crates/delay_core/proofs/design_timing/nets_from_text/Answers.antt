@@ -2,7 +2,7 @@
 use Rattle.spef_nets.specs.Drafts.{corners_of}
 use Rattle.spef_text.specs.Heads.{HeadText}
 use Rattle.spef_text.specs.SpefFiles.{SpefText}
-use Rattle.slew_order.specs.NetTimes.{NetTimes}
+use Rattle.net_delays.specs.NetTimes.{NetTimes}
 use Rattle.design_phases.proofs.LibraryLemmas.{no_file_on}
 use Rattle.wire_phases.specs.SpefPhases.{ParsesSpef, HeadsSpef, at_grammar, at_head}
 use Rattle.delay_core.specs.TimingHalves.{slews_work, FindsNets, at_sections}

@@ -1,6 +1,6 @@
 -- The slews are found, and then the rows.
 use Rattle.std.proofs.Common.{◌<◌, All, arith, subst}
-use Rattle.slew_order.specs.NetTimes.{NetTimes, elmore_limit}
+use Rattle.net_delays.specs.NetTimes.{NetTimes, elmore_limit}
 use Rattle.slew_order.specs.Slews.{SlewTables}
 use Rattle.design_phases.specs.DesignReading.{LinkedDesign}
 use Rattle.delay_core.specs.AnnotatedDesigns.{DesignDelays}

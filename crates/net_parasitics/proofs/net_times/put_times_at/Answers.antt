@@ -3,8 +3,8 @@ use Rattle.std.proofs.lemmas.Option.{get_or_from_slice_get}
 use Rattle.rc_tree.specs.Arenas.{node_count, arena_elements}
 use Rattle.rc_tree.specs.Elmore.{IsElmore}
 use Rattle.rc_tree.specs.declared.node_ids.NodeId.{NodeId}
-use Rattle.slew_order.specs.NetTimes.{elmore_limit}
-use Rattle.slew_order.proofs.Starts.{row_within}
+use Rattle.net_delays.specs.NetTimes.{elmore_limit}
+use Rattle.net_delays.proofs.Starts.{row_within}
 use Rattle.net_parasitics.specs.NetSteps.{node_of_sink}
 use Rattle.net_parasitics.proofs.NetPuts.{has_sink, after_load, none_put, one_put, sum_is, HaveCorners}
 use Rattle.net_parasitics.proofs.net_times.put_times_at.Goals as goal

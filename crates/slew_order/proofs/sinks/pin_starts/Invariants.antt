@@ -1,6 +1,6 @@
 use Rattle.std.proofs.Common.{length}
 use Rattle.netlist_link.specs.FlatNetlist.{instance_at}
-use Rattle.slew_order.proofs.Starts.{SumsSoFar}
+use Rattle.net_delays.proofs.Starts.{SumsSoFar}
 use Rattle.slew_order.proofs.sinks.pin_starts.Given as goal
 
 abbrev pub invariant-loop-instance : goal.invariant-loop-instance

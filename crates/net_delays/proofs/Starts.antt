@@ -9,7 +9,7 @@ use Rattle.std.proofs.lemmas.Option.{unwrap_or-slice_get}
 use Rattle.std.proofs.lemmas.List.Elements.{All-replicate}
 use Rattle.delay_units.specs.declared.quantities.Farads.{Farads}
 use Rattle.netlist_link.specs.FlatNetlist.{FlatNetlist}
-use Rattle.slew_order.specs.NetTimes.{NetTimes, AreNetTimes, AreSums, AreStarts, HasNet, HasSink, start_in, nets_in, sinks_in, elmore_limit}
+use Rattle.net_delays.specs.NetTimes.{NetTimes, AreNetTimes, AreSums, AreStarts, HasNet, HasSink, start_in, nets_in, sinks_in, elmore_limit}
 
 -- the starts of so many groups, and then the sum of their sizes
 pub record SumsSoFar (sizes : ℕ → ℕ) (starts : List ℕ) (sum many : ℕ) : Type 0 where

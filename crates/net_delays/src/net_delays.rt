@@ -1,7 +1,7 @@
 //! The loads of nets and the Elmore sums of their sinks.
 ghost use Rattle.std.specs.Prelude.{◌≡◌, ℕ, ◌*◌, ◌+◌, ◌^◌, ◌<◌, length, IfOk};
 ghost use Rattle.corner_set.specs.Places.{HasRow};
-ghost use Rattle.slew_order.specs.NetTimes.{AreNetTimes, start_in, load_at, elmore_at, elmore_limit, HasNet, HasSink, Fits, AreStarts, LeavesLoads, LeavesElmores};
+ghost use Rattle.net_delays.specs.NetTimes.{AreNetTimes, start_in, load_at, elmore_at, elmore_limit, HasNet, HasSink, Fits, AreStarts, LeavesLoads, LeavesElmores};
 
 use corner_set::{CornerSet, Grid};
 use delay_units::Farads;
@@ -22,7 +22,7 @@ pub struct NetDelays<C: CornerSet> {
 }
 
 impl<C: CornerSet> Model for NetDelays<C> {
-    ghost use Rattle.slew_order.specs.NetTimes.{NetTimes, AreNetTimes};
+    ghost use Rattle.net_delays.specs.NetTimes.{NetTimes, AreNetTimes};
 
     ghost Value = { NetTimes };
 

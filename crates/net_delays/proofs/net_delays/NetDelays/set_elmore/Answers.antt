@@ -1,8 +1,8 @@
 use Rattle.std.proofs.Common.{ℕ, ◌+◌, ap, ◌∙◌, get_or}
 use Rattle.corner_set.specs.Places.{place}
-use Rattle.slew_order.specs.NetTimes.{start_in}
-use Rattle.slew_order.proofs.Starts.{one_sink, same_read}
-use Rattle.slew_order.proofs.net_delays.NetDelays.set_elmore.Goals as goal
+use Rattle.net_delays.specs.NetTimes.{start_in}
+use Rattle.net_delays.proofs.Starts.{one_sink, same_read}
+use Rattle.net_delays.proofs.net_delays.NetDelays.set_elmore.Goals as goal
 
 pub returns-clause-others : goal.returns-clause-others
 returns-clause-others g c = λ other of at has apart.

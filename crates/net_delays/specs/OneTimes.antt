@@ -1,7 +1,7 @@
 -- Two tables of loads and Elmore sums are one where they have the same at each place.
 use Rattle.std.specs.Prelude.{◌≡◌, ℕ, ◌<◌, length}
 use Rattle.netlist_link.specs.FlatNetlist.{FlatNetlist, net_at}
-use Rattle.slew_order.specs.NetTimes.{NetTimes, AreNetTimes, Fits, load_at, elmore_at}
+use Rattle.net_delays.specs.NetTimes.{NetTimes, AreNetTimes, Fits, load_at, elmore_at}
 
 -- the same load at each net and the same Elmore sum at each sink, at so many corners
 pub record AreAlike (count : ℕ) (netlist : FlatNetlist) (one other : NetTimes) : Type 0 where

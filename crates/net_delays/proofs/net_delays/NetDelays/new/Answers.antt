@@ -1,7 +1,7 @@
 use Rattle.std.proofs.Common.{ℕ, arith}
 use Rattle.std.proofs.lemmas.List.{get_or_read}
-use Rattle.slew_order.proofs.Starts.{new_times}
-use Rattle.slew_order.proofs.net_delays.NetDelays.new.Goals as goal
+use Rattle.net_delays.proofs.Starts.{new_times}
+use Rattle.net_delays.proofs.net_delays.NetDelays.new.Goals as goal
 
 pub invariant_of-result : goal.invariant_of-result
 invariant_of-result g c =

@@ -1,0 +1,2 @@
+pub mod OneTimes
+pub mod Starts

@@ -1,0 +1,2 @@
+pub mod NetTimes
+pub mod OneTimes
