@@ -27,8 +27,8 @@ fn run_real<L: Ledger>(rt: HostRuntime, blank: Blank) -> u8
     };
     let mut out = StdOut::new(rt.stdout());
     let mut err = StdErr::new(rt.stderr());
+    let mut steps = Steps::<L>::new(&rt, blank);
     let mut shelf = FileShelf::new(rt);
-    let mut steps = Steps::<L>::new(blank);
     run(alloc, &words, &mut shelf, &mut out, &mut err, &mut steps).status()
 }
 

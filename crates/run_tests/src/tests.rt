@@ -171,17 +171,18 @@ fn shelf_of(alloc: Global, plan: &Plan) -> Result<MemShelf, OutOfMemory> {
     Ok(shelf)
 }
 
-fn try_in<L: Ledger>(alloc: Global, blank: Blank, plan: &Plan) -> Result<Tried, OutOfMemory>
+fn try_in<L: Ledger>(rt: &HostRuntime, blank: Blank, plan: &Plan) -> Result<Tried, OutOfMemory>
     requires name { blank.name ≡ L.name }
     requires parts { blank.parts ≡ L.parts }
     requires some_part { 0 < blank.parts }
 {
+    let alloc = rt.alloc();
     let words = words_of(alloc, plan)?;
     let mut shelf = shelf_of(alloc, plan)?;
     let mut out = MemSink::new(alloc, plan.most.max(1), 100_000)?;
     out.fail_at(plan.failing_write)?;
     let mut err = MemSink::new(alloc, 1000, 100_000)?;
-    let mut steps = Steps::<L>::new(blank);
+    let mut steps = Steps::<L>::new(rt, blank);
     let outcome = run(alloc, &words, &mut shelf, &mut out, &mut err, &mut steps);
     Ok(Tried {
         status: outcome.status(),
@@ -190,34 +191,34 @@ fn try_in<L: Ledger>(alloc: Global, blank: Blank, plan: &Plan) -> Result<Tried, 
     })
 }
 
-fn try_plan(alloc: Global, plan: &Plan) -> Result<Tried, OutOfMemory> {
-    try_in::<Brand>(alloc, Blank::new(1), plan)
+fn try_plan(rt: &HostRuntime, plan: &Plan) -> Result<Tried, OutOfMemory> {
+    try_in::<Brand>(rt, Blank::new(1), plan)
 }
 
 /// The run ends with this status, and has written this text and this line.
 fn expects(
-    rt: &impl Abort,
-    alloc: Global,
+    rt: &HostRuntime,
+    abort: &impl Abort,
     plan: &Plan,
     status: u8,
     out: &[u8],
     err: &[u8],
 ) -> Result<(), OutOfMemory> {
-    let tried = try_plan(alloc, plan)?;
-    assert_eq!(rt; tried.err.written(), err);
-    assert_eq!(rt; tried.out.written(), out);
-    assert_eq!(rt; tried.status, status);
+    let tried = try_plan(rt, plan)?;
+    assert_eq!(abort; tried.err.written(), err);
+    assert_eq!(abort; tried.out.written(), out);
+    assert_eq!(abort; tried.status, status);
     Ok(())
 }
 
 /// The run ends well, and has written the SDF text of the design `top` with this behind its head.
 fn expects_sdf(
-    rt: &impl Abort,
-    alloc: Global,
+    rt: &HostRuntime,
+    abort: &impl Abort,
     plan: &Plan,
     body: &[u8],
 ) -> Result<(), OutOfMemory> {
-    let mut text = Text::from_bytes(alloc, SDF_HEAD)?;
+    let mut text = Text::from_bytes(rt.alloc(), SDF_HEAD)?;
     text.push_all(body)?;
-    expects(rt, alloc, plan, 0, text.bytes(), b"")
+    expects(rt, abort, plan, 0, text.bytes(), b"")
 }

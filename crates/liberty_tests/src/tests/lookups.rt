@@ -31,6 +31,7 @@ fn table(alloc: Global, order: Order, values: &[i64]) -> Option<Table>
 
 /// What a table says, with a counter of its own.
 fn looked_by<L: Ledger>(
+    rt: &HostRuntime,
     table: &Table,
     slew: i64,
     load: u64,
@@ -44,12 +45,13 @@ fn looked_by<L: Ledger>(
     requires parts { blank.parts ≡ L.parts }
     requires some_part { 0 < blank.parts }
 {
-    let mut steps = Steps::<L>::new(blank);
+    let mut steps = Steps::<L>::new(rt, blank);
     table.lookup(Atto(slew), Farads(load), grain, beyond, &mut steps)
 }
 
 /// What a table says at a slew and a load, also past its axes.
 fn looked_past(
+    rt: &HostRuntime,
     table: &Table,
     slew: i64,
     load: u64,
@@ -59,17 +61,17 @@ fn looked_past(
     requires not_negative { pos 0 ≤ℤ slew }
     requires small { slew ≤ℤ pos most }
 {
-    looked_by::<Brand>(table, slew, load, grain, beyond, Blank::new(1))
+    looked_by::<Brand>(rt, table, slew, load, grain, beyond, Blank::new(1))
 }
 
 /// What a table says at a slew and a load within its axes, or nothing.
-pub fn looked(table: &Table, slew: u32, load: u64, grain: Grain) -> Option<i64> {
-    looked_past(table, slew as i64, load, grain, Beyond::Refuse).ok()
+pub fn looked(rt: &HostRuntime, table: &Table, slew: u32, load: u64, grain: Grain) -> Option<i64> {
+    looked_past(rt, table, slew as i64, load, grain, Beyond::Refuse).ok()
 }
 
 /// What a table says: the value, or 1 for a slew outside, 2 for a load outside, and 3 for a time that is too large.
-fn told(table: &Table, row: &Row) -> (i64, u8) {
-    match looked_past(table, row.0 as i64, row.1, row.2, row.3) {
+fn told(rt: &HostRuntime, table: &Table, row: &Row) -> (i64, u8) {
+    match looked_past(rt, table, row.0 as i64, row.1, row.2, row.3) {
         Ok(value) => (value, 0),
         Err(LookupEnd::Outside(outside)) => match outside.axis {
             Which::Slew => (0, 1),
@@ -150,9 +152,9 @@ const STEEP_ROWS: [Row; 3] = [
 ];
 
 /// The first row that a table tells otherwise.
-fn first_other(table: &Table, rows: &[Row]) -> Option<usize> {
+fn first_other(rt: &HostRuntime, table: &Table, rows: &[Row]) -> Option<usize> {
     for (number, row) in rows.iter().enumerate() {
-        let found = told(table, row);
+        let found = told(rt, table, row);
         if found.0 != row.4.0 || found.1 != row.4.1 {
             return Some(number);
         }
@@ -161,18 +163,18 @@ fn first_other(table: &Table, rows: &[Row]) -> Option<usize> {
 }
 
 /// Whether the table of these values tells the rows.
-fn are_told(alloc: Global, order: Order, values: &[i64], rows: &[Row]) -> bool
+fn are_told(rt: &HostRuntime, order: Order, values: &[i64], rows: &[Row]) -> bool
     requires { All IsSmall values.now }
 {
-    match table(alloc, order, values) {
-        Some(table) => first_other(&table, rows).is_none(),
+    match table(rt.alloc(), order, values) {
+        Some(table) => first_other(rt, &table, rows).is_none(),
         None => false,
     }
 }
 
 #[test]
 fn worked_values(rt: HostRuntime) {
-    assert!(rt; are_told(rt.alloc(), Order::SlewFirst, &RISE, &ROWS));
-    assert!(rt; are_told(rt.alloc(), Order::LoadFirst, &RISE_BY_LOAD, &ROWS));
-    assert!(rt; are_told(rt.alloc(), Order::SlewFirst, &STEEP, &STEEP_ROWS));
+    assert!(rt; are_told(&rt, Order::SlewFirst, &RISE, &ROWS));
+    assert!(rt; are_told(&rt, Order::LoadFirst, &RISE_BY_LOAD, &ROWS));
+    assert!(rt; are_told(&rt, Order::SlewFirst, &STEEP, &STEEP_ROWS));
 }

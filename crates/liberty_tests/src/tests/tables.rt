@@ -89,12 +89,13 @@ fn library_with(alloc: Global, delay: &[u8]) -> Result<Text, OutOfMemory> {
 }
 
 /// What a delay says, or nothing where its cell has no such arc.
-fn delay_of(alloc: Global, delay: &[u8]) -> Result<Option<i64>, CellFault> {
+fn delay_of(rt: &HostRuntime, delay: &[u8]) -> Result<Option<i64>, CellFault> {
+    let alloc = rt.alloc();
     let library = library_with(alloc, delay)?;
     let cell = built(alloc, library.bytes(), b"c")?;
     match cell.arcs() {
         [arc] => match &arc.rise {
-            Some(rise) => Ok(looked(&rise.delay, 15_000_000, 2_000_000, Grain::Atto)),
+            Some(rise) => Ok(looked(rt, &rise.delay, 15_000_000, 2_000_000, Grain::Atto)),
             None => Ok(None),
         },
         _ => Ok(None),
@@ -102,9 +103,9 @@ fn delay_of(alloc: Global, delay: &[u8]) -> Result<Option<i64>, CellFault> {
 }
 
 /// The first table that says another value.
-fn first_other_value(alloc: Global) -> Option<usize> {
+fn first_other_value(rt: &HostRuntime) -> Option<usize> {
     for (number, row) in VALUES.iter().enumerate() {
-        match delay_of(alloc, row.0) {
+        match delay_of(rt, row.0) {
             Ok(Some(delay)) if delay == row.1 => {}
             _ => return Some(number),
         }
@@ -113,9 +114,9 @@ fn first_other_value(alloc: Global) -> Option<usize> {
 }
 
 /// The first table with another fault.
-fn first_other_fault(alloc: Global) -> Option<usize> {
+fn first_other_fault(rt: &HostRuntime) -> Option<usize> {
     for (number, row) in FAULTS.iter().enumerate() {
-        match delay_of(alloc, row.0) {
+        match delay_of(rt, row.0) {
             Err(fault) if word_of(fault) == row.1 => {}
             _ => return Some(number),
         }
@@ -125,6 +126,6 @@ fn first_other_fault(alloc: Global) -> Option<usize> {
 
 #[test]
 fn tables_are_read(rt: HostRuntime) {
-    assert_eq!(rt; first_other_value(rt.alloc()), None);
-    assert_eq!(rt; first_other_fault(rt.alloc()), None);
+    assert_eq!(rt; first_other_value(&rt), None);
+    assert_eq!(rt; first_other_fault(&rt), None);
 }

@@ -35,17 +35,18 @@ fn words_of(alloc: Global) -> Result<Words, OutOfMemory> {
 }
 
 /// `wires` over one file, of which a read gives much at once.
-fn try_in<L: Ledger>(alloc: Global, blank: Blank, file: Text) -> Result<Tried, OutOfMemory>
+fn try_in<L: Ledger>(rt: &HostRuntime, blank: Blank, file: Text) -> Result<Tried, OutOfMemory>
     requires name { blank.name ≡ L.name }
     requires parts { blank.parts ≡ L.parts }
     requires some_part { 0 < blank.parts }
 {
+    let alloc = rt.alloc();
     let words = words_of(alloc)?;
     let mut shelf = MemShelf::new(alloc, MOST_BYTES);
     shelf.put(Text::from_bytes(alloc, b"a.spef")?, file)?;
     let mut out = MemSink::new(alloc, 1000, 1000)?;
     let mut err = MemSink::new(alloc, 1000, 1000)?;
-    let mut steps = Steps::<L>::new(blank);
+    let mut steps = Steps::<L>::new(rt, blank);
     let outcome = run(alloc, &words, &mut shelf, &mut out, &mut err, &mut steps);
     Ok(Tried {
         status: outcome.status(),
@@ -53,21 +54,21 @@ fn try_in<L: Ledger>(alloc: Global, blank: Blank, file: Text) -> Result<Tried, O
     })
 }
 
-fn try_file(alloc: Global, file: Text) -> Result<Tried, OutOfMemory> {
-    try_in::<Brand>(alloc, Blank::new(1), file)
+fn try_file(rt: &HostRuntime, file: Text) -> Result<Tried, OutOfMemory> {
+    try_in::<Brand>(rt, Blank::new(1), file)
 }
 
 /// The run ends with this status, and has said this line.
 fn expects(
-    rt: &impl Abort,
-    alloc: Global,
+    rt: &HostRuntime,
+    abort: &impl Abort,
     file: Text,
     status: u8,
     line: &[u8],
 ) -> Result<(), OutOfMemory> {
-    let tried = try_file(alloc, file)?;
-    assert_eq!(rt; tried.err.written(), line);
-    assert_eq!(rt; tried.status, status);
+    let tried = try_file(rt, file)?;
+    assert_eq!(abort; tried.err.written(), line);
+    assert_eq!(abort; tried.status, status);
     Ok(())
 }
 
@@ -95,9 +96,9 @@ fn a_net_of_too_many_parts_passes_a_limit(rt: HostRuntime) -> Result<(), Fail> {
     let alloc = rt.alloc();
     // Two of the parts are pins.
     let fits = crowded(alloc, MOST_PARTS - 2)?;
-    expects(&rt, alloc, fits, 0, b"")?;
+    expects(&rt, &rt, fits, 0, b"")?;
     let passes = crowded(alloc, MOST_PARTS - 1)?;
-    expects(&rt, alloc, passes, 1, b"gdc: E50 limit net n\n")?;
+    expects(&rt, &rt, passes, 1, b"gdc: E50 limit net n\n")?;
     Ok(())
 }
 
@@ -105,8 +106,8 @@ fn a_net_of_too_many_parts_passes_a_limit(rt: HostRuntime) -> Result<(), Fail> {
 fn a_file_of_too_many_bytes_passes_a_limit(rt: HostRuntime) -> Result<(), Fail> {
     let alloc = rt.alloc();
     let fits = blanks(alloc, MOST_BYTES)?;
-    expects(&rt, alloc, fits, 1, b"gdc: E04 spef syntax token 1\n")?;
+    expects(&rt, &rt, fits, 1, b"gdc: E04 spef syntax token 1\n")?;
     let passes = blanks(alloc, MOST_BYTES + 1)?;
-    expects(&rt, alloc, passes, 1, b"gdc: E50 limit file --spef\n")?;
+    expects(&rt, &rt, passes, 1, b"gdc: E50 limit file --spef\n")?;
     Ok(())
 }

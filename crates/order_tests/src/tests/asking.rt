@@ -71,7 +71,7 @@ pub fn set_first(netlist: &Netlist, nets: &mut NetDelays<Single>, elmore: u128)
 }
 
 fn slews_by<L: Ledger>(
-    alloc: Global,
+    rt: &HostRuntime,
     design: &Design<Single>,
     nets: &NetDelays<Single>,
     slew: i64,
@@ -87,17 +87,24 @@ fn slews_by<L: Ledger>(
     requires small { slew ≤ℤ pos 1000000000000 }
     ensures { IfOk result (AreTablesOf design.now.netlist 1) }
 {
-    let mut steps = Steps::<L>::new(blank);
+    let mut steps = Steps::<L>::new(rt, blank);
     let with_loads = LoadedNetlist {
         linked: design.linked(),
         nets,
     };
-    propagate(alloc, &with_loads, Atto(slew), beyond, mode, &mut steps)
+    propagate(
+        rt.alloc(),
+        &with_loads,
+        Atto(slew),
+        beyond,
+        mode,
+        &mut steps,
+    )
 }
 
 /// The slews of a design at a slew of its input ports in attoseconds, or why there are none.
 pub fn slews_of(
-    alloc: Global,
+    rt: &HostRuntime,
     design: &Design<Single>,
     nets: &NetDelays<Single>,
     slew: i64,
@@ -109,7 +116,7 @@ pub fn slews_of(
     requires small { slew ≤ℤ pos 1000000000000 }
     ensures { IfOk result (AreTablesOf design.now.netlist 1) }
 {
-    slews_by::<Brand>(alloc, design, nets, slew, beyond, mode, Blank::new(1))
+    slews_by::<Brand>(rt, design, nets, slew, beyond, mode, Blank::new(1))
 }
 
 /// The slew at a pin in attoseconds.
@@ -153,7 +160,8 @@ pub fn slews_are(
 }
 
 fn delays_by<L: Ledger>(
-    rt: &impl Abort,
+    rt: &HostRuntime,
+    abort: &impl Abort,
     slews: &Slews<Single>,
     design: &Design<Single>,
     nets: &NetDelays<Single>,
@@ -166,14 +174,14 @@ fn delays_by<L: Ledger>(
     requires tables { AreTablesOf design.now.netlist 1 slews.now }
     requires fits { Fits design.now.netlist nets.now }
 {
-    let mut steps = Steps::<L>::new(blank);
+    let mut steps = Steps::<L>::new(rt, blank);
     let with_loads = LoadedNetlist {
         linked: design.linked(),
         nets,
     };
     for want in wants {
-        assert!(rt; want.0 < design.netlist().instance_count());
-        assert!(rt;
+        assert!(abort; want.0 < design.netlist().instance_count());
+        assert!(abort;
             want.1
                 < design
                     .cells()
@@ -185,15 +193,16 @@ fn delays_by<L: Ledger>(
             arc: want.1,
         };
         match slews.delay(&with_loads, at, want.2, (), &mut steps) {
-            Some(delay) => assert!(rt; Some(delay.0) == want.3),
-            None => assert!(rt; want.3.is_none()),
+            Some(delay) => assert!(abort; Some(delay.0) == want.3),
+            None => assert!(abort; want.3.is_none()),
         }
     }
 }
 
 /// The delays of some arcs are these.
 pub fn delays_are(
-    rt: &impl Abort,
+    rt: &HostRuntime,
+    abort: &impl Abort,
     slews: &Slews<Single>,
     design: &Design<Single>,
     nets: &NetDelays<Single>,
@@ -202,5 +211,5 @@ pub fn delays_are(
     requires tables { AreTablesOf design.now.netlist 1 slews.now }
     requires fits { Fits design.now.netlist nets.now }
 {
-    delays_by::<Brand>(rt, slews, design, nets, wants, Blank::new(1))
+    delays_by::<Brand>(rt, abort, slews, design, nets, wants, Blank::new(1))
 }

@@ -50,28 +50,28 @@ fn reconvergent(alloc: Global) -> Result<Text, OutOfMemory> {
 
 /// The design of a netlist has these slews and delays, where its input ports have 20 ps.
 fn answers(
-    rt: &impl Abort,
-    alloc: Global,
+    rt: &HostRuntime,
+    abort: &impl Abort,
     netlist: &[u8],
     pins: &[PinSlew],
     arcs: &[ArcDelay],
 ) -> Result<(), Fail> {
-    match design_of(alloc, netlist)? {
-        Some(design) => design_answers(rt, alloc, &design, pins, arcs),
+    match design_of(rt.alloc(), netlist)? {
+        Some(design) => design_answers(rt, abort, &design, pins, arcs),
         None => Err(Fail::from("design")),
     }
 }
 
 fn design_answers(
-    rt: &impl Abort,
-    alloc: Global,
+    rt: &HostRuntime,
+    abort: &impl Abort,
     design: &Design<Single>,
     pins: &[PinSlew],
     arcs: &[ArcDelay],
 ) -> Result<(), Fail> {
-    let nets = loaded(alloc, design.netlist())?;
+    let nets = loaded(rt.alloc(), design.netlist())?;
     match slews_of(
-        alloc,
+        rt,
         design,
         &nets,
         20_000_000,
@@ -79,8 +79,8 @@ fn design_answers(
         WireSlew::Same,
     ) {
         Ok(slews) => {
-            slews_are(rt, &slews, design, &nets, pins);
-            delays_are(rt, &slews, design, &nets, arcs);
+            slews_are(abort, &slews, design, &nets, pins);
+            delays_are(rt, abort, &slews, design, &nets, arcs);
             Ok(())
         }
         Err(_) => Err(Fail::from("slews")),
@@ -90,7 +90,7 @@ fn design_answers(
 /// What is said of a design whose input ports have a slew in attoseconds: the rise at the first pin, or why there are no slews. The
 /// wire to the first sink has an Elmore sum in 10^-27 s.
 fn said(
-    alloc: Global,
+    rt: &HostRuntime,
     netlist: &[u8],
     slew: i64,
     beyond: Beyond,
@@ -101,14 +101,14 @@ fn said(
     requires small { slew ≤ℤ pos 1000000000000 }
     requires short { elmore < elmore_limit }
 {
-    match design_of(alloc, netlist)? {
-        Some(design) => design_said(alloc, &design, slew, beyond, mode, elmore),
+    match design_of(rt.alloc(), netlist)? {
+        Some(design) => design_said(rt, &design, slew, beyond, mode, elmore),
         None => Err(Fail::from("design")),
     }
 }
 
 fn design_said(
-    alloc: Global,
+    rt: &HostRuntime,
     design: &Design<Single>,
     slew: i64,
     beyond: Beyond,
@@ -119,9 +119,9 @@ fn design_said(
     requires small { slew ≤ℤ pos 1000000000000 }
     requires short { elmore < elmore_limit }
 {
-    let mut nets = loaded(alloc, design.netlist())?;
+    let mut nets = loaded(rt.alloc(), design.netlist())?;
     set_first(design.netlist(), &mut nets, elmore);
-    match slews_of(alloc, design, &nets, slew, beyond, mode) {
+    match slews_of(rt, design, &nets, slew, beyond, mode) {
         Ok(slews) => Ok(Ok(slew_at(&slews, design, &nets, 0, 0, Edge::Rise))),
         Err(end) => Ok(Err(end)),
     }
@@ -147,7 +147,7 @@ fn a_flip_flop_ends_a_path(rt: HostRuntime) -> Result<(), Fail> {
         (1, 0, Edge::Rise, Some(22_000)),
         (1, 0, Edge::Fall, Some(11_500)),
     ];
-    answers(&rt, rt.alloc(), FLIP_FLOP, &pins, &arcs)
+    answers(&rt, &rt, FLIP_FLOP, &pins, &arcs)
 }
 
 #[test]
@@ -158,7 +158,7 @@ fn a_tied_pin_gives_nothing(rt: HostRuntime) -> Result<(), Fail> {
         (0, 2, Edge::Fall, Some(10_000_000)),
     ];
     let arcs = [(0, 0, Edge::Rise, Some(50_000)), (0, 1, Edge::Rise, None)];
-    answers(&rt, rt.alloc(), TIED, &pins, &arcs)
+    answers(&rt, &rt, TIED, &pins, &arcs)
 }
 
 #[test]
@@ -172,19 +172,12 @@ fn reconvergent_gates_have_the_slews_of_their_tables(rt: HostRuntime) -> Result<
         (63, 0, Edge::Rise, Some(50_000)),
         (63, 0, Edge::Fall, Some(40_000)),
     ];
-    answers(&rt, rt.alloc(), netlist.bytes(), &pins, &arcs)
+    answers(&rt, &rt, netlist.bytes(), &pins, &arcs)
 }
 
 #[test]
 fn a_latch_is_a_cycle_from_its_least_net(rt: HostRuntime) -> Result<(), Fail> {
-    match said(
-        rt.alloc(),
-        LATCH,
-        20_000_000,
-        Beyond::Refuse,
-        WireSlew::Same,
-        0,
-    )? {
+    match said(&rt, LATCH, 20_000_000, Beyond::Refuse, WireSlew::Same, 0)? {
         Err(SlewEnd::Loop(cycle)) => {
             assert!(rt; cycle.len() == 2);
             // Net q stands before net qn, and pin B of u2 is on it.
@@ -199,14 +192,7 @@ fn a_latch_is_a_cycle_from_its_least_net(rt: HostRuntime) -> Result<(), Fail> {
 
 #[test]
 fn the_first_look_up_outside_is_told(rt: HostRuntime) -> Result<(), Fail> {
-    match said(
-        rt.alloc(),
-        INVERTER,
-        40_000_000,
-        Beyond::Refuse,
-        WireSlew::Same,
-        0,
-    )? {
+    match said(&rt, INVERTER, 40_000_000, Beyond::Refuse, WireSlew::Same, 0)? {
         Err(
             SlewEnd::Outside {
                 at,
@@ -228,14 +214,7 @@ fn the_first_look_up_outside_is_told(rt: HostRuntime) -> Result<(), Fail> {
 #[test]
 fn a_wire_joins_its_own_slew(rt: HostRuntime) -> Result<(), Fail> {
     for (mode, want) in [(WireSlew::Same, 20_000_000), (WireSlew::Rss, 25_000_000)] {
-        match said(
-            rt.alloc(),
-            INVERTER,
-            20_000_000,
-            Beyond::Refuse,
-            mode,
-            OWN_15_PS,
-        )? {
+        match said(&rt, INVERTER, 20_000_000, Beyond::Refuse, mode, OWN_15_PS)? {
             Ok(slew) => assert!(rt; slew == Some(want)),
             Err(_) => return Err(Fail::from("slews")),
         }
@@ -246,7 +225,7 @@ fn a_wire_joins_its_own_slew(rt: HostRuntime) -> Result<(), Fail> {
 #[test]
 fn a_slew_past_the_limit_is_told(rt: HostRuntime) -> Result<(), Fail> {
     match said(
-        rt.alloc(),
+        &rt,
         INVERTER,
         1_000_000_000_000,
         Beyond::Edge,

@@ -181,20 +181,18 @@ const REFUSED: [(&[u8], &[u8], &[u8], &[u8]); 6] = [
 
 #[test]
 fn a_design_is_annotated(rt: HostRuntime) -> Result<(), Fail> {
-    let alloc = rt.alloc();
     for (words, netlist, spef, body) in WRITTEN {
         let plan = Plan::calc(words, netlist, spef, LIBRARY);
-        expects_sdf(&rt, alloc, &plan, body)?;
+        expects_sdf(&rt, &rt, &plan, body)?;
     }
     Ok(())
 }
 
 #[test]
 fn a_design_is_refused(rt: HostRuntime) -> Result<(), Fail> {
-    let alloc = rt.alloc();
     for (words, netlist, spef, line) in REFUSED {
         let plan = Plan::calc(words, netlist, spef, LIBRARY);
-        expects(&rt, alloc, &plan, 1, b"", line)?;
+        expects(&rt, &rt, &plan, 1, b"", line)?;
     }
     Ok(())
 }
@@ -217,18 +215,17 @@ const BROKEN: [(&[u8], &[u8]); 2] = [
 /// The library is read before the parasitics, and both before the text is written.
 #[test]
 fn faults_come_in_the_order_of_the_files(rt: HostRuntime) -> Result<(), Fail> {
-    let alloc = rt.alloc();
     let words: &[u8] = b"--input-slew\n20\n";
     for (library, line) in BROKEN {
         let plan = Plan::calc(words, INVERTER, b"", library);
-        expects(&rt, alloc, &plan, 1, b"", line)?;
+        expects(&rt, &rt, &plan, 1, b"", line)?;
     }
     let mut plan = Plan::calc(words, INVERTER, SPEF, LIBRARY);
     plan.words = b"calc\n--netlist\na.v\n--top\ntop\n--lib\na.lib\n--spef\nb.spef\n";
-    expects(&rt, alloc, &plan, 3, b"", b"gdc: read fault --spef\n")?;
+    expects(&rt, &rt, &plan, 3, b"", b"gdc: read fault --spef\n")?;
     let mut plan = Plan::calc(words, INVERTER, SPEF, LIBRARY);
     plan.most = 64;
     plan.failing_write = 2;
-    expects(&rt, alloc, &plan, 4, FRONT, b"gdc: write fault\n")?;
+    expects(&rt, &rt, &plan, 4, FRONT, b"gdc: write fault\n")?;
     Ok(())
 }

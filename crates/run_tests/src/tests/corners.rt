@@ -119,7 +119,7 @@ const WRITTEN: &[u8] = b"(DELAY
 #[test]
 fn each_corner_has_its_delays(rt: HostRuntime) -> Result<(), Fail> {
     let plan = Plan::corners(b"--input-slew\n20\n", INVERTER, SPEF, [MIN, TYP, MAX]);
-    expects_sdf(&rt, rt.alloc(), &plan, WRITTEN)?;
+    expects_sdf(&rt, &rt, &plan, WRITTEN)?;
     Ok(())
 }
 
@@ -139,10 +139,9 @@ const REFUSED: [([&[u8]; 3], &[u8]); 4] = [
 
 #[test]
 fn a_library_is_refused_at_its_corner(rt: HostRuntime) -> Result<(), Fail> {
-    let alloc = rt.alloc();
     for (libraries, line) in REFUSED {
         let plan = Plan::corners(b"--input-slew\n20\n", INVERTER, SPEF, libraries);
-        expects(&rt, alloc, &plan, 1, b"", line)?;
+        expects(&rt, &rt, &plan, 1, b"", line)?;
     }
     Ok(())
 }
@@ -169,9 +168,8 @@ const FAULTY: [(&[u8], &[u8]); 4] = [
 
 #[test]
 fn libraries_of_corners_stand_together(rt: HostRuntime) -> Result<(), Fail> {
-    let alloc = rt.alloc();
     for (words, line) in FAULTY {
-        expects(&rt, alloc, &Plan::of(words, SPEF), 2, b"", line)?;
+        expects(&rt, &rt, &Plan::of(words, SPEF), 2, b"", line)?;
     }
     Ok(())
 }
@@ -179,7 +177,6 @@ fn libraries_of_corners_stand_together(rt: HostRuntime) -> Result<(), Fail> {
 /// The libraries are read in the order of the corners, behind the netlist.
 #[test]
 fn a_fault_is_told_by_the_key_of_its_corner(rt: HostRuntime) -> Result<(), Fail> {
-    let alloc = rt.alloc();
     let mut plan = Plan::corners(
         b"--input-slew\n20\n",
         INVERTER,
@@ -188,20 +185,13 @@ fn a_fault_is_told_by_the_key_of_its_corner(rt: HostRuntime) -> Result<(), Fail>
     );
     plan.words =
         b"calc\n--netlist\na.v\n--top\ntop\n--spef\nb.spef\n--lib-max\nb.lib\n--lib-typ\nc.lib\n--lib-min\nmin.lib\n";
-    expects(&rt, alloc, &plan, 3, b"", b"gdc: read fault --lib-typ\n")?;
+    expects(&rt, &rt, &plan, 3, b"", b"gdc: read fault --lib-typ\n")?;
     let plan = Plan::corners(
         b"--input-slew\n20\n",
         INVERTER,
         SPEF,
         [b"library (x) { }"; 3],
     );
-    expects(
-        &rt,
-        alloc,
-        &plan,
-        1,
-        b"",
-        b"gdc: E11 unknown cell INV min\n",
-    )?;
+    expects(&rt, &rt, &plan, 1, b"", b"gdc: E11 unknown cell INV min\n")?;
     Ok(())
 }

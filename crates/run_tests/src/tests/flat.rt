@@ -111,20 +111,18 @@ const REFUSED: [(&[u8], &[u8]); 15] = [
 
 #[test]
 fn each_instance_and_each_net_has_its_line(rt: HostRuntime) -> Result<(), Fail> {
-    let alloc = rt.alloc();
     for row in &FLAT {
         let plan = Plan::flat(row.0, LIBRARY);
-        expects(&rt, alloc, &plan, 0, row.1, b"")?;
+        expects(&rt, &rt, &plan, 0, row.1, b"")?;
     }
     Ok(())
 }
 
 #[test]
 fn a_netlist_is_refused(rt: HostRuntime) -> Result<(), Fail> {
-    let alloc = rt.alloc();
     for row in &REFUSED {
         let plan = Plan::flat(row.0, LIBRARY);
-        expects(&rt, alloc, &plan, 1, b"", row.1)?;
+        expects(&rt, &rt, &plan, 1, b"", row.1)?;
     }
     Ok(())
 }
@@ -133,37 +131,34 @@ fn a_netlist_is_refused(rt: HostRuntime) -> Result<(), Fail> {
 /// where a cell or a connection is.
 #[test]
 fn the_library_is_read_behind_the_walk(rt: HostRuntime) -> Result<(), Fail> {
-    let alloc = rt.alloc();
     let library: &[u8] = b"library (x) { cell (";
     for row in &[REFUSED[0], REFUSED[4], REFUSED[5], REFUSED[9]] {
         let plan = Plan::flat(row.0, library);
-        expects(&rt, alloc, &plan, 1, b"", row.1)?;
+        expects(&rt, &rt, &plan, 1, b"", row.1)?;
     }
     for row in &[REFUSED[6], REFUSED[7], REFUSED[14]] {
         let plan = Plan::flat(row.0, library);
         let line = b"gdc: E03 library syntax only token 8 line 1 end inside\n";
-        expects(&rt, alloc, &plan, 1, b"", line)?;
+        expects(&rt, &rt, &plan, 1, b"", line)?;
     }
     Ok(())
 }
 
 #[test]
 fn a_file_that_cannot_be_read_is_a_read_fault(rt: HostRuntime) -> Result<(), Fail> {
-    let alloc = rt.alloc();
     let mut plan = Plan::flat(FLAT[0].0, LIBRARY);
     plan.words = b"flat\n--netlist\nb.v\n--top\ntop\n--lib\na.lib\n";
-    expects(&rt, alloc, &plan, 3, b"", b"gdc: read fault --netlist\n")?;
+    expects(&rt, &rt, &plan, 3, b"", b"gdc: read fault --netlist\n")?;
     plan.words = b"flat\n--netlist\na.v\n--top\ntop\n--lib\nb.lib\n";
-    expects(&rt, alloc, &plan, 3, b"", b"gdc: read fault --lib\n")?;
+    expects(&rt, &rt, &plan, 3, b"", b"gdc: read fault --lib\n")?;
     Ok(())
 }
 
 #[test]
 fn a_cut_list_of_instances_is_a_write_fault(rt: HostRuntime) -> Result<(), Fail> {
-    let alloc = rt.alloc();
     let mut plan = Plan::flat(FLAT[0].0, LIBRARY);
     plan.most = 9;
     plan.failing_write = 2;
-    expects(&rt, alloc, &plan, 4, b"instance ", b"gdc: write fault\n")?;
+    expects(&rt, &rt, &plan, 4, b"instance ", b"gdc: write fault\n")?;
     Ok(())
 }

@@ -106,32 +106,29 @@ const REFUSED: [(&[u8], &[u8]); 5] = [
 
 #[test]
 fn each_edge_of_a_cell_has_its_line(rt: HostRuntime) -> Result<(), Fail> {
-    let alloc = rt.alloc();
     for row in &ROWS {
         let plan = Plan::lookup(row.0, LIBRARY);
-        expects(&rt, alloc, &plan, row.1, row.2, row.3)?;
+        expects(&rt, &rt, &plan, row.1, row.2, row.3)?;
     }
     Ok(())
 }
 
 #[test]
 fn a_library_or_a_cell_is_refused(rt: HostRuntime) -> Result<(), Fail> {
-    let alloc = rt.alloc();
     for row in &REFUSED {
         let plan = Plan::lookup(ROWS[0].0, row.0);
-        expects(&rt, alloc, &plan, 1, b"", row.1)?;
+        expects(&rt, &rt, &plan, 1, b"", row.1)?;
     }
     Ok(())
 }
 
 #[test]
 fn a_cut_list_of_arcs_is_a_write_fault(rt: HostRuntime) -> Result<(), Fail> {
-    let alloc = rt.alloc();
     let mut plan = Plan::lookup(ROWS[0].0, LIBRARY);
     plan.failing_write = 2;
-    expects(&rt, alloc, &plan, 4, b"A", b"gdc: write fault\n")?;
+    expects(&rt, &rt, &plan, 4, b"A", b"gdc: write fault\n")?;
     let mut plan = Plan::lookup(ROWS[0].0, LIBRARY);
     plan.failing_read = 2;
-    expects(&rt, alloc, &plan, 3, b"", b"gdc: read fault --lib\n")?;
+    expects(&rt, &rt, &plan, 3, b"", b"gdc: read fault --lib\n")?;
     Ok(())
 }

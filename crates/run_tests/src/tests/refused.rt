@@ -1,7 +1,6 @@
 //! Each refusal of a SPEF file once, with its line; the expected lines come from an independent calculator.
 use super::{Plan, cut_at, expects};
 use edge_io::{OutOfMemory, Text};
-use std::alloc::Global;
 use std::process::Abort;
 use std::test::Fail;
 
@@ -32,20 +31,24 @@ const REFUSED: &[u8] =
 *SPEF \"x\" *DESIGN \"t\" *C_UNIT 1 FF *R_UNIT 1 OHM *D_NET good 0 *CONN *I u1:Z O *I u2:A I *L 1 *END *D_NET bad 0 *CONN *I u2:A I *END *D_NET worse 0 *CONN *I a O *I b O *END|gdc: E60 no driver bad
 ";
 
-fn is_refused(rt: &impl Abort, alloc: Global, spef: &[u8], line: &[u8]) -> Result<(), OutOfMemory> {
-    let mut wanted = Text::from_bytes(alloc, line)?;
+fn is_refused(
+    rt: &HostRuntime,
+    abort: &impl Abort,
+    spef: &[u8],
+    line: &[u8],
+) -> Result<(), OutOfMemory> {
+    let mut wanted = Text::from_bytes(rt.alloc(), line)?;
     wanted.push_all(b"\n")?;
-    expects(rt, alloc, &Plan::wires(spef), 1, b"", wanted.bytes())
+    expects(rt, abort, &Plan::wires(spef), 1, b"", wanted.bytes())
 }
 
 #[test]
 fn each_refusal_has_its_line(rt: HostRuntime) -> Result<(), Fail> {
-    let alloc = rt.alloc();
     let mut rest = REFUSED;
     for _ in 0..23 {
         let (row, after) = cut_at(rest, b'\n');
         let (spef, line) = cut_at(row, b'|');
-        is_refused(&rt, alloc, spef, line)?;
+        is_refused(&rt, &rt, spef, line)?;
         rest = after;
     }
     assert!(rt; rest.is_empty());

@@ -40,27 +40,26 @@ fn body_of(alloc: Global, rows: &[u8]) -> Result<Text, OutOfMemory> {
 }
 
 fn writes_rows(
-    rt: &impl Abort,
-    alloc: Global,
+    rt: &HostRuntime,
+    abort: &impl Abort,
     spef: &[u8],
     rows: &[u8],
 ) -> Result<(), OutOfMemory> {
-    let body = body_of(alloc, rows)?;
-    expects_sdf(rt, alloc, &Plan::wires(spef), body.bytes())
+    let body = body_of(rt.alloc(), rows)?;
+    expects_sdf(rt, abort, &Plan::wires(spef), body.bytes())
 }
 
 #[test]
 fn each_net_gives_its_rows(rt: HostRuntime) -> Result<(), Fail> {
-    let alloc = rt.alloc();
     let mut rest = NETS;
     for _ in 0..9 {
         let (case, after) = cut_at(rest, b'\n');
         let (spef, rows) = cut_at(case, b'|');
-        writes_rows(&rt, alloc, spef, rows)?;
+        writes_rows(&rt, &rt, spef, rows)?;
         rest = after;
     }
     assert!(rt; rest.is_empty());
-    expects_sdf(&rt, alloc, &Plan::wires(NO_NET), b")\n)\n")?;
+    expects_sdf(&rt, &rt, &Plan::wires(NO_NET), b")\n)\n")?;
     Ok(())
 }
 
@@ -73,20 +72,19 @@ fn the_member_that_is_asked_for_counts(rt: HostRuntime) -> Result<(), Fail> {
     let alloc = rt.alloc();
     let least = Plan::of(b"wires\n--triple\nmin\n--spef\na.spef\n", TRIPLE);
     let body = body_of(alloc, b"(INTERCONNECT d s (0.100))|")?;
-    expects_sdf(&rt, alloc, &least, body.bytes())?;
+    expects_sdf(&rt, &rt, &least, body.bytes())?;
     let most = Plan::of(b"wires\n--spef\na.spef\n--triple\nmax\n", TRIPLE);
     let body = body_of(alloc, b"(INTERCONNECT d s (0.300))|")?;
-    expects_sdf(&rt, alloc, &most, body.bytes())?;
+    expects_sdf(&rt, &rt, &most, body.bytes())?;
     Ok(())
 }
 
 #[test]
 fn a_cut_text_is_a_write_fault(rt: HostRuntime) -> Result<(), Fail> {
-    let alloc = rt.alloc();
     let mut plan = Plan::wires(TRIPLE);
     plan.most = 64;
     plan.failing_write = 2;
-    let tried = try_plan(alloc, &plan)?;
+    let tried = try_plan(&rt, &plan)?;
     assert_eq!(rt; tried.status, 4);
     assert_eq!(rt; tried.err.written(), b"gdc: write fault\n".as_slice());
     assert_eq!(rt;

@@ -18,52 +18,48 @@ fn shown(sdf: &[u8]) -> Plan<'_> {
 
 #[test]
 fn rows_are_shown_with_their_summary(rt: HostRuntime) -> Result<(), Fail> {
-    let alloc = rt.alloc();
     let lines = b"wire d s1 3.500\nwire d s2 2.300\nwires 2 paths 0 sum 5.800 largest 3.500\n";
-    expects(&rt, alloc, &shown(WIRES), 0, lines, b"")?;
+    expects(&rt, &rt, &shown(WIRES), 0, lines, b"")?;
     let lines =
         b"path a/b A Z 1000.000:2000.000:3000.000 -\nwires 0 paths 1 sum 2000.000 largest 3000.000\n";
-    expects(&rt, alloc, &shown(PATH), 0, lines, b"")?;
+    expects(&rt, &rt, &shown(PATH), 0, lines, b"")?;
     let lines = b"wires 0 paths 0 sum 0.000 largest -\n";
-    expects(&rt, alloc, &shown(b"(DELAYFILE)"), 0, lines, b"")?;
+    expects(&rt, &rt, &shown(b"(DELAYFILE)"), 0, lines, b"")?;
     Ok(())
 }
 
 #[test]
 fn what_is_no_sdf_is_refused_at_its_token(rt: HostRuntime) -> Result<(), Fail> {
-    let alloc = rt.alloc();
     let line = b"gdc: E62 sdf syntax token 4\n";
-    expects(&rt, alloc, &shown(b"(DELAYFILE) x"), 1, b"", line)?;
+    expects(&rt, &rt, &shown(b"(DELAYFILE) x"), 1, b"", line)?;
     let line = b"gdc: E62 sdf syntax token 5\n";
     expects(
         &rt,
-        alloc,
+        &rt,
         &shown(b"(DELAYFILE (TIMESCALE 5ps))"),
         1,
         b"",
         line,
     )?;
     let line = b"gdc: E62 sdf syntax token 1\n";
-    expects(&rt, alloc, &shown(b""), 1, b"", line)?;
+    expects(&rt, &rt, &shown(b""), 1, b"", line)?;
     Ok(())
 }
 
 #[test]
 fn help_and_the_version_are_written(rt: HostRuntime) -> Result<(), Fail> {
-    let alloc = rt.alloc();
     let plan = Plan::of(b"--help\n", b"");
-    expects(&rt, alloc, &plan, 0, help_text(), b"")?;
+    expects(&rt, &rt, &plan, 0, help_text(), b"")?;
     let plan = Plan::of(b"--version\n", b"");
-    expects(&rt, alloc, &plan, 0, b"gdc 1\n", b"")?;
+    expects(&rt, &rt, &plan, 0, b"gdc 1\n", b"")?;
     Ok(())
 }
 
 #[test]
 fn a_cut_listing_is_a_write_fault(rt: HostRuntime) -> Result<(), Fail> {
-    let alloc = rt.alloc();
     let mut plan = shown(WIRES);
     plan.failing_write = 2;
     let rows = b"wire d s1 3.500\nwire d s2 2.300\n";
-    expects(&rt, alloc, &plan, 4, rows, b"gdc: write fault\n")?;
+    expects(&rt, &rt, &plan, 4, rows, b"gdc: write fault\n")?;
     Ok(())
 }

@@ -678,8 +678,8 @@ fn a_block_gets_its_delays(rt: HostRuntime) -> Result<(), Fail> {
         library: LIBRARY,
         ..Plan::of(WORDS, SPEF)
     };
-    expects(&rt, rt.alloc(), &calc, 0, DELAYS, b"")?;
+    expects(&rt, &rt, &calc, 0, DELAYS, b"")?;
     let show = Plan::of(b"show\n--sdf\na.sdf\n", DELAYS);
-    expects(&rt, rt.alloc(), &show, 0, ROWS, b"")?;
+    expects(&rt, &rt, &show, 0, ROWS, b"")?;
     Ok(())
 }

@@ -64,7 +64,6 @@ const SPEF: &[u8] = b"*SPEF \"IEEE 1481-1998\"
 // The files give what the same ones without these items give: the first of the rows of `calc`.
 #[test]
 fn files_as_tools_write_them(rt: HostRuntime) -> Result<(), Fail> {
-    let alloc = rt.alloc();
     let (words, netlist, _, first) = WRITTEN[0];
     let rows: [(&[u8], &[u8], &[u8], &[u8]); 2] = [
         (netlist, SPEF, LIBRARY, first),
@@ -77,14 +76,13 @@ fn files_as_tools_write_them(rt: HostRuntime) -> Result<(), Fail> {
     ];
     for (netlist, spef, library, body) in rows {
         let plan = Plan::calc(words, netlist, spef, library);
-        expects_sdf(&rt, alloc, &plan, body)?;
+        expects_sdf(&rt, &rt, &plan, body)?;
     }
     Ok(())
 }
 
 #[test]
 fn faults_of_the_words_come_in_their_order(rt: HostRuntime) -> Result<(), Fail> {
-    let alloc = rt.alloc();
     let rows: [(&[u8], &[u8]); 3] = [
         (
             b"calc\n--netlist\nn.v\n--nets\n3\n",
@@ -97,7 +95,7 @@ fn faults_of_the_words_come_in_their_order(rt: HostRuntime) -> Result<(), Fail> 
         (b"lookup\n--slew\n1000000\n", b"gdc: usage: missing --lib\n"),
     ];
     for (words, line) in rows {
-        expects(&rt, alloc, &Plan::of(words, b""), 2, b"", line)?;
+        expects(&rt, &rt, &Plan::of(words, b""), 2, b"", line)?;
     }
     Ok(())
 }

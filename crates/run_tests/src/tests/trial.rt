@@ -5,17 +5,16 @@ use std::test::Fail;
 
 #[test]
 fn a_chain_and_a_block_are_summed(rt: HostRuntime) -> Result<(), Fail> {
-    let alloc = rt.alloc();
     let none = b"".as_slice();
     let mut plan = Plan::of(b"trial\n--shape\nchain\n--size\n1\n", b"");
     // No call of the shelf is made, so none fails.
     plan.failing_read = 1;
     let line = b"wires 3 paths 2 sum 44.002 largest 12.000\n";
-    expects(&rt, alloc, &plan, 0, line, none)?;
+    expects(&rt, &rt, &plan, 0, line, none)?;
     let plan = Plan::of(b"trial\n--size\n5\n--shape\nblock\n", b"");
     let line = b"wires 6 paths 5 sum 111.700 largest 12.000\n";
-    expects(&rt, alloc, &plan, 0, line, none)?;
+    expects(&rt, &rt, &plan, 0, line, none)?;
     let plan = Plan::of(b"trial\n--size\n5\n", b"");
-    expects(&rt, alloc, &plan, 2, none, b"gdc: usage: missing --shape\n")?;
+    expects(&rt, &rt, &plan, 2, none, b"gdc: usage: missing --shape\n")?;
     Ok(())
 }

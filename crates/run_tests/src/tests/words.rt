@@ -4,12 +4,11 @@ use std::test::Fail;
 
 #[test]
 fn each_fault_of_the_words_has_its_line(rt: HostRuntime) -> Result<(), Fail> {
-    let alloc = rt.alloc();
     let none = b"".as_slice();
     let plan = Plan::of(b"", b"");
     expects(
         &rt,
-        alloc,
+        &rt,
         &plan,
         2,
         none,
@@ -18,7 +17,7 @@ fn each_fault_of_the_words_has_its_line(rt: HostRuntime) -> Result<(), Fail> {
     let plan = Plan::of(b"wire\n", b"");
     expects(
         &rt,
-        alloc,
+        &rt,
         &plan,
         2,
         none,
@@ -27,7 +26,7 @@ fn each_fault_of_the_words_has_its_line(rt: HostRuntime) -> Result<(), Fail> {
     let plan = Plan::of(b"wires\n--spec\n", b"");
     expects(
         &rt,
-        alloc,
+        &rt,
         &plan,
         2,
         none,
@@ -36,7 +35,7 @@ fn each_fault_of_the_words_has_its_line(rt: HostRuntime) -> Result<(), Fail> {
     let plan = Plan::of(b"wires\n--spef\n--spef\n--spef\nb\n", b"");
     expects(
         &rt,
-        alloc,
+        &rt,
         &plan,
         2,
         none,
@@ -45,7 +44,7 @@ fn each_fault_of_the_words_has_its_line(rt: HostRuntime) -> Result<(), Fail> {
     let plan = Plan::of(b"wires\n--spef\n", b"");
     expects(
         &rt,
-        alloc,
+        &rt,
         &plan,
         2,
         none,
@@ -54,7 +53,7 @@ fn each_fault_of_the_words_has_its_line(rt: HostRuntime) -> Result<(), Fail> {
     let plan = Plan::of(b"wires\n--spef\n\n", b"");
     expects(
         &rt,
-        alloc,
+        &rt,
         &plan,
         2,
         none,
@@ -63,29 +62,28 @@ fn each_fault_of_the_words_has_its_line(rt: HostRuntime) -> Result<(), Fail> {
     let plan = Plan::of(b"wires\n--triple\nmid\n", b"");
     expects(
         &rt,
-        alloc,
+        &rt,
         &plan,
         2,
         none,
         b"gdc: usage at word 3: bad value\n",
     )?;
     let plan = Plan::of(b"wires\n--triple\nmin\n", b"");
-    expects(&rt, alloc, &plan, 2, none, b"gdc: usage: missing --spef\n")?;
+    expects(&rt, &rt, &plan, 2, none, b"gdc: usage: missing --spef\n")?;
     let plan = Plan::of(b"show\n", b"");
-    expects(&rt, alloc, &plan, 2, none, b"gdc: usage: missing --sdf\n")?;
+    expects(&rt, &rt, &plan, 2, none, b"gdc: usage: missing --sdf\n")?;
     Ok(())
 }
 
 #[test]
 fn faults_of_the_outside_have_their_lines(rt: HostRuntime) -> Result<(), Fail> {
-    let alloc = rt.alloc();
     let none = b"".as_slice();
     let plan = Plan::of(b"wires\n--spef\nb.spef\n", b"");
-    expects(&rt, alloc, &plan, 3, none, b"gdc: read fault --spef\n")?;
+    expects(&rt, &rt, &plan, 3, none, b"gdc: read fault --spef\n")?;
     let plan = Plan::of(b"show\n--sdf\nb.sdf\n", b"");
-    expects(&rt, alloc, &plan, 3, none, b"gdc: read fault --sdf\n")?;
+    expects(&rt, &rt, &plan, 3, none, b"gdc: read fault --sdf\n")?;
     let mut plan = Plan::wires(b"*SPEF \"x\"");
     plan.failing_read = 2;
-    expects(&rt, alloc, &plan, 3, none, b"gdc: read fault --spef\n")?;
+    expects(&rt, &rt, &plan, 3, none, b"gdc: read fault --spef\n")?;
     Ok(())
 }

@@ -8,7 +8,6 @@ use cell_models::ArcKind;
 use edge_io::{OutOfMemory, Steps};
 use graph_order::OrderEnd;
 use slew_states::{Driver, EdgeStates, FlatArc, PinState, order_nets, settle};
-use std::alloc::Global;
 use std::marker::Brand;
 use std::sync::ledger::{Blank, Ledger};
 use std::test::Fail;
@@ -51,7 +50,7 @@ fn are_in(arcs: &[FlatArc], nets: usize) -> bool
 
 /// The states of a netlist at a slew of 20 at its ports, with a counter of its own.
 fn states_by<L: Ledger>(
-    alloc: Global,
+    rt: &HostRuntime,
     halves: Halves,
     arcs: &[FlatArc],
     drivers: &[Driver],
@@ -65,26 +64,26 @@ fn states_by<L: Ledger>(
     if !are_in(arcs, drivers.len()) {
         return Err(OutOfMemory);
     }
-    let mut steps = Steps::<L>::new(blank);
-    let order = match order_nets(alloc, drivers.len(), arcs) {
+    let mut steps = Steps::<L>::new(rt, blank);
+    let order = match order_nets(rt.alloc(), drivers.len(), arcs) {
         Ok(order) => order,
         Err(OrderEnd::Cycle(cycle)) => return Ok(Err(cycle)),
         Err(OrderEnd::OutOfMemory) => return Err(OutOfMemory),
     };
-    let states = settle(alloc, &halves, arcs, drivers, 20, &order, &mut steps)?;
+    let states = settle(rt.alloc(), &halves, arcs, drivers, 20, &order, &mut steps)?;
     Ok(Ok(states))
 }
 
 /// The states of a netlist at a slew of 20 at its ports.
 fn states_of(
-    alloc: Global,
+    rt: &HostRuntime,
     halves: Halves,
     arcs: &[FlatArc],
     drivers: &[Driver],
 ) -> Result<Answer, OutOfMemory>
     requires { length drivers.now < 2 ^ 63 }
 {
-    states_by::<Brand>(alloc, halves, arcs, drivers, Blank::new(1))
+    states_by::<Brand>(rt, halves, arcs, drivers, Blank::new(1))
 }
 
 /// What stands for a state without a slew.
@@ -137,7 +136,7 @@ fn kinds_take_their_input_edges(rt: HostRuntime) -> Result<(), Fail> {
             arc(Some(0), Some(1), ArcKind::Positive),
             arc(Some(1), Some(2), kind),
         ];
-        let answer = states_of(rt.alloc(), PLAIN, &arcs, &drivers)?;
+        let answer = states_of(&rt, PLAIN, &arcs, &drivers)?;
         let states = answer.ok().ok_or("states")?;
         assert!(rt; are(&states, &[(20, 20), (20, 30), want]));
     }
@@ -165,7 +164,7 @@ fn the_largest_of_all_arcs_counts(rt: HostRuntime) -> Result<(), Fail> {
         only_rise,
         arc(Some(0), Some(1), ArcKind::Positive),
     ];
-    let answer = states_of(rt.alloc(), PLAIN, &arcs, &drivers)?;
+    let answer = states_of(&rt, PLAIN, &arcs, &drivers)?;
     let states = answer.ok().ok_or("states")?;
     let wants = [(20, 20), (20, 30), (20, 35), (ABSENT, ABSENT), (20, ABSENT)];
     assert!(rt; are(&states, &wants));
@@ -187,7 +186,7 @@ fn what_is_refused_is_stuck(rt: HostRuntime) -> Result<(), Fail> {
         // A wire past the limit leaves a pin stuck.
         (1000, 999_999_999_990, (STUCK, STUCK), (STUCK, STUCK)),
     ] {
-        let answer = states_of(rt.alloc(), Halves { limit, wire }, &arcs, &drivers)?;
+        let answer = states_of(&rt, Halves { limit, wire }, &arcs, &drivers)?;
         let states = answer.ok().ok_or("states")?;
         assert!(rt; are(&states, &[(20, 20), second, third]));
     }
@@ -203,7 +202,7 @@ fn a_loop_of_arcs_is_found(rt: HostRuntime) -> Result<(), Fail> {
         arc(Some(2), Some(1), ArcKind::Negative),
         arc(Some(1), Some(2), ArcKind::Negative),
     ];
-    let found = states_of(rt.alloc(), PLAIN, &latch, &drivers)?
+    let found = states_of(&rt, PLAIN, &latch, &drivers)?
         .err()
         .ok_or("a loop")?;
     assert!(rt; found.as_slice() == [2, 1].as_slice());
@@ -212,6 +211,6 @@ fn a_loop_of_arcs_is_found(rt: HostRuntime) -> Result<(), Fail> {
         arc(Some(0), Some(1), ArcKind::RisingEdge),
         arc(Some(1), Some(2), ArcKind::Negative),
     ];
-    assert!(rt; states_of(rt.alloc(), PLAIN, &flip_flop, &drivers)?.is_ok());
+    assert!(rt; states_of(&rt, PLAIN, &flip_flop, &drivers)?.is_ok());
     Ok(())
 }

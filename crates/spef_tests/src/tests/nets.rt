@@ -62,12 +62,12 @@ const READ: [Read; 4] = [
 ];
 
 /// Whether a net has the elements of a row.
-fn has_elements<L: Ledger>(net: &Net<Single>, row: &Read, blank: Blank) -> bool
+fn has_elements<L: Ledger>(rt: &HostRuntime, net: &Net<Single>, row: &Read, blank: Blank) -> bool
     requires name { blank.name ≡ L.name }
     requires parts { blank.parts ≡ L.parts }
     requires some_part { 0 < blank.parts }
 {
-    let mut steps = Steps::<L>::new(blank);
+    let mut steps = Steps::<L>::new(rt, blank);
     if net.conn_count() != 1 || net.cap_count() != 2 || net.res_count() != 1 {
         return false;
     }
@@ -93,14 +93,15 @@ fn begins_with(alloc: Global, net: &Net<Single>, first: &[u8]) -> bool {
     name.sdf.bytes() == first && sdf.bytes() == first
 }
 
-fn is_as(alloc: Global, net: &Net<Single>, row: &Read) -> bool {
-    begins_with(alloc, net, row.first) && has_elements::<Brand>(net, row, Blank::new(1))
+fn is_as(rt: &HostRuntime, net: &Net<Single>, row: &Read) -> bool {
+    begins_with(rt.alloc(), net, row.first) && has_elements::<Brand>(rt, net, row, Blank::new(1))
 }
 
 /// Whether the last net of a row's file is as the row says.
-fn is_read(alloc: Global, row: &Read) -> bool
+fn is_read(rt: &HostRuntime, row: &Read) -> bool
     requires { length row.now.bytes.now < 2 ^ 30 }
 {
+    let alloc = rt.alloc();
     let Ok(file) = parse(alloc, row.bytes) else {
         return false;
     };
@@ -111,14 +112,14 @@ fn is_read(alloc: Global, row: &Read) -> bool
         return false;
     };
     let count = sections.len();
-    count > 0 && is_as(alloc, &sections.get(count - 1), row)
+    count > 0 && is_as(rt, &sections.get(count - 1), row)
 }
 
 #[test]
 fn nets_are_read(rt: HostRuntime) -> Result<(), Fail> {
     for row in &READ {
         assert!(rt; row.bytes.len() < 1 << 20);
-        assert!(rt; is_read(rt.alloc(), row));
+        assert!(rt; is_read(&rt, row));
     }
     Ok(())
 }

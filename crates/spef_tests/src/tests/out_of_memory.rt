@@ -37,7 +37,7 @@ fn delays<L: Ledger>(alloc: Global, tree: &RcTree<Single>, steps: &mut Steps<L>)
 }
 
 /// The delays of a net, of which the first connection drives.
-fn end_of_net<L: Ledger>(alloc: Global, net: &Net<Single>, blank: Blank) -> End
+fn end_of_net<L: Ledger>(rt: &HostRuntime, net: &Net<Single>, blank: Blank) -> End
     requires name { blank.name ≡ L.name }
     requires parts { blank.parts ≡ L.parts }
     requires some_part { 0 < blank.parts }
@@ -45,11 +45,12 @@ fn end_of_net<L: Ledger>(alloc: Global, net: &Net<Single>, blank: Blank) -> End
     if net.conn_count() == 0 {
         return End::Refused;
     }
+    let alloc = rt.alloc();
     let Ok(mut tree) = RcTree::<Single>::new(alloc) else {
         return End::OutOfMemory;
     };
     let mut workspace = Workspace::new(alloc);
-    let mut steps = Steps::<L>::new(blank);
+    let mut steps = Steps::<L>::new(rt, blank);
     let pins = ListedPins { driver: 0 };
     match tree.rebuild(alloc, &mut workspace, net, &pins, &mut steps) {
         Ok(()) => delays(alloc, &tree, &mut steps),
@@ -59,7 +60,8 @@ fn end_of_net<L: Ledger>(alloc: Global, net: &Net<Single>, blank: Blank) -> End
 }
 
 /// The delays of the first net of a file.
-fn end_of_file(alloc: Global, file: &SpefFile) -> End {
+fn end_of_file(rt: &HostRuntime, file: &SpefFile) -> End {
+    let alloc = rt.alloc();
     let head = match read_head(alloc, file) {
         Ok(head) => head,
         Err(HeadEnd::OutOfMemory) => return End::OutOfMemory,
@@ -73,16 +75,16 @@ fn end_of_file(alloc: Global, file: &SpefFile) -> End {
     if sections.len() == 0 {
         return End::Refused;
     }
-    end_of_net::<Brand>(alloc, &sections.get(0), Blank::new(1))
+    end_of_net::<Brand>(rt, &sections.get(0), Blank::new(1))
 }
 
 /// The delays of the first net of a text.
-fn end_of(alloc: Global, bytes: &[u8]) -> End {
+fn end_of(rt: &HostRuntime, bytes: &[u8]) -> End {
     if bytes.len() >= 1 << 30 {
         return End::Refused;
     }
-    match parse(alloc, bytes) {
-        Ok(file) => end_of_file(alloc, &file),
+    match parse(rt.alloc(), bytes) {
+        Ok(file) => end_of_file(rt, &file),
         Err(SpefEnd::OutOfMemory) => End::OutOfMemory,
         Err(_) => End::Refused,
     }
@@ -114,7 +116,7 @@ const WORKED: [(&[u8], (u128, u128, u64)); 2] = [
 #[test]
 fn worked_nets_or_no_memory(rt: HostRuntime) -> Result<(), Fail> {
     for (bytes, wanted) in &WORKED {
-        assert!(rt; may_be(end_of(rt.alloc(), bytes), *wanted));
+        assert!(rt; may_be(end_of(&rt, bytes), *wanted));
     }
     Ok(())
 }

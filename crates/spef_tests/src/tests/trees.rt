@@ -129,22 +129,24 @@ fn has_delays<L: Ledger>(alloc: Global, tree: &RcTree<Triple>, steps: &mut Steps
     true
 }
 
-fn are_right<L: Ledger>(alloc: Global, sections: &Sections<Triple>, blank: Blank) -> bool
+fn are_right<L: Ledger>(rt: &HostRuntime, sections: &Sections<Triple>, blank: Blank) -> bool
     requires name { blank.name ≡ L.name }
     requires parts { blank.parts ≡ L.parts }
     requires some_part { 0 < blank.parts }
 {
+    let alloc = rt.alloc();
     let Some(pins) = pins(alloc) else {
         return false;
     };
     let Ok(mut tree) = RcTree::<Triple>::new(alloc) else {
         return false;
     };
-    let mut steps = Steps::<L>::new(blank);
+    let mut steps = Steps::<L>::new(rt, blank);
     end_so(alloc, sections, &pins, &mut tree, &mut steps) && has_delays(alloc, &tree, &mut steps)
 }
 
-fn nets_are_right(alloc: Global) -> bool {
+fn nets_are_right(rt: &HostRuntime) -> bool {
+    let alloc = rt.alloc();
     let Ok(file) = parse(alloc, NETS) else {
         return false;
     };
@@ -152,14 +154,14 @@ fn nets_are_right(alloc: Global) -> bool {
         return false;
     };
     match read_sections::<Triple>(alloc, &file, &head, Pick::Typ) {
-        Ok(sections) => are_right::<Brand>(alloc, &sections, Blank::new(1)),
+        Ok(sections) => are_right::<Brand>(rt, &sections, Blank::new(1)),
         Err(_) => false,
     }
 }
 
 #[test]
 fn one_tree_serves_net_after_net(rt: HostRuntime) -> Result<(), Fail> {
-    assert!(rt; nets_are_right(rt.alloc()));
+    assert!(rt; nets_are_right(&rt));
     assert!(rt; sink_femto(2_299_500_000_000_000).0 == 2_300);
     Ok(())
 }
