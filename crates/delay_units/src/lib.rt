@@ -5,6 +5,7 @@
 
 mod amounts;
 mod fronts;
+mod laws;
 mod literal;
 mod numbers;
 mod printing;
@@ -18,6 +19,7 @@ mod tally;
 
 pub use amounts::{Amount, read_amount, read_leading_amount};
 pub use fronts::{behind_literal, is_literal};
+pub use laws::literals;
 pub use literal::{read_decimal, strip};
 pub use numbers::{Decimal, NumberFault, Unit};
 pub use printing::{Text32, write_atto, write_femto};
