@@ -3,8 +3,8 @@ use Rattle.std.proofs.Common.{◌≡◌, ℕ, zero, suc, ◌<◌, Bool, true, fa
 use Rattle.std.specs.Prelude.{⊤}
 use Rattle.std.proofs.lemmas.Bool.{ltb-true}
 use Rattle.token_fronts.specs.Accepting.{Accepts, ended, taken}
-use Rattle.verilog_netlist.specs.Grammar.{Tok, Is, added, Listed, one, and_one, Many, none, more, Maybe, left_out, there, IsName, name, IsDirection, input, output, MaybeWire, no_wire, wire, range, MaybeRange, no_range, with_range, declared, IsAnsi, ansi, names, directions, IsPorts, ports, IsExpr, whole, bit, part, constant, in_braces, AreExprs, one_expr, and_expr, IsConnection, connection, IsInstance, instance, IsItem, directed, wires, instances, IsModule, is_module, IsNetlist}
-use Rattle.verilog_netlist.specs.Steps.{Go, Refuse, modules_step, module_name_step, module_head_step, header_start_step, header_name_step, header_more_step, header_end_step, items_step, after_wire_step, after_way_step, range_left_step, range_colon_step, range_right_step, range_end_step, declared_name_step, header_declared_step, item_declared_step, next_port_step, instance_name_step, instance_open_step, first_connection_step, next_connection_step, port_name_step, port_open_step, place_at, operand_step, joined_step, behind_expr, saying, name_end_step, select_left_step, select_next_step, select_right_step, select_end_step, connection_end_step, instance_end_step}
+use Rattle.verilog_netlist.specs.Grammar.{Tok, Is, range_from, added, Listed, one, and_one, Many, none, more, Maybe, left_out, there, IsName, name, IsDirection, input, output, MaybeWire, no_wire, wire, range, MaybeRange, no_range, with_range, declared, IsAnsi, ansi, names, directions, IsPorts, ports, IsExpr, whole, bit, part, constant, in_braces, AreExprs, one_expr, and_expr, IsConnection, connection, IsInstance, instance, IsItem, directed, wires, instances, IsModule, is_module, IsNetlist}
+use Rattle.verilog_netlist.specs.Steps.{Go, Refuse, bound_at, modules_step, module_name_step, module_head_step, header_start_step, header_name_step, header_more_step, header_end_step, items_step, after_wire_step, after_way_step, range_left_step, range_colon_step, range_right_step, range_end_step, declared_name_step, header_declared_step, item_declared_step, next_port_step, instance_name_step, instance_open_step, first_connection_step, next_connection_step, port_name_step, port_open_step, place_at, operand_step, joined_step, behind_expr, saying, name_end_step, select_left_step, select_next_step, select_right_step, select_end_step, connection_end_step, instance_end_step}
 use Rattle.verilog_netlist.specs.Modes.{State, first_state, state_after, next, finish}
 use Rattle.token_texts.specs.declared.spans.Span.{Span}
 use Rattle.verilog_netlist.specs.declared.kinds.Kind.{Kind}
@@ -183,14 +183,14 @@ data Meant : State → List Tok → List Tok → Type 0 where
       → Worded by entries from (begin ∷ here) → Is kind.LeftBracket begin → Meant (at (RangeLeft by) entries) from here
   at_colon : {by : Decl} {left : ℕ} {begin first : Tok} {from here : List Tok} {entries : List Entry}
       → Worded by entries from (begin ∷ first ∷ here) → Is kind.LeftBracket begin → Is (kind.Number left) first
-      → Meant (at (RangeColon by left) entries) from here
+      → Meant (at (RangeColon by (bound_at left first.text.at)) entries) from here
   at_right : {by : Decl} {left : ℕ} {begin first colon : Tok} {from here : List Tok} {entries : List Entry}
       → Worded by entries from (begin ∷ first ∷ colon ∷ here) → Is kind.LeftBracket begin → Is (kind.Number left) first → Is kind.Colon colon
-      → Meant (at (RangeRight by left) entries) from here
+      → Meant (at (RangeRight by (bound_at left first.text.at)) entries) from here
   at_range_end : {by : Decl} {left right : ℕ} {begin first colon second : Tok} {from here : List Tok} {entries : List Entry}
       → Worded by entries from (begin ∷ first ∷ colon ∷ second ∷ here)
       → Is kind.LeftBracket begin → Is (kind.Number left) first → Is kind.Colon colon → Is (kind.Number right) second
-      → Meant (at (RangeEnd by (record { left = left; right = right })) entries) from here
+      → Meant (at (RangeEnd by (range_from left first right second)) entries) from here
   at_declared_name : {by : Decl} {bounds : Option Range} {from here : List Tok} {entries : List Entry}
       → NameDue by bounds entries from here → Meant (at (DeclaredName by bounds) entries) from here
   at_declared : {by : Decl} {bounds : Option Range} {from here : List Tok} {entries : List Entry}
@@ -215,14 +215,14 @@ data Meant : State → List Tok → List Tok → Type 0 where
       → Meant (at (SelectLeft (place_at cell depth) id.text.at) entries) from here
   at_select_next : {cell : Span} {depth left : ℕ} {id begin first : Tok} {from here : List Tok} {entries : List Entry}
       → ExprDue cell depth entries from (id ∷ begin ∷ first ∷ here) → Is kind.Name id → Is kind.LeftBracket begin → Is (kind.Number left) first
-      → Meant (at (SelectNext (place_at cell depth) id.text.at left) entries) from here
+      → Meant (at (SelectNext (place_at cell depth) id.text.at (bound_at left first.text.at)) entries) from here
   at_select_right : {cell : Span} {depth left : ℕ} {id begin first colon : Tok} {from here : List Tok} {entries : List Entry}
       → ExprDue cell depth entries from (id ∷ begin ∷ first ∷ colon ∷ here) → Is kind.Name id → Is kind.LeftBracket begin → Is (kind.Number left) first → Is kind.Colon colon
-      → Meant (at (SelectRight (place_at cell depth) id.text.at left) entries) from here
+      → Meant (at (SelectRight (place_at cell depth) id.text.at (bound_at left first.text.at)) entries) from here
   at_select_end : {cell : Span} {depth left right : ℕ} {id begin first colon second : Tok} {from here : List Tok} {entries : List Entry}
       → ExprDue cell depth entries from (id ∷ begin ∷ first ∷ colon ∷ second ∷ here)
       → Is kind.Name id → Is kind.LeftBracket begin → Is (kind.Number left) first → Is kind.Colon colon → Is (kind.Number right) second
-      → Meant (at (SelectEnd (place_at cell depth) id.text.at (record { left = left; right = right })) entries) from here
+      → Meant (at (SelectEnd (place_at cell depth) id.text.at (range_from left first right second)) entries) from here
   at_operand_end : {cell : Span} {depth : ℕ} {from here : List Tok} {entries : List Entry}
       → ExprEnded cell depth entries from here → Meant (at (OperandEnd (place_at cell depth)) entries) from here
   at_connection_end : {cell : Span} {from here : List Tok} {entries : List Entry} → HasConnections cell entries from here → Meant (at (ConnectionEnd cell) entries) from here
@@ -351,25 +351,25 @@ module _ {from here : List Tok} {token : Tok} {entries : List Entry} {after : St
   in_way {by} kind.Wire is d e = becomes (at (AfterWire by) entries) e (at_wire (by_way d (wire is)))
   in_way k is d e = in_wire k is (by_way d no_wire) e
 
-  in_left : {by : Decl} {begin : Tok} (k : Kind) → Is k token → Worded by entries from (begin ∷ token ∷ here) → Is kind.LeftBracket begin → state_after (range_left_step k by) entries ≡ Ok after → Meant after from here
-  in_left {by} (kind.Number left) is w b e = becomes (at (RangeColon by left) entries) e (at_colon w b is)
+  in_left : {by : Decl} {begin : Tok} (k : Kind) → Is k token → Worded by entries from (begin ∷ token ∷ here) → Is kind.LeftBracket begin → state_after (range_left_step k token.text.at by) entries ≡ Ok after → Meant after from here
+  in_left {by} (kind.Number left) is w b e = becomes (at (RangeColon by (bound_at left token.text.at)) entries) e (at_colon w b is)
   in_left _ is w b e = never e
 
   in_colon : {by : Decl} {left : ℕ} {begin first : Tok} (k : Kind) → Is k token → Worded by entries from (begin ∷ first ∷ token ∷ here) → Is kind.LeftBracket begin → Is (kind.Number left) first
-      → state_after (range_colon_step k by left) entries ≡ Ok after → Meant after from here
-  in_colon {by} {left} kind.Colon is w b f e = becomes (at (RangeRight by left) entries) e (at_right w b f is)
+      → state_after (range_colon_step k by (bound_at left first.text.at)) entries ≡ Ok after → Meant after from here
+  in_colon {by} {left} {first = first} kind.Colon is w b f e = becomes (at (RangeRight by (bound_at left first.text.at)) entries) e (at_right w b f is)
   in_colon _ is w b f e = never e
 
   in_right : {by : Decl} {left : ℕ} {begin first colon : Tok} (k : Kind) → Is k token → Worded by entries from (begin ∷ first ∷ colon ∷ token ∷ here) → Is kind.LeftBracket begin → Is (kind.Number left) first → Is kind.Colon colon
-      → state_after (range_right_step k by left) entries ≡ Ok after → Meant after from here
-  in_right {by} {left} (kind.Number right) is w b f c e = becomes (at (RangeEnd by (record { left = left; right = right })) entries) e (at_range_end w b f c is)
+      → state_after (range_right_step k token.text.at by (bound_at left first.text.at)) entries ≡ Ok after → Meant after from here
+  in_right {by} {left} {first = first} (kind.Number right) is w b f c e = becomes (at (RangeEnd by (range_from left first right token)) entries) e (at_range_end w b f c is)
   in_right _ is w b f c e = never e
 
   in_range_end : {by : Decl} {left right : ℕ} {begin first colon second : Tok} (k : Kind) → Is k token → Worded by entries from (begin ∷ first ∷ colon ∷ second ∷ token ∷ here)
       → Is kind.LeftBracket begin → Is (kind.Number left) first → Is kind.Colon colon → Is (kind.Number right) second
-      → state_after (range_end_step k by (record { left = left; right = right })) entries ≡ Ok after → Meant after from here
-  in_range_end {by} {left} {right} kind.RightBracket is w b f c s e =
-      becomes (at (DeclaredName by (Some (record { left = left; right = right }))) entries) e (at_declared_name (first_due w (with_range (range b f c s is))))
+      → state_after (range_end_step k by (range_from left first right second)) entries ≡ Ok after → Meant after from here
+  in_range_end {by} {left} {right} {first = first} {second = second} kind.RightBracket is w b f c s e =
+      becomes (at (DeclaredName by (Some (range_from left first right second))) entries) e (at_declared_name (first_due w (with_range (range b f c s is))))
   in_range_end _ is w b f c s e = never e
 
   in_declared_name : {by : Decl} {bounds : Option Range} (k : Kind) → Is k token → NameDue by bounds entries from (token ∷ here) → state_after (declared_name_step k token.text.at by bounds) entries ≡ Ok after → Meant after from here
@@ -448,29 +448,29 @@ module _ {from here : List Tok} {token : Tok} {entries : List Entry} {after : St
   behind_expr_is (suc depth) _ is x e = never e
 
   in_select : {cell : Span} {depth : ℕ} {id begin : Tok} (k : Kind) → Is k token → ExprDue cell depth entries from (id ∷ begin ∷ token ∷ here) → Is kind.Name id → Is kind.LeftBracket begin
-      → state_after (select_left_step k (place_at cell depth) id.text.at) entries ≡ Ok after → Meant after from here
-  in_select {cell} {depth} {id} (kind.Number left) is due n b e = becomes (at (SelectNext (place_at cell depth) id.text.at left) entries) e (at_select_next due n b is)
+      → state_after (select_left_step k token.text.at (place_at cell depth) id.text.at) entries ≡ Ok after → Meant after from here
+  in_select {cell} {depth} {id} (kind.Number left) is due n b e = becomes (at (SelectNext (place_at cell depth) id.text.at (bound_at left token.text.at)) entries) e (at_select_next due n b is)
   in_select _ is due n b e = never e
 
   in_select_next : {cell : Span} {depth left : ℕ} {id begin first : Tok} (k : Kind) → Is k token → ExprDue cell depth entries from (id ∷ begin ∷ first ∷ token ∷ here) → Is kind.Name id → Is kind.LeftBracket begin → Is (kind.Number left) first
-      → state_after (select_next_step k (place_at cell depth) id.text.at left) entries ≡ Ok after → Meant after from here
+      → state_after (select_next_step k (place_at cell depth) id.text.at (bound_at left first.text.at)) entries ≡ Ok after → Meant after from here
   in_select_next {cell} {depth} {left} {id} kind.RightBracket is due n b f e =
       becomes (at (OperandEnd (place_at cell depth)) (added entries (entry.Bit id.text.at left))) e (at_operand_end (expr_ends due (bit n b f is)))
-  in_select_next {cell} {depth} {left} {id} kind.Colon is due n b f e = becomes (at (SelectRight (place_at cell depth) id.text.at left) entries) e (at_select_right due n b f is)
+  in_select_next {cell} {depth} {left} {id} {first = first} kind.Colon is due n b f e = becomes (at (SelectRight (place_at cell depth) id.text.at (bound_at left first.text.at)) entries) e (at_select_right due n b f is)
   in_select_next _ is due n b f e = never e
 
   in_select_right : {cell : Span} {depth left : ℕ} {id begin first colon : Tok} (k : Kind) → Is k token → ExprDue cell depth entries from (id ∷ begin ∷ first ∷ colon ∷ token ∷ here)
       → Is kind.Name id → Is kind.LeftBracket begin → Is (kind.Number left) first → Is kind.Colon colon
-      → state_after (select_right_step k (place_at cell depth) id.text.at left) entries ≡ Ok after → Meant after from here
-  in_select_right {cell} {depth} {left} {id} (kind.Number right) is due n b f c e =
-      becomes (at (SelectEnd (place_at cell depth) id.text.at (record { left = left; right = right })) entries) e (at_select_end due n b f c is)
+      → state_after (select_right_step k token.text.at (place_at cell depth) id.text.at (bound_at left first.text.at)) entries ≡ Ok after → Meant after from here
+  in_select_right {cell} {depth} {left} {id} {first = first} (kind.Number right) is due n b f c e =
+      becomes (at (SelectEnd (place_at cell depth) id.text.at (range_from left first right token)) entries) e (at_select_end due n b f c is)
   in_select_right _ is due n b f c e = never e
 
   in_select_end : {cell : Span} {depth left right : ℕ} {id begin first colon second : Tok} (k : Kind) → Is k token → ExprDue cell depth entries from (id ∷ begin ∷ first ∷ colon ∷ second ∷ token ∷ here)
       → Is kind.Name id → Is kind.LeftBracket begin → Is (kind.Number left) first → Is kind.Colon colon → Is (kind.Number right) second
-      → state_after (select_end_step k (place_at cell depth) id.text.at (record { left = left; right = right })) entries ≡ Ok after → Meant after from here
-  in_select_end {cell} {depth} {left} {right} {id} kind.RightBracket is due n b f c s e =
-      becomes (at (OperandEnd (place_at cell depth)) (added entries (entry.Part id.text.at (record { left = left; right = right })))) e (at_operand_end (expr_ends due (part n (range b f c s is))))
+      → state_after (select_end_step k (place_at cell depth) id.text.at (range_from left first right second)) entries ≡ Ok after → Meant after from here
+  in_select_end {cell} {depth} {left} {right} {id} {first = first} {second = second} kind.RightBracket is due n b f c s e =
+      becomes (at (OperandEnd (place_at cell depth)) (added entries (entry.Part id.text.at (range_from left first right second)))) e (at_operand_end (expr_ends due (part n (range b f c s is))))
   in_select_end _ is due n b f c s e = never e
 
   in_connection_end : {cell : Span} (k : Kind) → Is k token → HasConnections cell entries from (token ∷ here) → state_after (connection_end_step k cell) entries ≡ Ok after → Meant after from here

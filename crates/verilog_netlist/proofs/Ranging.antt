@@ -9,7 +9,7 @@ use Rattle.std.specs.Map.{lookup}
 use Rattle.std.specs.Str.{bytes_eq}
 use Rattle.indexmap.specs.IndexMap.{insert_entry}
 use Rattle.token_texts.specs.Spans.{text_at}
-use Rattle.verilog_netlist.specs.Ranges.{most_bits, and_more, bits_of, joined_width, is_bad_entry, declares, or_first, first_declared, module_at, declared_by, IsBadRange, declared_range, is_bad_declaration, is_bad_bit, is_bad_part, whole_width, is_wire, one_range, differs_from, is_past}
+use Rattle.verilog_netlist.specs.Ranges.{most_bits, and_more, bits_of, joined_width, is_bad_entry, declares, or_first, first_declared, module_at, declared_by, IsBadRange, declared_range, is_bad_declaration, is_bad_bit, is_bad_part, whole_bits, is_wire, one_range, differs_from, is_past}
 use Rattle.verilog_netlist.specs.NameKeys.{Key, key_in, keys_in, same_key, holds}
 use Rattle.verilog_netlist.specs.DeclaredNames.{Rows, declared_key, row_at, found_in, kept, widened, AddsRow, AddsRanged, AddsDeclared, CoversRanged, HoldsDeclared, HoldsRanged, BoundsWidths, IsAtMost}
 use Rattle.verilog_netlist.specs.declared.declared.Declaration.{Declaration}
@@ -78,7 +78,7 @@ adds_none rows key there declaration is other = by (same_key other key) refl
 -- two ways of finding that find the same ranges: the bits and the faults by them are the same
 module _ (bytes : List ℕ) (f g : List ℕ → Option Declaration) (same : (name : List ℕ) → declared_range (f name) ≡ declared_range (g name)) where
   bits_same : (e : Entry) → bits_of bytes f e ≡ bits_of bytes g e
-  bits_same (Whole name) = ap (λ (r : Option Range). Some (whole_width r)) (same (text_at bytes name))
+  bits_same (Whole name) = ap (λ (r : Option Range). Some (whole_bits bytes r)) (same (text_at bytes name))
   bits_same (Bit name place) = refl
   bits_same (Part name select) = refl
   bits_same (Constant token) = refl
@@ -260,38 +260,38 @@ module _ (bytes : List ℕ) (entries : List Entry) (n : ℕ) (here : ℕ) (e : E
   ]
 
 -- no name has more bits than the widest of the declared ones
-width_now : (d : Declaration) (widest : ℕ) (now : Bool) → 1 ≤ widest → whole_width (declared_range (if now then Some d else None)) ≤ max widest (whole_width d.range)
-width_now d widest true one = le-max_right widest (whole_width d.range)
-width_now d widest false one = let more = le-max_left widest (whole_width d.range) in omega arith
+width_now : (bytes : List ℕ) (d : Declaration) (widest : ℕ) (now : Bool) → 1 ≤ widest → whole_bits bytes (declared_range (if now then Some d else None)) ≤ max widest (whole_bits bytes d.range)
+width_now bytes d widest true one = le-max_right widest (whole_bits bytes d.range)
+width_now bytes d widest false one = let more = le-max_left widest (whole_bits bytes d.range) in omega arith
 
 width_here : (bytes : List ℕ) (asked : ℕ) (name : List ℕ) (here : ℕ) (e : Entry) (widest : ℕ) → 1 ≤ widest
-    → whole_width (declared_range (declares bytes asked name here (Some e))) ≤ widened e widest
+    → whole_bits bytes (declared_range (declares bytes asked name here (Some e))) ≤ widened bytes e widest
 width_here bytes asked name here (Declared by span bounds) widest one =
-    width_now (record { by = by; range = bounds }) widest ((asked == here) && bytes_eq name (text_at bytes span)) one
+    width_now bytes (record { by = by; range = bounds }) widest ((asked == here) && bytes_eq name (text_at bytes span)) one
 width_here bytes asked name here _ widest one = one
 
-width_kept : (keys : List Key) (asked : ℕ) (name : List ℕ) (found : Option Declaration) (widest : ℕ) → 1 ≤ widest → whole_width (declared_range found) ≤ widest
-    → whole_width (declared_range (kept keys asked name found)) ≤ widest
-width_kept keys asked name found widest one few = by (holds keys (declared_key asked name))
+width_kept : (bytes : List ℕ) (keys : List Key) (asked : ℕ) (name : List ℕ) (found : Option Declaration) (widest : ℕ) → 1 ≤ widest → whole_bits bytes (declared_range found) ≤ widest
+    → whole_bits bytes (declared_range (kept keys asked name found)) ≤ widest
+width_kept bytes keys asked name found widest one few = by (holds keys (declared_key asked name))
   where
-    by : (b : Bool) → whole_width (declared_range (if b then found else None)) ≤ widest
+    by : (b : Bool) → whole_bits bytes (declared_range (if b then found else None)) ≤ widest
     by true = few
     by false = one
 
-wider : (e : Entry) (widest : ℕ) → widest ≤ widened e widest
-wider (Declared by span bounds) widest = le-max_left widest (whole_width bounds)
-wider _ widest = omega arith
+wider : (bytes : List ℕ) (e : Entry) (widest : ℕ) → widest ≤ widened bytes e widest
+wider bytes (Declared by span bounds) widest = le-max_left widest (whole_bits bytes bounds)
+wider bytes _ widest = omega arith
 
-pub bounds_first : BoundsWidths [] 1
-bounds_first asked name = omega arith
+pub bounds_first : (bytes : List ℕ) → BoundsWidths bytes [] 1
+bounds_first bytes asked name = omega arith
 
-pub bounds_next : (bytes : List ℕ) (keys : List Key) (here : ℕ) (e : Entry) (old new : Rows) (widest : ℕ) → AddsDeclared bytes keys here e old new → BoundsWidths old widest → BoundsWidths new (widened e widest)
+pub bounds_next : (bytes : List ℕ) (keys : List Key) (here : ℕ) (e : Entry) (old new : Rows) (widest : ℕ) → AddsDeclared bytes keys here e old new → BoundsWidths bytes old widest → BoundsWidths bytes new (widened bytes e widest)
 bounds_next bytes keys here e old new widest adds bounds asked name =
-    subst (λ (d : Option Declaration). whole_width (declared_range d) ≤ widened e widest) (sym (adds asked name)) (by (found_in old asked name) (bounds asked name))
+    subst (λ (d : Option Declaration). whole_bits bytes (declared_range d) ≤ widened bytes e widest) (sym (adds asked name)) (by (found_in old asked name) (bounds asked name))
   where
-    by : (d : Option Declaration) → whole_width (declared_range d) ≤ widest → whole_width (declared_range (or_first d (kept keys asked name (declares bytes asked name here (Some e))))) ≤ widened e widest
-    by None one = width_kept keys asked name (declares bytes asked name here (Some e)) (widened e widest) (let more = wider e widest in omega arith) (width_here bytes asked name here e widest one)
-    by (Some first) few = let more = wider e widest in omega arith
+    by : (d : Option Declaration) → whole_bits bytes (declared_range d) ≤ widest → whole_bits bytes (declared_range (or_first d (kept keys asked name (declares bytes asked name here (Some e))))) ≤ widened bytes e widest
+    by None one = width_kept bytes keys asked name (declares bytes asked name here (Some e)) (widened bytes e widest) (let more = wider bytes e widest in omega arith) (width_here bytes asked name here e widest one)
+    by (Some first) few = let more = wider bytes e widest in omega arith
 
 -- the bits of the expressions before this place, all of them expressions, and those from it on
 module _ (bytes : List ℕ) (f : List ℕ → Option Declaration) (entries : List Entry) where

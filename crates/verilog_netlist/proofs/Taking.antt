@@ -1,8 +1,8 @@
 -- The texts of the grammar lead to their end: the reader refuses none of them.
 use Rattle.std.proofs.Common.{◌≡◌, ℕ, zero, suc, cond, List, ◌∷◌, Option, Some, None, Ok, refl, ap, ◌∙◌, lt-ltb}
 use Rattle.token_fronts.specs.Accepting.{Accepts, ended, taken}
-use Rattle.verilog_netlist.specs.Grammar.{Tok, Is, added, Listed, one, and_one, Many, none, more, Maybe, left_out, there, IsName, name, input, output, MaybeWire, no_wire, wire, range, no_range, with_range, AreDeclared, declared, IsAnsi, ansi, IsHeader, names, directions, IsPorts, ports, IsExpr, whole, bit, part, constant, in_braces, AreExprs, one_expr, and_expr, IsConnection, connection, IsInstance, instance, IsItem, directed, wires, instances, IsModule, is_module, IsNetlist}
-use Rattle.verilog_netlist.specs.Steps.{Step, Refuse, Go, Put, place_at, behind_expr, operand_step, joined_step, name_end_step, step_in}
+use Rattle.verilog_netlist.specs.Grammar.{Tok, Is, range_from, added, Listed, one, and_one, Many, none, more, Maybe, left_out, there, IsName, name, input, output, MaybeWire, no_wire, wire, range, no_range, with_range, AreDeclared, declared, IsAnsi, ansi, IsHeader, names, directions, IsPorts, ports, IsExpr, whole, bit, part, constant, in_braces, AreExprs, one_expr, and_expr, IsConnection, connection, IsInstance, instance, IsItem, directed, wires, instances, IsModule, is_module, IsNetlist}
+use Rattle.verilog_netlist.specs.Steps.{Step, Refuse, Go, Put, bound_at, place_at, behind_expr, operand_step, joined_step, name_end_step, step_in}
 use Rattle.verilog_netlist.specs.Modes.{State, first_state, state_after, next, finish}
 use Rattle.token_texts.specs.declared.spans.Span.{Span}
 use Rattle.verilog_netlist.specs.declared.kinds.Kind.{Kind}
@@ -83,12 +83,12 @@ module _ (value : List Entry) where
       → {from rest : List Tok} {before after : List Entry} → AreDeclared by from before after rest
       → ((bounds : Option Range) → Leads (DeclaredMore by bounds) after rest) → Leads mode before from
   declarations by mode bracket id (declared no_range are) leads = declared_names by None mode id are (leads None)
-  declarations by mode bracket id (declared (with_range (range {begin = begin} {left = left} {right = right} b f c s e)) are) leads =
-      let bounds : Range = record { left = left; right = right } in
+  declarations by mode bracket id (declared (with_range (range {begin = begin} {first = first} {second = second} {left = left} {right = right} b f c s e)) are) leads =
+      let bounds : Range = range_from left first right second in
       go mode (RangeLeft by) kind.LeftBracket b (bracket begin.text.at)
-      (go (RangeLeft by) (RangeColon by left) (kind.Number left) f refl
-      (go (RangeColon by left) (RangeRight by left) kind.Colon c refl
-      (go (RangeRight by left) (RangeEnd by bounds) (kind.Number right) s refl
+      (go (RangeLeft by) (RangeColon by (bound_at left first.text.at)) (kind.Number left) f refl
+      (go (RangeColon by (bound_at left first.text.at)) (RangeRight by (bound_at left first.text.at)) kind.Colon c refl
+      (go (RangeRight by (bound_at left first.text.at)) (RangeEnd by bounds) (kind.Number right) s refl
       (go (RangeEnd by bounds) (DeclaredName by (Some bounds)) kind.RightBracket e refl
       (declared_names by (Some bounds) (DeclaredName by (Some bounds)) (λ place. refl) are (leads (Some bounds)))))))
 
@@ -141,20 +141,20 @@ module _ (value : List Entry) where
       expr : (depth : ℕ) {from rest : List Tok} {before after : List Entry} → IsExpr depth from before after rest
           → Leads (OperandEnd (place_at cell depth)) after rest → Leads (Operand (place_at cell depth)) before from
       expr depth (whole {id = id} is) leads = go (Operand (place_at cell depth)) (NameEnd (place_at cell depth) id.text.at) kind.Name is refl (name_alone depth id.text.at leads)
-      expr depth (bit {id = id} {place = place} is b n c) leads =
+      expr depth (bit {id = id} {index = index} {place = place} is b n c) leads =
           let here = place_at cell depth in
           go (Operand here) (NameEnd here id.text.at) kind.Name is refl
           (go (NameEnd here id.text.at) (SelectLeft here id.text.at) kind.LeftBracket b refl
-          (go (SelectLeft here id.text.at) (SelectNext here id.text.at place) (kind.Number place) n refl
-          (put (SelectNext here id.text.at place) (OperandEnd here) (entry.Bit id.text.at place) kind.RightBracket c refl leads)))
-      expr depth (part {id = id} is (range {left = left} {right = right} b f c s e)) leads =
+          (go (SelectLeft here id.text.at) (SelectNext here id.text.at (bound_at place index.text.at)) (kind.Number place) n refl
+          (put (SelectNext here id.text.at (bound_at place index.text.at)) (OperandEnd here) (entry.Bit id.text.at place) kind.RightBracket c refl leads)))
+      expr depth (part {id = id} is (range {first = first} {second = second} {left = left} {right = right} b f c s e)) leads =
           let here = place_at cell depth in
-          let bounds : Range = record { left = left; right = right } in
+          let bounds : Range = range_from left first right second in
           go (Operand here) (NameEnd here id.text.at) kind.Name is refl
           (go (NameEnd here id.text.at) (SelectLeft here id.text.at) kind.LeftBracket b refl
-          (go (SelectLeft here id.text.at) (SelectNext here id.text.at left) (kind.Number left) f refl
-          (go (SelectNext here id.text.at left) (SelectRight here id.text.at left) kind.Colon c refl
-          (go (SelectRight here id.text.at left) (SelectEnd here id.text.at bounds) (kind.Number right) s refl
+          (go (SelectLeft here id.text.at) (SelectNext here id.text.at (bound_at left first.text.at)) (kind.Number left) f refl
+          (go (SelectNext here id.text.at (bound_at left first.text.at)) (SelectRight here id.text.at (bound_at left first.text.at)) kind.Colon c refl
+          (go (SelectRight here id.text.at (bound_at left first.text.at)) (SelectEnd here id.text.at bounds) (kind.Number right) s refl
           (put (SelectEnd here id.text.at bounds) (OperandEnd here) (entry.Part id.text.at bounds) kind.RightBracket e refl leads)))))
       expr depth (constant {token = token} is) leads =
           put (Operand (place_at cell depth)) (OperandEnd (place_at cell depth)) (entry.Constant token.text.at) kind.Constant is refl leads

@@ -2,7 +2,7 @@
 use Rattle.std.specs.Prelude.{◌≡◌, ℕ, ◌<◌, ◌≤◌, false, max, if◌then◌else◌, List, length, slice_get, Option, Some, None, ⊤}
 use Rattle.std.specs.Map.{lookup}
 use Rattle.token_texts.specs.Spans.{text_at}
-use Rattle.verilog_netlist.specs.Ranges.{declares, or_first, first_declared, module_at, declared_range, whole_width}
+use Rattle.verilog_netlist.specs.Ranges.{declares, or_first, first_declared, module_at, declared_range, whole_bits}
 use Rattle.verilog_netlist.specs.NameKeys.{code_of, Key, key_in, same_key, holds, with_key}
 use Rattle.verilog_netlist.specs.declared.declared.Declaration.{Declaration}
 use Rattle.verilog_netlist.specs.declared.entries.Entry.{Entry}
@@ -63,13 +63,13 @@ module _ (bytes : List ℕ) (entries : List Entry) where
     pub holds : HoldsDeclared keys (length entries) rows
 
 -- no name has more bits than this, in whatever module, and no undeclared one
-abbrev pub BoundsWidths : Rows → ℕ → Type 0
-BoundsWidths rows widest = (asked : ℕ) (name : List ℕ) → whole_width (declared_range (found_in rows asked name)) ≤ widest
+abbrev pub BoundsWidths : List ℕ → Rows → ℕ → Type 0
+BoundsWidths bytes rows widest = (asked : ℕ) (name : List ℕ) → whole_bits bytes (declared_range (found_in rows asked name)) ≤ widest
 
 -- the most bits of a name, with what this entry declares
-abbrev pub widened : Entry → ℕ → ℕ
-widened (Declared by name bounds) widest = max widest (whole_width bounds)
-widened _ widest = widest
+abbrev pub widened : List ℕ → Entry → ℕ → ℕ
+widened bytes (Declared by name bounds) widest = max widest (whole_bits bytes bounds)
+widened bytes _ widest = widest
 
 -- some bits are at most so many, and no expression is none
 abbrev pub IsAtMost : Option ℕ → Option ℕ → Type 0

@@ -68,12 +68,16 @@ pub data MaybeWire : List Tok → List Tok → Type 0 where
   no_wire : {from : List Tok} → MaybeWire from from
   wire : {word : Tok} {rest : List Tok} → Is kind.Wire word → MaybeWire (word ∷ rest) rest
 
+-- a range of these two numbers; beside the bounds stand the places of the numbers in the file
+abbrev pub range_from : ℕ → Tok → ℕ → Tok → Range
+range_from left first right second = record { left = left; right = right; left_at = first.text.at.start; right_at = second.text.at.start }
+
 -- range = "[" number ":" number "]"
 pub data IsRange : List Tok → Range → List Tok → Type 0 where
   range : {begin first colon second close : Tok} {rest : List Tok} {left right : ℕ}
       → Is kind.LeftBracket begin → Is (kind.Number left) first → Is kind.Colon colon → Is (kind.Number right) second
       → Is kind.RightBracket close
-      → IsRange (begin ∷ first ∷ colon ∷ second ∷ close ∷ rest) (record { left = left; right = right }) rest
+      → IsRange (begin ∷ first ∷ colon ∷ second ∷ close ∷ rest) (range_from left first right second) rest
 
 -- [ range ]
 pub data MaybeRange : List Tok → Option Range → List Tok → Type 0 where

@@ -1,9 +1,9 @@
 -- Ranges, selects, constants and connections that are bad.
-use Rattle.std.specs.Prelude.{◌≡◌, ℕ, zero, suc, ◌+◌, ◌-◌, Bool, true, false, not, ◌&&◌, ◌||◌, ◌==◌, nat_lt, if◌then◌else◌, List, [], ◌∷◌, length, take, drop, count_by, slice_get, Option, Some, None}
+use Rattle.std.specs.Prelude.{◌≡◌, ℕ, zero, suc, ◌+◌, ◌-◌, Bool, true, false, not, ◌&&◌, ◌||◌, ◌==◌, nat_lt, min, if◌then◌else◌, List, [], ◌∷◌, length, take, drop, count_by, slice_get, Option, Some, None}
 use Rattle.std.specs.Str.{bytes_eq}
 use Rattle.token_texts.specs.Runs.{run_length}
 use Rattle.token_texts.specs.Spans.{text_at}
-use Rattle.verilog_netlist.specs.Tokens.{is_digit, bound_of}
+use Rattle.verilog_netlist.specs.Tokens.{is_digit, value_after, bound_of}
 use Rattle.verilog_netlist.specs.Firsts.{IsFirst}
 use Rattle.verilog_netlist.specs.Namespaces.{begins_module}
 use Rattle.verilog_netlist.specs.declared.declared.Declaration.{Declaration}
@@ -21,11 +21,29 @@ largest_bound = 1048575
 abbrev pub most_bits : ℕ
 most_bits = 65536
 
+-- how far two numbers are from each other
+abbrev pub distance : ℕ → ℕ → ℕ
+distance one other = if nat_lt one other then other - one else one - other
+
 abbrev pub width_of : Range → ℕ
-width_of range = (if nat_lt range.left range.right then range.right - range.left else range.left - range.right) + 1
+width_of range = distance range.left range.right + 1
 
 abbrev pub has_large_bound : Range → Bool
 has_large_bound range = nat_lt largest_bound range.left || nat_lt largest_bound range.right
+
+-- the digits that begin at a place of the file
+abbrev pub digits_at : List ℕ → ℕ → List ℕ
+digits_at bytes place = let from = drop place bytes in take (run_length is_digit from) from
+
+-- How many bits a range of the file has, by its numbers as they are written. Where it has more than a connection may have, it counts
+-- one more than that.
+abbrev pub written_width : List ℕ → Range → ℕ
+written_width bytes range =
+    min (suc most_bits) (distance (value_after 0 (digits_at bytes range.left_at)) (value_after 0 (digits_at bytes range.right_at)) + 1)
+
+-- the same, where bounds that are not past the limit are their numbers
+abbrev pub bits_across : List ℕ → Range → ℕ
+bits_across bytes range = if has_large_bound range then written_width bytes range else width_of range
 
 -- a range past the limits
 abbrev pub is_past_limits : Range → Bool
@@ -94,11 +112,16 @@ abbrev pub whole_width : Option Range → ℕ
 whole_width None = 1
 whole_width (Some range) = width_of range
 
+-- the same, of a name in the file
+abbrev pub whole_bits : List ℕ → Option Range → ℕ
+whole_bits bytes None = 1
+whole_bits bytes (Some range) = bits_across bytes range
+
 module _ (bytes : List ℕ) (find : List ℕ → Option Declaration) where
   abbrev pub bits_of : Entry → Option ℕ
-  bits_of (Whole name) = Some (whole_width (declared_range (find (text_at bytes name))))
+  bits_of (Whole name) = Some (whole_bits bytes (declared_range (find (text_at bytes name))))
   bits_of (Bit name place) = Some 1
-  bits_of (Part name select) = Some (width_of select)
+  bits_of (Part name select) = Some (bits_across bytes select)
   bits_of (Constant token) = Some (constant_width (text_at bytes token))
   bits_of _ = None
 

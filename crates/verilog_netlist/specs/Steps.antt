@@ -10,6 +10,7 @@ use Rattle.verilog_netlist.specs.declared.entries.Decl.TheVariants as decl
 use Rattle.verilog_netlist.specs.declared.entries.Range.{Range}
 use Rattle.verilog_netlist.specs.declared.entries.Entry.{Entry}
 use Rattle.verilog_netlist.specs.declared.entries.Entry.TheVariants as entry
+use Rattle.verilog_netlist.specs.declared.modes.Bound.{Bound}
 use Rattle.verilog_netlist.specs.declared.modes.Place.{Place}
 use Rattle.verilog_netlist.specs.declared.modes.Mode.{Mode}
 use Rattle.verilog_netlist.specs.declared.modes.Mode.TheVariants.{Modules, ModuleName, ModuleHead, HeaderStart, HeaderName, HeaderMore, HeaderEnd, Items, AfterWay, AfterWire, RangeLeft, RangeColon, RangeRight, RangeEnd, DeclaredName, DeclaredMore, NextPort, InstanceName, InstanceOpen, FirstConnection, NextConnection, PortName, PortOpen, Joined, Operand, NameEnd, SelectLeft, SelectNext, SelectRight, SelectEnd, OperandEnd, ConnectionEnd, InstanceEnd}
@@ -73,17 +74,24 @@ abbrev pub after_way_step : Kind → Span → Decl → Step
 after_way_step kind.Wire at by = Go (AfterWire by)
 after_way_step k at by = after_wire_step k at by
 
-abbrev pub range_left_step : Kind → Decl → Step
-range_left_step (kind.Number left) by = Go (RangeColon by left)
-range_left_step _ by = Refuse
+abbrev pub bound_at : ℕ → Span → Bound
+bound_at value at = record { value = value; at = at.start }
 
-abbrev pub range_colon_step : Kind → Decl → ℕ → Step
+-- the range from this bound to that of the number at a place
+abbrev pub range_between : Bound → ℕ → Span → Range
+range_between left right at = record { left = left.value; right = right; left_at = left.at; right_at = at.start }
+
+abbrev pub range_left_step : Kind → Span → Decl → Step
+range_left_step (kind.Number left) at by = Go (RangeColon by (bound_at left at))
+range_left_step _ at by = Refuse
+
+abbrev pub range_colon_step : Kind → Decl → Bound → Step
 range_colon_step kind.Colon by left = Go (RangeRight by left)
 range_colon_step _ by left = Refuse
 
-abbrev pub range_right_step : Kind → Decl → ℕ → Step
-range_right_step (kind.Number right) by left = Go (RangeEnd by (record { left = left; right = right }))
-range_right_step _ by left = Refuse
+abbrev pub range_right_step : Kind → Span → Decl → Bound → Step
+range_right_step (kind.Number right) at by left = Go (RangeEnd by (range_between left right at))
+range_right_step _ at by left = Refuse
 
 abbrev pub range_end_step : Kind → Decl → Range → Step
 range_end_step kind.RightBracket by bounds = Go (DeclaredName by (Some bounds))
@@ -176,18 +184,18 @@ abbrev pub name_end_step : Kind → Place → Span → Step
 name_end_step kind.LeftBracket place id = Go (SelectLeft place id)
 name_end_step k place id = saying (operand_end_step k place) (entry.Whole id)
 
-abbrev pub select_left_step : Kind → Place → Span → Step
-select_left_step (kind.Number left) place id = Go (SelectNext place id left)
-select_left_step _ place id = Refuse
+abbrev pub select_left_step : Kind → Span → Place → Span → Step
+select_left_step (kind.Number left) at place id = Go (SelectNext place id (bound_at left at))
+select_left_step _ at place id = Refuse
 
-abbrev pub select_next_step : Kind → Place → Span → ℕ → Step
-select_next_step kind.RightBracket place id left = Put (OperandEnd place) (entry.Bit id left)
+abbrev pub select_next_step : Kind → Place → Span → Bound → Step
+select_next_step kind.RightBracket place id left = Put (OperandEnd place) (entry.Bit id left.value)
 select_next_step kind.Colon place id left = Go (SelectRight place id left)
 select_next_step _ place id left = Refuse
 
-abbrev pub select_right_step : Kind → Place → Span → ℕ → Step
-select_right_step (kind.Number right) place id left = Go (SelectEnd place id (record { left = left; right = right }))
-select_right_step _ place id left = Refuse
+abbrev pub select_right_step : Kind → Span → Place → Span → Bound → Step
+select_right_step (kind.Number right) at place id left = Go (SelectEnd place id (range_between left right at))
+select_right_step _ at place id left = Refuse
 
 abbrev pub select_end_step : Kind → Place → Span → Range → Step
 select_end_step kind.RightBracket place id bounds = Put (OperandEnd place) (entry.Part id bounds)
@@ -215,9 +223,9 @@ step_in HeaderEnd k at = header_end_step k
 step_in Items k at = items_step k at
 step_in (AfterWay by) k at = after_way_step k at by
 step_in (AfterWire by) k at = after_wire_step k at by
-step_in (RangeLeft by) k at = range_left_step k by
+step_in (RangeLeft by) k at = range_left_step k at by
 step_in (RangeColon by left) k at = range_colon_step k by left
-step_in (RangeRight by left) k at = range_right_step k by left
+step_in (RangeRight by left) k at = range_right_step k at by left
 step_in (RangeEnd by bounds) k at = range_end_step k by bounds
 step_in (DeclaredName by bounds) k at = declared_name_step k at by bounds
 step_in (DeclaredMore by bounds) k at = declared_more_step k by bounds
@@ -231,9 +239,9 @@ step_in (PortOpen cell) k at = port_open_step k cell
 step_in (Joined cell) k at = joined_step k at cell
 step_in (Operand place) k at = operand_step k at place
 step_in (NameEnd place id) k at = name_end_step k place id
-step_in (SelectLeft place id) k at = select_left_step k place id
+step_in (SelectLeft place id) k at = select_left_step k at place id
 step_in (SelectNext place id left) k at = select_next_step k place id left
-step_in (SelectRight place id left) k at = select_right_step k place id left
+step_in (SelectRight place id left) k at = select_right_step k at place id left
 step_in (SelectEnd place id bounds) k at = select_end_step k place id bounds
 step_in (OperandEnd place) k at = operand_end_step k place
 step_in (ConnectionEnd cell) k at = connection_end_step k cell

@@ -6,7 +6,7 @@ ghost use Rattle.verilog_netlist.specs.DeclaredNames.{declared_key, found_in, wi
 use crate::entries::{Decl, Entry, Range};
 use crate::name_text::NameText;
 use crate::namespaces::Names;
-use crate::ranges::whole_width;
+use crate::ranges::whole_bits;
 use crate::repeats::{NameKey, Scopes, code_of};
 use edge_io::OutOfMemory;
 use indexmap::{IndexMap, IndexSet};
@@ -107,11 +107,11 @@ impl<'a> DeclaredNames<'a> {
     ) -> Result<(), OutOfMemory>
         ensures rows { OnOk result (AddsDeclared bytes.now (keys_in ranged.now.keys) scope entry
             self.old.rows.entries self.new.rows.entries) }
-        ensures widest { OnOk result (self.new.widest ≡ widened entry self.old.widest) }
+        ensures widest { OnOk result (self.new.widest ≡ widened bytes.now entry self.old.widest) }
     {
         match entry {
             Entry::Declared(by, name, range) => {
-                self.widest = self.widest.max(whole_width(range));
+                self.widest = self.widest.max(whole_bits(bytes, range));
                 let text = name.of(bytes);
                 if is_among(ranged, scope, text) {
                     self.add(scope, text, Declaration { by, range })
@@ -136,7 +136,7 @@ impl<'a> DeclaredNames<'a> {
         requires rows { self.old.rows.entries ≡ [] }
         requires widest { self.old.widest ≡ 1 }
         ensures rows { OnOk result (HoldsRanged bytes.now entries.now self.new.rows.entries) }
-        ensures widest { OnOk result (BoundsWidths self.new.rows.entries self.new.widest) }
+        ensures widest { OnOk result (BoundsWidths bytes.now self.new.rows.entries self.new.widest) }
     {
         let many = ranged.len();
         if many == 0 {

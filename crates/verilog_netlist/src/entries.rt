@@ -16,11 +16,14 @@ pub enum Decl {
     Wire,
 }
 
-/// The bounds of a range or of a part select, left and right. A bound past 1,048,575 stands as 1,048,576.
+/// The bounds of a range or of a part select, left and right, and where their numbers begin in the file. A bound past 1,048,575
+/// stands as 1,048,576.
 #[derive(Clone, Copy)]
 pub struct Range {
     pub left: u32,
     pub right: u32,
+    pub left_at: u32,
+    pub right_at: u32,
 }
 
 /// What a netlist says at one place. What belongs to a module, an instance or a connection stands behind it, up to the next one.

@@ -9,6 +9,13 @@ pub struct Place {
     pub depth: u32,
 }
 
+/// The left bound of a range, and where its number begins in the file.
+#[derive(Clone, Copy)]
+pub struct Bound {
+    pub value: u32,
+    pub at: u32,
+}
+
 /// What is waited for.
 #[derive(Clone, Copy)]
 pub enum Mode {
@@ -34,8 +41,8 @@ pub enum Mode {
 
     /// The pieces of a range.
     RangeLeft(Decl),
-    RangeColon(Decl, u32),
-    RangeRight(Decl, u32),
+    RangeColon(Decl, Bound),
+    RangeRight(Decl, Bound),
     RangeEnd(Decl, Range),
 
     /// A name that is declared; what follows one; behind a comma of a header a name or a direction.
@@ -58,8 +65,8 @@ pub enum Mode {
     Operand(Place),
     NameEnd(Place, Span),
     SelectLeft(Place, Span),
-    SelectNext(Place, Span, u32),
-    SelectRight(Place, Span, u32),
+    SelectNext(Place, Span, Bound),
+    SelectRight(Place, Span, Bound),
     SelectEnd(Place, Span, Range),
     OperandEnd(Place),
 

@@ -1,12 +1,12 @@
 //! Looks for bad ranges, selects, constants and connections.
 ghost use Rattle.std.specs.Prelude.{◌≡◌, ℕ, false, ◌^◌, ◌<◌, ◌≤◌, nat_lt, length, IfSome};
-ghost use Rattle.verilog_netlist.specs.Ranges.{most_bits, width_of, has_large_bound, is_past, one_range, differ, is_bad_declaration, is_outside, declared_range, is_bad_bit, runs_against, is_bad_part, whole_width, bits_of, joined_width, is_bad_entry, IsFirstBadRange};
+ghost use Rattle.verilog_netlist.specs.Ranges.{most_bits, width_of, written_width, bits_across, has_large_bound, is_past, one_range, differ, is_bad_declaration, is_outside, declared_range, is_bad_bit, runs_against, is_bad_part, whole_width, whole_bits, bits_of, joined_width, is_bad_entry, IsFirstBadRange};
 ghost use Rattle.verilog_netlist.specs.DeclaredNames.{found_in, HoldsRanged, BoundsWidths, IsAtMost};
 
 use crate::declared::{Declaration, DeclaredNames};
 use crate::entries::{Decl, Entry, Range};
 use crate::repeats::Scopes;
-use crate::scan::constant_width;
+use crate::scan::{constant_width, digits_at, distance};
 
 /// The largest bound of a range or a select.
 const LARGEST_BOUND: u32 = 1_048_575;
@@ -34,6 +34,35 @@ impl Range {
         ensures { result ≡ has_large_bound self }
     {
         self.left > LARGEST_BOUND || self.right > LARGEST_BOUND
+    }
+
+    /// How many bits a range of the file has, by its numbers as they are written. One with more bits than a connection may have counts
+    /// one more than that.
+    fn written_width(self, bytes: &[u8]) -> u64
+        ensures value { result ≡ written_width bytes.now self }
+        ensures few { result ≤ 2 ^ 32 }
+    {
+        let left = digits_at(bytes, self.left_at);
+        let right = digits_at(bytes, self.right_at);
+        let apart = if left.len() < right.len() {
+            distance(right, left)
+        } else {
+            distance(left, right)
+        };
+        (u64::from(apart) + 1).min(MOST_BITS + 1)
+    }
+
+    /// How many bits a range of the file has. Bounds that are not past the limit are their numbers.
+    #[inline]
+    fn bits(self, bytes: &[u8]) -> u64
+        ensures value { result ≡ bits_across bytes.now self }
+        ensures few { result ≤ 2 ^ 32 }
+    {
+        if self.has_large_bound() {
+            self.written_width(bytes)
+        } else {
+            self.width()
+        }
     }
 
     /// Whether a bit is outside the range.
@@ -113,6 +142,18 @@ pub(crate) fn whole_width(range: Option<Range>) -> u64
     }
 }
 
+/// The bits of a name in the file.
+#[inline]
+pub(crate) fn whole_bits(bytes: &[u8], range: Option<Range>) -> u64
+    ensures value { result ≡ whole_bits bytes.now range }
+    ensures few { result ≤ 2 ^ 32 }
+{
+    match range {
+        Some(range) => range.bits(bytes),
+        None => 1,
+    }
+}
+
 impl DeclaredNames<'_> {
     /// The bits of an expression, or nothing of what is none.
     #[inline]
@@ -123,10 +164,10 @@ impl DeclaredNames<'_> {
         match entry {
             Entry::Whole(name) => {
                 let first = self.find(scope, name.of(bytes));
-                Some(whole_width(declared_range(first)))
+                Some(whole_bits(bytes, declared_range(first)))
             }
             Entry::Bit(_, _) => Some(1),
-            Entry::Part(_, select) => Some(select.width()),
+            Entry::Part(_, select) => Some(select.bits(bytes)),
             Entry::Constant(token) => Some(u64::from(constant_width(token.of(bytes)))),
             _ => None,
         }
@@ -152,13 +193,13 @@ impl DeclaredNames<'_> {
     /// As many bits as an expression can have, or nothing of what is none. No name is looked up.
     #[inline]
     fn most_bits(&self, bytes: &[u8], entry: Entry) -> Option<u64>
-        requires { BoundsWidths self.now.rows.entries self.now.widest }
+        requires { BoundsWidths bytes.now self.now.rows.entries self.now.widest }
         ensures { (scope : ℕ) → IsAtMost (bits_of bytes.now (found_in self.now.rows.entries scope) entry) result }
     {
         match entry {
             Entry::Whole(_) => Some(self.widest),
             Entry::Bit(_, _) => Some(1),
-            Entry::Part(_, select) => Some(select.width()),
+            Entry::Part(_, select) => Some(select.bits(bytes)),
             Entry::Constant(token) => Some(u64::from(constant_width(token.of(bytes)))),
             _ => None,
         }
@@ -167,7 +208,7 @@ impl DeclaredNames<'_> {
     /// Whether the expressions at the front of these entries can have too many bits, as wide as names are at most. Those of most
     /// connections cannot, and their names need not be looked up.
     fn may_be_wide(&self, bytes: &[u8], behind: &[Entry]) -> bool
-        requires { BoundsWidths self.now.rows.entries self.now.widest }
+        requires { BoundsWidths bytes.now self.now.rows.entries self.now.widest }
         ensures { (scope : ℕ) → result ≡ false
             → nat_lt most_bits (joined_width bytes.now (found_in self.now.rows.entries scope) behind.now) ≡ false }
     {
@@ -228,7 +269,7 @@ impl DeclaredNames<'_> {
     /// Whether an entry is bad, with these entries behind it.
     #[inline]
     fn is_bad(&self, scope: u32, bytes: &[u8], entry: Entry, behind: &[Entry]) -> bool
-        requires { BoundsWidths self.now.rows.entries self.now.widest }
+        requires { BoundsWidths bytes.now self.now.rows.entries self.now.widest }
         ensures { result ≡ is_bad_entry bytes.now (found_in self.now.rows.entries scope) behind.now entry }
     {
         match entry {
@@ -252,7 +293,7 @@ impl DeclaredNames<'_> {
     pub(crate) fn first_bad_range(&self, bytes: &[u8], entries: &[Entry]) -> Option<usize>
         requires few { length entries.now < 2 ^ 30 }
         requires rows { HoldsRanged bytes.now entries.now self.now.rows.entries }
-        requires widest { BoundsWidths self.now.rows.entries self.now.widest }
+        requires widest { BoundsWidths bytes.now self.now.rows.entries self.now.widest }
         ensures { IsFirstBadRange bytes.now entries.now result }
     {
         let mut scopes = Scopes::new();

@@ -1,8 +1,8 @@
 //! Parts a file's bytes into tokens.
-ghost use Rattle.std.specs.Prelude.{◌≡◌, ℕ, ◌+◌, ◌^◌, ◌<◌, ◌≤◌, ◌∷◌, List, length, IfSome, IfNone};
-ghost use Rattle.verilog_netlist.specs.Tokens.{is_digit, begins_name, goes_on_name, is_visible, is_constant_digit, is_sign, is_base, based_length, signed_length, and_before, constant_length, bound_of, word_cut, number_cut, ends_escaped, escaped_cut, slash_cut, paren_cut, mark_kind, cut_at};
+ghost use Rattle.std.specs.Prelude.{◌≡◌, ℕ, ◌+◌, ◌^◌, ◌<◌, ◌≤◌, ◌∷◌, min, List, length, IfSome, IfNone};
+ghost use Rattle.verilog_netlist.specs.Tokens.{is_digit, begins_name, goes_on_name, is_visible, is_constant_digit, is_sign, is_base, based_length, signed_length, and_before, constant_length, past_bounds, value_after, bound_of, word_cut, number_cut, ends_escaped, escaped_cut, slash_cut, paren_cut, mark_kind, cut_at};
 ghost use Rattle.token_texts.specs.Cuts.{IsWithin};
-ghost use Rattle.verilog_netlist.specs.Ranges.{constant_width};
+ghost use Rattle.verilog_netlist.specs.Ranges.{constant_width, distance, digits_at};
 ghost use Rattle.verilog_netlist.specs.declared.kinds.Kind.TheVariants.{Bad};
 ghost use Rattle.token_texts.specs.declared.cuts.Cut.TheVariants.{Take};
 
@@ -166,6 +166,32 @@ fn bound_of(digits: &[u8]) -> u32
         value = (value * 10 + u32::from(digit.saturating_sub(b'0'))).min(PAST_BOUNDS);
     }
     value
+}
+
+/// How far two numbers are from each other, or one past the largest bound where that is farther. The first has as many digits as the
+/// other, or more.
+pub(crate) fn distance(longer: &[u8], shorter: &[u8]) -> u32
+    requires { length shorter.now ≤ length longer.now }
+    ensures { result ≡ min past_bounds (distance (value_after 0 longer.now) (value_after 0 shorter.now)) }
+{
+    let (front, rest) = longer.split_at(longer.len() - shorter.len());
+    let mut above = bound_of(front);
+    let mut below = 0;
+    for (place, digit) in shorter.iter().enumerate() {
+        let one = above * 10 + u32::from(rest[place].saturating_sub(b'0'));
+        let other = below * 10 + u32::from(digit.saturating_sub(b'0'));
+        above = one.saturating_sub(other).min(PAST_BOUNDS);
+        below = other.saturating_sub(one).min(PAST_BOUNDS);
+    }
+    above.max(below)
+}
+
+/// The digits that begin at a place of the file.
+pub(crate) fn digits_at(bytes: &[u8], place: u32) -> &[u8]
+    ensures { result.now ≡ digits_at bytes.now place }
+{
+    let from = bytes.split_at((place as usize).min(bytes.len())).1;
+    from.split_at(run_length::<Digit>(from)).0
 }
 
 /// The width of a constant: the digits at its front.

@@ -1,11 +1,11 @@
 //! What each token does, by what is waited for.
 ghost use Rattle.std.specs.Prelude.{◌≡◌};
-ghost use Rattle.verilog_netlist.specs.Steps.{modules_step, module_name_step, module_head_step, header_start_step, header_name_step, header_more_step, header_end_step, items_step, after_way_step, after_wire_step, range_left_step, range_colon_step, range_right_step, range_end_step, declared_name_step, declared_more_step, next_port_step, instance_name_step, instance_open_step, first_connection_step, next_connection_step, port_name_step, port_open_step, joined_step, operand_step, saying, name_end_step, select_left_step, select_next_step, select_right_step, select_end_step, operand_end_step, open_brace, header_declared_step, item_declared_step, connection_end_step, instance_end_step};
+ghost use Rattle.verilog_netlist.specs.Steps.{modules_step, module_name_step, module_head_step, header_start_step, header_name_step, header_more_step, header_end_step, items_step, after_way_step, after_wire_step, range_left_step, range_colon_step, range_between, range_right_step, range_end_step, declared_name_step, declared_more_step, next_port_step, instance_name_step, instance_open_step, first_connection_step, next_connection_step, port_name_step, port_open_step, joined_step, operand_step, saying, name_end_step, select_left_step, select_next_step, select_right_step, select_end_step, operand_end_step, open_brace, header_declared_step, item_declared_step, connection_end_step, instance_end_step};
 ghost use Rattle.verilog_netlist.specs.ReaderStates.{go_if, Does};
 
 use crate::entries::{Decl, Direction, Entry, Range};
 use crate::kinds::Kind;
-use crate::modes::{Mode, Place};
+use crate::modes::{Bound, Mode, Place};
 use crate::reader::Reader;
 use edge_io::OutOfMemory;
 use token_texts::Span;
@@ -203,17 +203,37 @@ pub(crate) fn after_way_step(
     }
 }
 
+/// The range from this bound to that of the number here.
+#[inline(always)]
+fn range_between(left: Bound, right: u32, at: Span) -> Range
+    ensures { result ≡ range_between left right at }
+{
+    Range {
+        left: left.value,
+        right,
+        left_at: left.at,
+        right_at: at.start,
+    }
+}
+
 /// The pieces of a range.
 #[inline(always)]
 pub(crate) fn range_left_step(
     reader: &mut Reader,
     kind: Kind,
+    at: Span,
     decl: Decl,
 ) -> Result<bool, OutOfMemory>
-    ensures { Does reader.old (range_left_step kind decl) result reader.new }
+    ensures { Does reader.old (range_left_step kind at decl) result reader.new }
 {
     match kind {
-        Kind::Number(left) => reader.go(Mode::RangeColon(decl, left)),
+        Kind::Number(value) => reader.go(Mode::RangeColon(
+            decl,
+            Bound {
+                value,
+                at: at.start,
+            },
+        )),
         _ => reader.refuse(),
     }
 }
@@ -223,7 +243,7 @@ pub(crate) fn range_colon_step(
     reader: &mut Reader,
     kind: Kind,
     decl: Decl,
-    left: u32,
+    left: Bound,
 ) -> Result<bool, OutOfMemory>
     ensures { Does reader.old (range_colon_step kind decl left) result reader.new }
 {
@@ -237,13 +257,14 @@ pub(crate) fn range_colon_step(
 pub(crate) fn range_right_step(
     reader: &mut Reader,
     kind: Kind,
+    at: Span,
     decl: Decl,
-    left: u32,
+    left: Bound,
 ) -> Result<bool, OutOfMemory>
-    ensures { Does reader.old (range_right_step kind decl left) result reader.new }
+    ensures { Does reader.old (range_right_step kind at decl left) result reader.new }
 {
     match kind {
-        Kind::Number(right) => reader.go(Mode::RangeEnd(decl, Range { left, right })),
+        Kind::Number(right) => reader.go(Mode::RangeEnd(decl, range_between(left, right, at))),
         _ => reader.refuse(),
     }
 }
@@ -499,13 +520,21 @@ pub(crate) fn name_end_step(
 pub(crate) fn select_left_step(
     reader: &mut Reader,
     kind: Kind,
+    at: Span,
     place: Place,
     name: Span,
 ) -> Result<bool, OutOfMemory>
-    ensures { Does reader.old (select_left_step kind place name) result reader.new }
+    ensures { Does reader.old (select_left_step kind at place name) result reader.new }
 {
     match kind {
-        Kind::Number(left) => reader.go(Mode::SelectNext(place, name, left)),
+        Kind::Number(value) => reader.go(Mode::SelectNext(
+            place,
+            name,
+            Bound {
+                value,
+                at: at.start,
+            },
+        )),
         _ => reader.refuse(),
     }
 }
@@ -516,12 +545,12 @@ pub(crate) fn select_next_step(
     kind: Kind,
     place: Place,
     name: Span,
-    left: u32,
+    left: Bound,
 ) -> Result<bool, OutOfMemory>
     ensures { Does reader.old (select_next_step kind place name left) result reader.new }
 {
     match kind {
-        Kind::RightBracket => reader.put(Mode::OperandEnd(place), Entry::Bit(name, left)),
+        Kind::RightBracket => reader.put(Mode::OperandEnd(place), Entry::Bit(name, left.value)),
         Kind::Colon => reader.go(Mode::SelectRight(place, name, left)),
         _ => reader.refuse(),
     }
@@ -531,14 +560,19 @@ pub(crate) fn select_next_step(
 pub(crate) fn select_right_step(
     reader: &mut Reader,
     kind: Kind,
+    at: Span,
     place: Place,
     name: Span,
-    left: u32,
+    left: Bound,
 ) -> Result<bool, OutOfMemory>
-    ensures { Does reader.old (select_right_step kind place name left) result reader.new }
+    ensures { Does reader.old (select_right_step kind at place name left) result reader.new }
 {
     match kind {
-        Kind::Number(right) => reader.go(Mode::SelectEnd(place, name, Range { left, right })),
+        Kind::Number(right) => reader.go(Mode::SelectEnd(
+            place,
+            name,
+            range_between(left, right, at),
+        )),
         _ => reader.refuse(),
     }
 }

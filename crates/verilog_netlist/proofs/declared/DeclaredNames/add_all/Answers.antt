@@ -21,7 +21,7 @@ loop-place-preserved c =
       subst (λ (s : Scopes). Counts entries (place + 1) s) (sym c.from-scopes.ensures) (count_on entries place c.loop-place.scopes counts e c.loop-place-test.true here),
       declared_next c.args.bytes.now entries keys place c.loop-place.self.rows.entries c.add_entry.new.self.rows.entries c.from-scopes.result.modules e in_module
           (stands_at entries place c.loop-place-test.true) c.loop-place.invariant.1 c.in_ok-add_entry.ensures.rows,
-      subst (λ (n : ℕ). BoundsWidths c.add_entry.new.self.rows.entries n) (sym c.in_ok-add_entry.ensures.widest)
+      subst (λ (n : ℕ). BoundsWidths c.args.bytes.now c.add_entry.new.self.rows.entries n) (sym c.in_ok-add_entry.ensures.widest)
           (bounds_next c.args.bytes.now keys c.from-scopes.result.modules e c.loop-place.self.rows.entries c.add_entry.new.self.rows.entries c.loop-place.self.widest c.in_ok-add_entry.ensures.rows c.loop-place.invariant.2),
     )
 

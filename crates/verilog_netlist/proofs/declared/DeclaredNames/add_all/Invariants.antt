@@ -5,4 +5,4 @@ use Rattle.verilog_netlist.proofs.Repeating.{Counts}
 use Rattle.verilog_netlist.proofs.declared.DeclaredNames.add_all.Given as goal
 
 abbrev pub invariant-loop-place : goal.invariant-loop-place
-invariant-loop-place l = Counts l.entries l.place l.scopes × HoldsDeclared l.bytes l.entries (keys_in l.ranged.keys) l.place l.self.rows.entries × BoundsWidths l.self.rows.entries l.self.widest
+invariant-loop-place l = Counts l.entries l.place l.scopes × HoldsDeclared l.bytes l.entries (keys_in l.ranged.keys) l.place l.self.rows.entries × BoundsWidths l.bytes l.self.rows.entries l.self.widest
