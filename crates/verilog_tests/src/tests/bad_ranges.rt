@@ -3,7 +3,7 @@
 /// A file, and the name, or nothing.
 pub type BadRange<'a> = (&'a [u8], &'a [u8]);
 
-pub const BAD_RANGES: [BadRange<'static>; 36] = [
+pub const BAD_RANGES: [BadRange<'static>; 49] = [
     (b"", b""),
     (b"module m; wire [1048575:983040] a; endmodule", b""),
     (b"module m; wire [1048576:1048576] a; endmodule", b"a"),
@@ -76,4 +76,56 @@ pub const BAD_RANGES: [BadRange<'static>; 36] = [
     ),
     (b"module m; I u (.A(007'd3)); endmodule", b""),
     (b"module m; I u (.A(000'd3)); endmodule", b"000'd3"),
+    (
+        b"module m; wire [3:0] w; INV u1 (.A(w[3000000:2000000])); endmodule",
+        b"A",
+    ),
+    (
+        b"module m; INV u1 (.A(w)); wire [3000000:2000000] w; endmodule",
+        b"A",
+    ),
+    (
+        b"module m; wire [3:0] w; INV u1 (.A(w[2000000:1000000])); endmodule",
+        b"A",
+    ),
+    (
+        b"module m; wire [3:0] w; INV u1 (.A(w[2065535:2000000])); endmodule",
+        b"w",
+    ),
+    (
+        b"module m; wire [3:0] w; INV u1 (.A(w[2065536:2000000])); endmodule",
+        b"A",
+    ),
+    (
+        b"module m; wire [3:0] w; INV u1 (.A(w[2000000:2065536])); endmodule",
+        b"A",
+    ),
+    (
+        b"module m; wire [3:0] w; INV u1 (.A({w[2065535:2000000], w[0]})); endmodule",
+        b"A",
+    ),
+    (
+        b"module m; wire [3:0] w; INV u1 (.A(w[99999999999999999999:99999999999999934464])); endmodule",
+        b"w",
+    ),
+    (
+        b"module m; wire [3:0] w; INV u1 (.A(w[99999999999999999999:99999999999999934463])); endmodule",
+        b"A",
+    ),
+    (
+        b"module m; wire [3:0] w; INV u1 (.A(w[100000000000000000005:0099999999999999999999])); endmodule",
+        b"w",
+    ),
+    (
+        b"module m; wire [3:0] w; INV u1 (.A(w[0003000000:3000000])); endmodule",
+        b"w",
+    ),
+    (
+        b"module m; INV u1 (.A(w)); wire [0:18446744073709551616] w; endmodule",
+        b"A",
+    ),
+    (
+        b"module m; INV u1 (.A(w)); wire [18446744073709551617:18446744073709551616] w; endmodule",
+        b"w",
+    ),
 ];
