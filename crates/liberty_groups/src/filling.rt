@@ -1,5 +1,5 @@
 //! Moves what has been read to the ends of the tables.
-ghost use Rattle.std.specs.Prelude.{◌≡◌, ◌<◌, true, ◌++◌, [], Some, length, slice_get, IfOk, OnOk};
+ghost use Rattle.std.specs.Prelude.{◌≡◌, ◌<◌, ◌++◌, [], Some, length, slice_get, IfOk, OnOk};
 ghost use Rattle.liberty_groups.specs.TableRows.{IsGrown};
 
 use crate::rows::{Span, number};
@@ -50,14 +50,6 @@ fn slot_of(name: &[u8]) -> usize
     }
 }
 
-/// Whether a name has this number.
-#[inline]
-fn has_number(names: &Names, name: &[u8], number: u32) -> bool
-    ensures { result ≡ true → slice_get names.now number ≡ Some name.now }
-{
-    (number as usize) < names.len() && are_equal(names.text(NameId(number)), name)
-}
-
 /// The number of a name. One that the table does not have is put at its end.
 fn look_up(names: &mut Names, name: &[u8]) -> Result<NameId, OutOfMemory>
     ensures named { IfOk result (λ id. slice_get names.new id.0 ≡ Some name.now) }
@@ -83,7 +75,7 @@ pub(crate) fn add_name(
 {
     let slot = slot_of(name);
     let guess = recent.numbers[slot];
-    if has_number(names, name, guess) {
+    if (guess as usize) < names.len() && are_equal(names.text(NameId(guess)), name) {
         return Ok(NameId(guess));
     }
     let id = look_up(names, name)?;

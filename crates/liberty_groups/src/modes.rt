@@ -1,8 +1,7 @@
 //! What the reader waits for, and what each token does.
 ghost use Rattle.std.specs.Prelude.{◌≡◌};
 ghost use Rattle.liberty_groups.specs.Modes.{cause_of};
-ghost use Rattle.liberty_groups.specs.Grammar.{is_piece};
-ghost use Rattle.liberty_groups.specs.Steps.{names_library, names_statement, start_does, library_does, args_does, opening_does, body_does, name_does, value_does, behind_args_does, end_does, does, settles};
+ghost use Rattle.liberty_groups.specs.Steps.{does, settles};
 
 use crate::faults::Cause;
 use crate::scan::Kind;
@@ -77,125 +76,6 @@ fn refuse(kind: Kind, other: Cause) -> Step
     }
 }
 
-/// Whether a token is a word or a text.
-fn is_piece(kind: Kind) -> bool
-    ensures { result ≡ is_piece kind }
-{
-    matches!(kind, Kind::Word | Kind::Quoted)
-}
-
-/// Whether a token is the word `library`.
-fn names_library(kind: Kind, bytes: &[u8]) -> bool
-    ensures { result ≡ names_library kind bytes.now }
-{
-    match kind {
-        Kind::Word => bytes == b"library".as_slice(),
-        _ => false,
-    }
-}
-
-/// Whether a token may be the name of a statement.
-fn names_statement(kind: Kind, bytes: &[u8]) -> bool
-    ensures { result ≡ names_statement kind bytes.now }
-{
-    match kind {
-        Kind::Word => bytes != b"include_file".as_slice(),
-        _ => false,
-    }
-}
-
-fn start_step(kind: Kind, bytes: &[u8]) -> Step
-    ensures { result ≡ start_does kind (names_library kind bytes.now) }
-{
-    if names_library(kind, bytes) {
-        Step::Begin(Mode::LibraryName)
-    } else {
-        refuse(kind, Cause::NotLibrary)
-    }
-}
-
-fn library_step(kind: Kind) -> Step
-    ensures { result ≡ library_does kind }
-{
-    match kind {
-        Kind::LeftParen => Step::Go(Mode::LibraryArgs),
-        _ => refuse(kind, Cause::Unexpected),
-    }
-}
-
-/// Among arguments, where others follow, or what stands behind them.
-fn args_step(kind: Kind, here: Mode, behind: Mode) -> Step
-    ensures { result ≡ args_does kind here behind }
-{
-    match kind {
-        Kind::Word | Kind::Quoted => Step::Part(here),
-        Kind::Comma => Step::Go(here),
-        Kind::RightParen => Step::Go(behind),
-        _ => refuse(kind, Cause::Unexpected),
-    }
-}
-
-fn opening_step(kind: Kind) -> Step
-    ensures { result ≡ opening_does kind }
-{
-    match kind {
-        Kind::LeftBrace => Step::OpenLibrary,
-        _ => refuse(kind, Cause::Unexpected),
-    }
-}
-
-/// Where a statement may begin.
-fn body_step(kind: Kind, bytes: &[u8]) -> Step
-    ensures { result ≡ body_does kind (names_statement kind bytes.now) }
-{
-    match kind {
-        Kind::Semicolon => Step::Go(Mode::Body),
-        Kind::RightBrace => Step::Close,
-        _ if names_statement(kind, bytes) => Step::Begin(Mode::Name),
-        _ => refuse(kind, Cause::Unexpected),
-    }
-}
-
-fn name_step(kind: Kind) -> Step
-    ensures { result ≡ name_does kind }
-{
-    match kind {
-        Kind::Colon => Step::Go(Mode::Colon),
-        Kind::LeftParen => Step::Go(Mode::Args),
-        _ => refuse(kind, Cause::Unexpected),
-    }
-}
-
-fn value_step(kind: Kind) -> Step
-    ensures { result ≡ value_does kind (is_piece kind) }
-{
-    if is_piece(kind) {
-        Step::Piece
-    } else {
-        refuse(kind, Cause::Unexpected)
-    }
-}
-
-/// Behind arguments; `deep` says that no group may be opened.
-fn behind_args_step(kind: Kind, deep: bool) -> Step
-    ensures { result ≡ behind_args_does kind deep }
-{
-    match kind {
-        Kind::LeftBrace if deep => Step::Refuse(Cause::TooDeep),
-        Kind::LeftBrace => Step::Open,
-        _ => refuse(kind, Cause::Unexpected),
-    }
-}
-
-fn end_step(kind: Kind) -> Step
-    ensures { result ≡ end_does kind }
-{
-    match kind {
-        Kind::Semicolon => Step::Go(Mode::End),
-        _ => refuse(kind, Cause::Unexpected),
-    }
-}
-
 impl Mode {
     /// Whether a token shows that an attribute has ended.
     #[inline]
@@ -203,7 +83,7 @@ impl Mode {
         ensures { result ≡ settles self kind fresh }
     {
         match self {
-            Mode::Value => fresh || !is_piece(kind),
+            Mode::Value => fresh || !matches!(kind, Kind::Word | Kind::Quoted),
             Mode::ArgsEnd => !matches!(kind, Kind::LeftBrace),
             _ => false,
         }
@@ -214,18 +94,32 @@ impl Mode {
     pub fn next(self, deep: bool, kind: Kind, bytes: &[u8]) -> Step
         ensures { result ≡ does self deep kind bytes.now }
     {
-        match self {
-            Mode::Start => start_step(kind, bytes),
-            Mode::LibraryName => library_step(kind),
-            Mode::LibraryArgs => args_step(kind, Mode::LibraryArgs, Mode::LibraryBody),
-            Mode::LibraryBody => opening_step(kind),
-            Mode::Body => body_step(kind, bytes),
-            Mode::Name => name_step(kind),
-            Mode::Colon => value_step(kind),
-            Mode::Value => Step::Piece,
-            Mode::Args => args_step(kind, Mode::Args, Mode::ArgsEnd),
-            Mode::ArgsEnd => behind_args_step(kind, deep),
-            Mode::End => end_step(kind),
+        match (self, kind) {
+            (Mode::Start, Kind::Word) if bytes == b"library".as_slice() => {
+                Step::Begin(Mode::LibraryName)
+            }
+            (Mode::Start, _) => refuse(kind, Cause::NotLibrary),
+            (Mode::LibraryName, Kind::LeftParen) => Step::Go(Mode::LibraryArgs),
+            (Mode::LibraryArgs, Kind::Word | Kind::Quoted) => Step::Part(Mode::LibraryArgs),
+            (Mode::LibraryArgs, Kind::Comma) => Step::Go(Mode::LibraryArgs),
+            (Mode::LibraryArgs, Kind::RightParen) => Step::Go(Mode::LibraryBody),
+            (Mode::LibraryBody, Kind::LeftBrace) => Step::OpenLibrary,
+            (Mode::Body, Kind::Semicolon) => Step::Go(Mode::Body),
+            (Mode::Body, Kind::RightBrace) => Step::Close,
+            (Mode::Body, Kind::Word) if bytes != b"include_file".as_slice() => {
+                Step::Begin(Mode::Name)
+            }
+            (Mode::Name, Kind::Colon) => Step::Go(Mode::Colon),
+            (Mode::Name, Kind::LeftParen) => Step::Go(Mode::Args),
+            (Mode::Colon, Kind::Word | Kind::Quoted) => Step::Piece,
+            (Mode::Value, _) => Step::Piece,
+            (Mode::Args, Kind::Word | Kind::Quoted) => Step::Part(Mode::Args),
+            (Mode::Args, Kind::Comma) => Step::Go(Mode::Args),
+            (Mode::Args, Kind::RightParen) => Step::Go(Mode::ArgsEnd),
+            (Mode::ArgsEnd, Kind::LeftBrace) if deep => Step::Refuse(Cause::TooDeep),
+            (Mode::ArgsEnd, Kind::LeftBrace) => Step::Open,
+            (Mode::End, Kind::Semicolon) => Step::Go(Mode::End),
+            _ => refuse(kind, Cause::Unexpected),
         }
     }
 }

@@ -1,6 +1,6 @@
 //! What the reader has made of the parts of a file so far.
 ghost use Rattle.std.specs.Prelude.{◌≡◌, ◌+◌, ◌<◌, ◌≤◌, ◌^◌, ◌∷◌, [], ◌++◌, ℕ, List, length, IfOk, OnOk};
-ghost use Rattle.token_texts.specs.Cuts.{Part, gap};
+ghost use Rattle.token_texts.specs.Cuts.{Part};
 ghost use Rattle.token_texts.specs.Readings.{IfRefused};
 ghost use Rattle.liberty_groups.specs.Places.{size_of};
 ghost use Rattle.liberty_groups.specs.Feeding.{part_of, LeadsTo, RefusesAt, CanGoOn, HasRead, StopsAny};
@@ -47,20 +47,6 @@ impl Progress {
         }
     }
 
-    /// Goes on behind bytes that are passed over.
-    #[inline]
-    fn skip(&mut self, bytes: &[u8])
-        requires some { 0 < length bytes.now }
-        requires bytes { self.old.start + length bytes.now < 2 ^ 32 }
-        requires goes_on { CanGoOn self.old }
-        ensures start { self.new.start ≡ self.old.start + length bytes.now }
-        ensures goes_on { CanGoOn self.new }
-        ensures ok { (before : List (Part Kind)) → LeadsTo before self.old → LeadsTo (before ++ gap bytes.now ∷ []) self.new }
-    {
-        self.reader.pass(bytes);
-        self.start += bytes.len();
-    }
-
     /// Goes on behind the blanks at the front of some bytes, each of which is a part, and answers what is left.
     #[inline]
     fn pass_blanks<'a>(&mut self, bytes: &'a [u8]) -> &'a [u8]
@@ -104,7 +90,8 @@ impl Progress {
     {
         match cut {
             Cut::Skip(_) => {
-                self.skip(bytes);
+                self.reader.pass(bytes);
+                self.start += bytes.len();
                 Ok(())
             }
             Cut::Take(_, kind) => match self.reader.take(self.number, self.start, kind, bytes) {

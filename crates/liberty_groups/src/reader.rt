@@ -1,6 +1,6 @@
 //! The reader: takes one token after another, whole or not at all.
 ghost use Rattle.std.specs.Prelude.{◌≡◌, ◌<◌, ◌^◌, ℕ, false, length, IfOk, OnOk};
-ghost use Rattle.liberty_groups.specs.Modes.{first_state, closed, step_in};
+ghost use Rattle.liberty_groups.specs.Modes.{first_state, step_in};
 ghost use Rattle.liberty_groups.specs.Steps.{settles, applied};
 ghost use Rattle.liberty_groups.specs.Tokens.{cut_at, said_by};
 ghost use Rattle.liberty_groups.specs.Building.{begun_as, behind, lexeme};
@@ -84,21 +84,6 @@ impl Reader {
         self.builder.begin(text.bytes())
     }
 
-    /// Ends the innermost group.
-    fn close(&mut self) -> Result<(), OutOfMemory>
-        requires sound { IsSound self.old }
-        requires built { IsBuilt self.old.builder }
-        ensures state { OnOk result (state_of self.new ≡ closed (built_of self.old.builder).frames) }
-        ensures sound { OnOk result (IsSound self.new) }
-        ensures built { OnOk result (IsBuilt self.new.builder) }
-    {
-        if self.depth > 1 {
-            self.add(Event::Close, Mode::Body, self.depth - 1)
-        } else {
-            self.add(Event::Close, Mode::End, self.depth)
-        }
-    }
-
     /// Does what a step says that a token of this kind and of these bytes makes, or says why the token is refused.
     #[inline(always)]
     fn step(&mut self, step: Step, kind: Kind, bytes: &[u8]) -> Result<Option<Cause>, OutOfMemory>
@@ -127,7 +112,8 @@ impl Reader {
             }
             Step::OpenLibrary => self.add(Event::OpenLibrary, Mode::Body, 1)?,
             Step::Open => self.add(Event::Open, Mode::Body, self.depth + 1)?,
-            Step::Close => self.close()?,
+            Step::Close if self.depth > 1 => self.add(Event::Close, Mode::Body, self.depth - 1)?,
+            Step::Close => self.add(Event::Close, Mode::End, self.depth)?,
         }
         Ok(None)
     }

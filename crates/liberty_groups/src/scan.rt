@@ -1,7 +1,5 @@
 //! Parts a file's bytes into tokens.
 ghost use Rattle.std.specs.Prelude.{◌≡◌, ◌+◌, ◌^◌, ◌<◌, ◌≤◌, length, position};
-ghost use Rattle.std.specs.List.{list_any};
-ghost use Rattle.token_texts.specs.Blanks.{is_line_end};
 ghost use Rattle.liberty_groups.specs.Tokens.{ends_gap, continuation, mark_of, is_mark, is_plain, begins_comment, goes_on, opened_behind, word_length, backslash_cut, cut_at, breaks};
 ghost use Rattle.liberty_groups.specs.Cuts.{word_cut, is_simple, is_behind_backslash};
 ghost use Rattle.token_texts.specs.Cuts.{IsWithin};
@@ -231,13 +229,6 @@ pub(crate) fn cut_at(first: u8, rest: &[u8]) -> Cut<Kind>
     }
 }
 
-/// Whether a line end stands among the bytes.
-fn has_line_end(bytes: &[u8]) -> bool
-    ensures { result ≡ list_any is_line_end bytes.now }
-{
-    bytes.contains(&b'\n')
-}
-
 /// Whether a line end that is no continuation's stands in bytes that are passed over.
 #[inline]
 pub(crate) fn breaks(passed: &[u8]) -> bool
@@ -246,6 +237,6 @@ pub(crate) fn breaks(passed: &[u8]) -> bool
     match passed {
         // Blanks are passed over one by one.
         [byte] => *byte == b'\n',
-        _ => !begins_with(b'\\', passed) && has_line_end(passed),
+        _ => !begins_with(b'\\', passed) && passed.contains(&b'\n'),
     }
 }
