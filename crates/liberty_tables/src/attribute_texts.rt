@@ -1,9 +1,9 @@
 //! What the attributes of a group say.
 ghost use Rattle.std.specs.Prelude.{◌≡◌, IfSome};
-ghost use Rattle.std.specs.Option.{option_copied, option_map};
+ghost use Rattle.std.specs.Option.{option_map};
 ghost use Rattle.liberty_groups.specs.Groups.{attributes_of};
 ghost use Rattle.liberty_groups.specs.Tables.{attribute_at, group_at, IsGroup, IsAttribute};
-ghost use Rattle.liberty_tables.specs.Attributes.{values_of, simple_of};
+ghost use Rattle.liberty_tables.specs.Attributes.{values_of};
 
 use liberty_groups::{AttrId, GroupId, GroupTree};
 
@@ -15,16 +15,4 @@ pub(crate) fn last_of(tree: &GroupTree, group: GroupId, key: &[u8]) -> Option<At
     ensures within { IfSome result (λ attribute. IsAttribute tree.now attribute.0) }
 {
     tree.attribute(group, key)
-}
-
-/// The value of a simple attribute of a group, as `direction : input`: the first, where more are written, and an empty text, where none is.
-pub(crate) fn simple<'a>(tree: &'a GroupTree, group: GroupId, key: &[u8]) -> Option<&'a [u8]>
-    requires { IsGroup tree.now group.0 }
-    ensures { option_copied result ≡ simple_of key.now (attributes_of (group_at tree.now group.0)) }
-{
-    let attribute = last_of(tree, group, key)?;
-    if tree.value_count(attribute) == 0 {
-        return Some(&[]);
-    }
-    Some(tree.value(attribute, 0).bytes())
 }

@@ -2,18 +2,22 @@
 ghost use Rattle.std.specs.Prelude.{◌≡◌, IfSome};
 ghost use Rattle.std.specs.Option.{option_copied, option_map};
 ghost use Rattle.liberty_groups.specs.Tables.{attribute_at, group_at, IsAttribute, IsGroup};
-ghost use Rattle.liberty_tables.specs.Library.{is_named, is_for, first_arg, first_group, group_for, value_in, values_in};
+ghost use Rattle.liberty_tables.specs.Library.{is_named, first_arg, first_group, value_in, values_in};
 
-use crate::attribute_texts::{last_of, simple};
+use crate::attribute_texts::last_of;
 use liberty_groups::{AttrId, GroupId, GroupTree};
 
-/// The value of a simple attribute of a group.
+/// The value of a simple attribute of a group, as `direction : input`: the first, where more are written, and an empty text, where none is.
 #[tactic(auto, unfolding(crate::specs::Library::value_in))]
 pub fn value_in<'a>(tree: &'a GroupTree, group: GroupId, key: &[u8]) -> Option<&'a [u8]>
     requires { IsGroup tree.now group.0 }
     ensures { option_copied result ≡ value_in key.now (group_at tree.now group.0) }
 {
-    simple(tree, group, key)
+    let attribute = last_of(tree, group, key)?;
+    if tree.value_count(attribute) == 0 {
+        return Some(&[]);
+    }
+    Some(tree.value(attribute, 0).bytes())
 }
 
 /// The last attribute of a name in a group.
@@ -46,19 +50,6 @@ pub(crate) fn first_arg<'a>(tree: &'a GroupTree, group: GroupId) -> Option<&'a [
     Some(tree.arg(group, 0).bytes())
 }
 
-fn is_for(tree: &GroupTree, group: GroupId, name: &[u8], arg: &[u8]) -> bool
-    requires { IsGroup tree.now group.0 }
-    ensures { result ≡ is_for name.now arg.now (group_at tree.now group.0) }
-{
-    if !is_named(tree, group, name) {
-        return false;
-    }
-    match first_arg(tree, group) {
-        None => false,
-        Some(first) => first == arg,
-    }
-}
-
 /// The first group of a name in a group.
 #[tactic(auto, using(crate::proofs::Fronts::found_at, crate::proofs::Fronts::passed_at, crate::proofs::Fronts::none_behind), unfolding(crate::specs::Library::first_group))]
 pub fn first_group(tree: &GroupTree, outer: GroupId, name: &[u8]) -> Option<GroupId>
@@ -70,22 +61,6 @@ pub fn first_group(tree: &GroupTree, outer: GroupId, name: &[u8]) -> Option<Grou
         let inner = tree.child(outer, place);
         if is_named(tree, inner, name) {
             return Some(inner);
-        }
-    }
-    None
-}
-
-/// The group of a name and a first argument in a group: the first of several.
-#[tactic(auto, using(crate::proofs::Fronts::found_at, crate::proofs::Fronts::passed_at, crate::proofs::Fronts::none_behind), unfolding(crate::specs::Library::group_for))]
-pub fn group_for(tree: &GroupTree, outer: GroupId, name: &[u8], arg: &[u8]) -> Option<GroupId>
-    requires { IsGroup tree.now outer.0 }
-    ensures first { option_map (λ inner. group_at tree.now inner.0) result ≡ group_for name.now arg.now (group_at tree.now outer.0) }
-    ensures within { IfSome result (λ inner. IsGroup tree.now inner.0) }
-{
-    for place in 0..tree.child_count(outer) {
-        let candidate = tree.child(outer, place);
-        if is_for(tree, candidate, name, arg) {
-            return Some(candidate);
         }
     }
     None

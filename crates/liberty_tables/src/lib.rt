@@ -17,7 +17,7 @@ mod units;
 
 pub use faults::CellFault;
 pub use group_index::GroupIndex;
-pub use groups::{first_group, group_for, is_named, value_in};
+pub use groups::{first_group, is_named, value_in};
 pub use laws::one_table;
 pub use library_units::LibraryUnits;
 pub use table_names::TableNames;

@@ -10,9 +10,10 @@ ghost use Rattle.liberty_tables.specs.TableModel.{PointsMean};
 ghost use Rattle.liberty_tables.specs.Templates.{axis_of, both, variables_by, variables_of, template_of};
 ghost use Rattle.liberty_tables.specs.TemplateIndex.{AreTemplates, IsReadOf, IsReadAt, IsNamedBy, IsUnder};
 
-use crate::attribute_texts::{last_of, simple};
+use crate::attribute_texts::last_of;
 use crate::faults::CellFault;
 use crate::group_index::GroupIndex;
+use crate::groups::value_in;
 use crate::library_units::LibraryUnits;
 use crate::table_axes::axis_at;
 use crate::table_names::TableNames;
@@ -80,15 +81,16 @@ fn variables_by(
 }
 
 // The variables of a group that is a template, if they are known ones.
+#[tactic(auto, unfolding(crate::specs::Library::value_in))]
 fn variables_of(tree: &GroupTree, called: &TableNames, group: GroupId) -> Option<Variables>
     requires { IsGroup tree.now group.0 }
     ensures { result ≡ variables_of called.now (attributes_of (group_at tree.now group.0)) }
 {
     variables_by(
         called,
-        simple(tree, group, b"variable_1"),
-        simple(tree, group, b"variable_2"),
-        simple(tree, group, b"variable_3"),
+        value_in(tree, group, b"variable_1"),
+        value_in(tree, group, b"variable_2"),
+        value_in(tree, group, b"variable_3"),
     )
 }
 
