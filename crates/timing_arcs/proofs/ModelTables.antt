@@ -2,7 +2,7 @@
 use Rattle.std.proofs.Common.{◌≡◌, ℕ, zero, suc, ◌≤◌, List, [], ◌∷◌, Option, Some, None, ℤ, pos, Ok, arith}
 use Rattle.std.specs.Prelude.{◌+◌, All, IfSome, slice_get}
 use Rattle.std.specs.List.{AllByRecursion, AllZip}
-use Rattle.std.proofs.lemmas.List.Elements.{All-cons, All-nil}
+use Rattle.std.proofs.lemmas.List.Elements.{All-cons, All-nil, All-from_recursion}
 use Rattle.delay_units.specs.declared.numbers.Unit.{Unit}
 use Rattle.liberty_groups.specs.Groups.{Attribute, Group}
 use Rattle.nldm_lookup.specs.Axes.{most, IsAxis}
@@ -16,6 +16,8 @@ use Rattle.timing_arcs.specs.CellModel.{IsModel}
 use Rattle.cell_models.specs.Cells.{TimedCell}
 use Rattle.timing_arcs.specs.DelayGroups.{ArcEntry, arcs_of, AreEdgeTables, no_edge, edge, IsArc}
 use Rattle.timing_arcs.specs.DelayTables.{delay_names}
+pub use Rattle.timing_arcs.specs.WholeTables.{AreTables, HasTables}
+use Rattle.timing_arcs.specs.WholeTables.{WholeTables}
 use Rattle.liberty_tables.specs.TableModel.{IsAxisOf, are_points, AxisMeans, of_readings, PointsMean, of_variable, of_none, ValuesMean, are_values, table_over, IsFull, TableMeans, is_table, TransitionMeans, settled}
 
 axis_of : (readings : List ℤ) (points : List ℕ) → IsAxisOf readings (Ok points) → IsAxis points
@@ -60,20 +62,10 @@ made_is_table library table units _ (is_table template variables first second va
 transition_is_table : (library table : Group) (units : LibraryUnits) (made : TimingTable) → TransitionMeans delay_names library table units (Ok made) → IsTable made
 transition_is_table library table units made (settled _ means all) = made_is_table library table units made means
 
--- both tables of an edge
-pub record AreTables (tables : EdgeTables) : Type 0 where
-  pub delay : IsTable tables.delay
-  pub slew : IsTable tables.slew
-
 edge_tables : (library : Group) (delay slew : Option Group) (tables : Option EdgeTables) → AreEdgeTables library delay slew tables → IfSome tables AreTables
 edge_tables library _ _ _ no_edge = tt
 edge_tables library _ _ _ (edge {delay = d} {slew = s} {tables = t} {units = u} known means shows) =
     record { delay = made_is_table library d u t.delay means; slew = transition_is_table library s u t.slew shows }
-
--- the tables of an arc
-pub record HasTables (arc : Arc) : Type 0 where
-  pub rise : IfSome arc.rise AreTables
-  pub fall : IfSome arc.fall AreTables
 
 arcs_have : (library : Group) (names : List (List ℕ)) (entries : List ArcEntry) (arcs : List Arc) → AllZip (IsArc library names) entries arcs → AllByRecursion HasTables arcs
 arcs_have library names [] [] all = tt
@@ -84,3 +76,6 @@ arcs_have library names (entry ∷ entries) (arc ∷ arcs) all =
 
 pub model_tables : (library : Group) (name : List ℕ) (cell : TimedCell) → IsModel library name cell → AllByRecursion HasTables cell.arcs
 model_tables library name cell is = arcs_have library _ (arcs_of is.group) cell.arcs is.arcs
+
+pub whole_tables : WholeTables
+whole_tables library name cell is = All-from_recursion HasTables cell.arcs (model_tables library name cell is)

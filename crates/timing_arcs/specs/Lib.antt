@@ -13,3 +13,4 @@ pub mod PinReadings
 pub mod PinTable
 pub mod RelatedPins
 pub mod Sizes
+pub mod WholeTables

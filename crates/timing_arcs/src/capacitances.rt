@@ -1,6 +1,5 @@
 //! The capacitance of an input pin (Liberty, `capacitance`, `rise_capacitance`, `fall_capacitance`, `default_input_pin_cap`).
 ghost use Rattle.std.specs.Prelude.{◌≡◌, ℕ, [], ◌∷◌, IfSome, IfNone};
-ghost use Rattle.delay_units.specs.declared.amounts.Amount.TheVariants.{Within, Past};
 ghost use Rattle.liberty_groups.specs.Tables.{tree_of, group_at, IsGroup};
 ghost use Rattle.timing_arcs.specs.PinModel.{capacitance_texts, default_texts, edges_texts, IsCapacitance};
 ghost use Rattle.timing_arcs.specs.Sizes.{larger_size, grains_within};
@@ -13,30 +12,12 @@ use liberty_tables::value_in;
 fn larger_amount(one: Amount, other: Amount) -> Amount
     ensures { result ≡ larger_size one other }
 {
-    match one {
-        Amount::Unread => Amount::Unread,
-        Amount::Below => other,
-        Amount::Within(grains) => larger_than(grains, other),
-        Amount::Past => beside_past(other),
-    }
-}
-
-fn larger_than(grains: u64, other: Amount) -> Amount
-    ensures { result ≡ larger_size (Within grains) other }
-{
-    match other {
-        Amount::Below => Amount::Within(grains),
-        Amount::Within(others) => Amount::Within(grains.max(others)),
-        _ => other,
-    }
-}
-
-fn beside_past(other: Amount) -> Amount
-    ensures { result ≡ larger_size Past other }
-{
-    match other {
-        Amount::Unread => Amount::Unread,
-        _ => Amount::Past,
+    match (one, other) {
+        (Amount::Unread, _) | (_, Amount::Unread) => Amount::Unread,
+        (Amount::Past, _) | (_, Amount::Past) => Amount::Past,
+        (Amount::Below, _) => other,
+        (_, Amount::Below) => one,
+        (Amount::Within(grains), Amount::Within(others)) => Amount::Within(grains.max(others)),
     }
 }
 

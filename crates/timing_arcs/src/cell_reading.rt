@@ -135,7 +135,7 @@ impl<'a> CellReading<'a> {
         ensures same { IsTrue result → slice_get self.now.groups (place - 1) ≡ slice_get self.now.groups place }
         ensures reading { IsReading self.now }
     {
-        self.table.repeats(place)
+        place > 0 && self.table.group(place - 1) == self.table.group(place)
     }
 
     /// The first group of this name in a group.

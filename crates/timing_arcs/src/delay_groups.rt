@@ -1,11 +1,11 @@
 //! The delay groups of a cell and their arcs (Liberty, `timing`).
-ghost use Rattle.std.specs.Prelude.{◌≡◌, ℕ, ◌<◌, ◌++◌, ◌∷◌, [], length, List, All, Some, IfOk, OnOk, IfErr, IfSome, IfNone, slice_get, flat_map, filter, map, codes, is_some, unwrap_or};
+ghost use Rattle.std.specs.Prelude.{◌≡◌, ℕ, ◌<◌, ◌++◌, ◌∷◌, [], length, List, All, Some, IfOk, OnOk, IfErr, IfSome, IfNone, slice_get, flat_map, filter, map, codes, unwrap_or};
 ghost use Rattle.std.specs.Option.{option_map};
 ghost use Rattle.liberty_groups.specs.Groups.{Group, groups_of};
 ghost use Rattle.liberty_groups.specs.Tables.{tree_of, group_at, IsGroup};
-ghost use Rattle.liberty_tables.specs.Library.{value_in, first_group};
+ghost use Rattle.liberty_tables.specs.Library.{value_in};
 ghost use Rattle.timing_arcs.specs.PinModel.{PinEntry, is_output};
-ghost use Rattle.timing_arcs.specs.DelayGroups.{is_delay_type, is_delay_group, delays_in, kind_by, kind_of, ArcEntry, arcs_in, AreEdgeTables, IsRise, IsFall, IsArc};
+ghost use Rattle.timing_arcs.specs.DelayGroups.{is_delay_type, is_delay_group, delays_in, kind_of, ArcEntry, arcs_in, AreEdgeTables, IsRise, IsFall, IsArc};
 ghost use Rattle.timing_arcs.specs.LibraryBasis.{IsTiming, arc_from, AddsArcs, AreAdded, arcs_from, questions_from, IsNoMemory};
 ghost use Rattle.timing_arcs.specs.CellReading.{entries_of, library_of, delay_at};
 ghost use Rattle.timing_arcs.specs.CellFaults.{edge_questions, rise_questions, fall_questions, delay_questions, IsSound, IsRefusal};
@@ -40,13 +40,6 @@ fn has_delay_type(tree: &GroupTree, group: GroupId) -> bool
     }
 }
 
-fn has_group(tree: &GroupTree, group: GroupId, name: &[u8]) -> bool
-    requires { IsGroup tree.now group.0 }
-    ensures { result ≡ is_some (first_group name.now (group_at tree.now group.0)) }
-{
-    first_group(tree, group, name).is_some()
-}
-
 /// Whether a `timing` group is a delay group: of a type that is a delay, with a delay table.
 #[tactic(auto, unfolding(crate::specs::DelayGroups::is_delay_group))]
 fn is_delay_group(tree: &GroupTree, group: GroupId) -> bool
@@ -55,23 +48,8 @@ fn is_delay_group(tree: &GroupTree, group: GroupId) -> bool
 {
     is_named(tree, group, b"timing")
         && has_delay_type(tree, group)
-        && (has_group(tree, group, b"cell_rise") || has_group(tree, group, b"cell_fall"))
-}
-
-fn kind_by(type_: &[u8], sense: &[u8]) -> ArcKind
-    ensures { result ≡ kind_by type_.now sense.now }
-{
-    if type_ == b"rising_edge".as_slice() {
-        ArcKind::RisingEdge
-    } else if type_ == b"falling_edge".as_slice() {
-        ArcKind::FallingEdge
-    } else if sense == b"positive_unate".as_slice() {
-        ArcKind::Positive
-    } else if sense == b"negative_unate".as_slice() {
-        ArcKind::Negative
-    } else {
-        ArcKind::Both
-    }
+        && (first_group(tree, group, b"cell_rise").is_some()
+            || first_group(tree, group, b"cell_fall").is_some())
 }
 
 fn text_in<'a>(tree: &'a GroupTree, group: GroupId, key: &[u8]) -> &'a [u8]
@@ -90,10 +68,19 @@ fn kind_of(tree: &GroupTree, group: GroupId) -> ArcKind
     requires { IsGroup tree.now group.0 }
     ensures { result ≡ kind_of (group_at tree.now group.0) }
 {
-    kind_by(
-        text_in(tree, group, b"timing_type"),
-        text_in(tree, group, b"timing_sense"),
-    )
+    let type_ = text_in(tree, group, b"timing_type");
+    let sense = text_in(tree, group, b"timing_sense");
+    if type_ == b"rising_edge".as_slice() {
+        ArcKind::RisingEdge
+    } else if type_ == b"falling_edge".as_slice() {
+        ArcKind::FallingEdge
+    } else if sense == b"positive_unate".as_slice() {
+        ArcKind::Positive
+    } else if sense == b"negative_unate".as_slice() {
+        ArcKind::Negative
+    } else {
+        ArcKind::Both
+    }
 }
 
 // The tables of an edge that has a delay table.

@@ -12,12 +12,11 @@ mod library;
 mod library_basis;
 mod pins;
 mod related_pins;
-mod units;
 
 pub use cell_models::{
     Arc, ArcKind, Cell, CellList, CellSet, CellSets, Direction, EdgeTables, Entry, JoinEnd, Pin,
     ShapeFault, join_corners, one_shape_fault,
 };
-pub use laws::one_cell_answer;
+pub use laws::{models_have_whole_tables, one_cell_answer};
 pub use liberty_tables::{CellFault, one_table};
 pub use library::Library;

@@ -7,10 +7,9 @@ ghost use Rattle.timing_arcs.specs.DelayTables.{delay_names};
 ghost use Rattle.timing_arcs.specs.LibraryBasis.{IsBasis};
 
 use crate::capacitances::default_capacitance;
-use crate::units::library_units;
 use edge_io::{OutOfMemory, Text};
 use liberty_groups::GroupTree;
-use liberty_tables::{CellFault, LibraryUnits, TableNames, Templates};
+use liberty_tables::{CellFault, LibraryUnits, TableNames, Templates, load_unit, time_unit};
 use std::alloc::Global;
 
 /// What the pins and the tables of all cells of a library stand on: its units, what the variables of its tables are called, its templates,
@@ -56,7 +55,8 @@ fn with_units(
     })
 }
 
-/// What the cells of a library stand on, or why none has a model.
+/// What the cells of a library stand on (Liberty, `time_unit` and `capacitive_load_unit`), or why none has a model. A bad unit of time
+/// comes before a bad one of loads.
 pub(crate) fn library_basis(
     alloc: Global,
     tree: &GroupTree,
@@ -64,11 +64,12 @@ pub(crate) fn library_basis(
     ensures ok { IfOk result (λ basis. IfOk basis (IsBasis tree.now)) }
     ensures refused { IfOk result (λ basis. IfErr basis (IsRefusal (tree_of tree.now) unit_questions)) }
 {
-    match library_units(tree) {
-        Ok(units) => {
-            let basis = with_units(alloc, tree, units)?;
-            Ok(Ok(basis))
-        }
-        Err(fault) => Ok(Err(fault)),
-    }
+    let Some(time) = time_unit(tree) else {
+        return Ok(Err(CellFault::BadUnit));
+    };
+    let Some(load) = load_unit(tree) else {
+        return Ok(Err(CellFault::BadUnit));
+    };
+    let basis = with_units(alloc, tree, LibraryUnits { time, load })?;
+    Ok(Ok(basis))
 }

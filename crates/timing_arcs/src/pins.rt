@@ -1,7 +1,6 @@
 //! The pins of a cell (Liberty, `pin`).
-ghost use Rattle.std.specs.Prelude.{◌≡◌, ℕ, ◌++◌, ◌∷◌, [], ◌<◌, ◌≤◌, ◌^◌, ◌-◌, IsTrue, length, List, All, Contains, flat_map, filter, codes, Some, None, IfOk, OnOk, IfErr, IfSome, IfNone, slice_get, drop, fold, map};
+ghost use Rattle.std.specs.Prelude.{◌≡◌, ℕ, ◌++◌, ◌∷◌, [], ◌<◌, ◌≤◌, ◌^◌, length, List, All, Contains, flat_map, filter, codes, Some, None, IfOk, OnOk, IfErr, IfSome, IfNone, slice_get, drop, fold, map};
 ghost use Rattle.std.specs.List.{AllZip};
-ghost use Rattle.name_table.specs.Names.{AreDistinct};
 ghost use Rattle.liberty_groups.specs.Tables.{Tables, tree_of, group_at, IsGroup};
 ghost use Rattle.liberty_tables.specs.declared.faults.CellFault.TheVariants.{BadNumber};
 ghost use Rattle.liberty_tables.specs.Library.{is_named};
@@ -31,13 +30,6 @@ pub(crate) struct PinTable {
 }
 
 impl PinTable {
-    /// No two names are one. What is looked up does not matter.
-    pub fn distinct(&self)
-        ensures { AreDistinct self.now.names }
-    {
-        let _place = self.names.find(&[]);
-    }
-
     /// The name of a pin.
     fn name(&self, place: usize) -> &[u8]
         requires { place < length self.now.names }
@@ -53,15 +45,6 @@ impl PinTable {
         ensures { slice_get self.now.groups.items place ≡ Some result }
     {
         self.groups[place]
-    }
-
-    /// Whether the group of a name is that of the name before.
-    pub fn repeats(&self, place: usize) -> bool
-        requires { place < length self.now.groups.items }
-        ensures behind { IsTrue result → 0 < place }
-        ensures same { IsTrue result → slice_get self.now.groups.items (place - 1) ≡ slice_get self.now.groups.items place }
-    {
-        place > 0 && self.group(place - 1) == self.group(place)
     }
 }
 

@@ -15,7 +15,7 @@ returns-in-Err-read_pins-clause-refused c =
 
 pub of-requires : goal.of-requires
 of-requires c =
-    cell_kept (tree_of c.args.tree.now) c.args.tree.now c.in-Ok.table.names c.in-Ok.table.groups.items c.in-Ok-read_pins.pins.items c.in-Ok.ensures.even c.distinct.ensures c.in-Ok-read_pins.ensures.ok c.in-Ok-read_arcs.arcs.items (subst (λ (r : CellParts). AreArcsOf (library_of r) r.names (entries_of r) c.in-Ok-read_arcs.arcs.items) c.new-cell.ensures c.in-Ok-read_arcs.ensures.ok)
+    cell_kept (tree_of c.args.tree.now) c.args.tree.now c.in-Ok.table.names c.in-Ok.table.groups.items c.in-Ok-read_pins.pins.items c.in-Ok.ensures.even c.find-place.ensures.distinct c.in-Ok-read_pins.ensures.ok c.in-Ok-read_arcs.arcs.items (subst (λ (r : CellParts). AreArcsOf (library_of r) r.names (entries_of r) c.in-Ok-read_arcs.arcs.items) c.new-cell.ensures c.in-Ok-read_arcs.ensures.ok)
 
 pub returns-in-Ok-read_arcs-clause-ok : goal.returns-in-Ok-read_arcs-clause-ok
 returns-in-Ok-read_arcs-clause-ok c =
