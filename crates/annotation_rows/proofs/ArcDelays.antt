@@ -23,6 +23,7 @@ use Rattle.slew_order.specs.FlatArcs.{no_arc, arcs_of, cell_arc, flat_at}
 use Rattle.slew_order.specs.LivePaths.{delay_in, delay_by, if_value, input_state}
 use Rattle.slew_order.specs.Lookups.{lookup_of, answer_of, axis_end, value_of}
 use Rattle.slew_order.specs.Timings.{SlewSource, lookups_with, load_on, tables_of}
+use Rattle.slew_order.proofs.CornerTables.{entry_tables}
 use Rattle.slew_order.proofs.Links.{same_entry}
 use Rattle.annotation_rows.specs.CellPaths.{arc_in}
 use Rattle.annotation_rows.specs.PathRows.{TimedDesign, IsPrinted, arc_delay, arc_has, cell_arcs, states_of}
@@ -40,10 +41,6 @@ delay_is time answer value is held = sym (ap (λ a. option_map (λ (femto : Femt
 pub no_value : (answer : Option Femto) (value : Option ℤ) → answer ≡ None → option_map (λ (femto : Femto). femto.0) answer ≡ value
     → (let none : Option ℤ = None in none ≡ value)
 no_value answer value is held = sym (ap (λ a. option_map (λ (femto : Femto). femto.0) a) is) ∙ held
-
-pub entry_tables : (one other : Arc) (edge : Edge) → arc_entry one ≡ arc_entry other → arc_has one edge ≡ arc_has other edge
-entry_tables one other Rise same = cc
-entry_tables one other Fall same = cc
 
 none_there : (arc : Arc) (edge : Edge) → arc_has arc edge ≡ false → tables_of arc edge ≡ None
 none_there arc Rise none = by arc.rise none

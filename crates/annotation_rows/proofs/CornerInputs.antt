@@ -21,9 +21,9 @@ use Rattle.slew_order.proofs.Links.{have_nets}
 use Rattle.slew_order.proofs.Refusing.{worst_is}
 use Rattle.slew_order.proofs.SlewLaws.{agreeing_corners, all_there, worst_at_pins}
 use Rattle.annotation_rows.specs.RowLaws.{AreShaped}
-use Rattle.annotation_rows.proofs.AliveStates.{is_known, agree_known, behind_known, joined_known, slew_of}
-use Rattle.annotation_rows.proofs.CornerTables.{edge_there, tables_there}
-use Rattle.annotation_rows.proofs.NoStuck.{not_stuck, pin_before}
+use Rattle.slew_order.proofs.AliveStates.{is_known, agree_known, behind_known, joined_known, slew_of}
+use Rattle.slew_order.proofs.CornerTables.{edge_there, tables_there}
+use Rattle.slew_order.proofs.NoStuck.{not_stuck, pin_before}
 
 -- where a look-up gives a delay there are tables and a load
 parts_there : (source : SlewSource) (corner : ℕ) (tables : Option EdgeTables) (target : Option ℕ) (slew : ℕ)

@@ -1,19 +1,15 @@
-pub mod AliveStates
 pub mod ArcDelays
 pub mod BestSteps
 pub mod Bests
 pub mod CellArcs
 pub mod CornerInputs
-pub mod CornerTables
 pub mod EdgeTimes
 pub mod EdgeRows
 pub mod EndsThere
 pub mod Filling
 pub mod InstanceSteps
 pub mod Leading
-pub mod LongWalks
 pub mod ManyPaths
-pub mod NoStuck
 pub mod PathLists
 pub mod PathNumbers
 pub mod PrintedRows
@@ -21,5 +17,4 @@ pub mod Rounded
 pub mod RowLaws
 pub mod SpelledPins
 pub mod SpelledRows
-pub mod StuckStates
 pub mod WireLists

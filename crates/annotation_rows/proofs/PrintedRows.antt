@@ -26,7 +26,7 @@ use Rattle.annotation_rows.specs.PrintedRows.{IsWirePrinted, IsPathPrinted, Prin
 use Rattle.annotation_rows.specs.WireRows.{femto_of, net_rows, rows_from, wire_row, wire_rows}
 use Rattle.annotation_rows.proofs.ArcDelays.{printed}
 use Rattle.annotation_rows.proofs.EdgeRows.{one_of, printed_from}
-use Rattle.annotation_rows.proofs.Rounded.{half_up_rounds}
+use Rattle.slew_order.proofs.LookupValues.{half_up_rounds}
 
 time_small : (elmore : ℕ) (time : ℤ) → elmore < elmore_limit → IsRounding (pos elmore) (pos (10 ^ 12)) time → unsigned_abs time ≤ 10 ^ 27
 time_small elmore (pos time) small rounded = let least = rounded.least in omega (arith, ints, least, small)

@@ -17,6 +17,7 @@ use Rattle.slew_order.specs.NetStates.{states_at}
 use Rattle.net_delays.specs.NetTimes.{NetTimes, Fits}
 use Rattle.slew_order.specs.Slews.{SlewTables, AreTablesOf}
 use Rattle.slew_order.specs.Timings.{SlewSource, source_of}
+pub use Rattle.slew_order.specs.Timings.{arc_has}
 use Rattle.annotation_rows.specs.CellPaths.{arc_in, path_of}
 use Rattle.annotation_rows.specs.SdfEnds.{pin_sdf}
 use Rattle.annotation_rows.specs.WireRows.{at_corners}
@@ -47,11 +48,6 @@ abbrev pub all_times : List (Option ℤ) → Option (List Femto)
 all_times [] = Some []
 all_times (None ∷ values) = None
 all_times (Some value ∷ values) = with_time value (all_times values)
-
--- an arc gives its output pin an edge
-abbrev pub arc_has : Arc → Edge → Bool
-arc_has arc Rise = is_some arc.rise
-arc_has arc Fall = is_some arc.fall
 
 -- a time that may be missing, of a size that is printed
 abbrev pub IsPrinted : Option ℤ → Type 0

@@ -1,19 +1,14 @@
 -- The laws of the rows of paths.
 use Rattle.std.specs.Prelude.{◌≡◌, ◌↔◌, ℕ, ◌<◌, pos, List, [], ◌∷◌, length, get_or, Some, None}
-use Rattle.cell_models.specs.CornerCells.{AreCornerCells}
-use Rattle.cell_models.specs.NamedSets.{NamedCells, set_cells}
 use Rattle.cell_models.specs.declared.edge.Edge.{Edge}
 use Rattle.delay_units.specs.declared.Femto.{Femto}
 use Rattle.slew_order.specs.FlatArcs.{IsArcAt}
 use Rattle.slew_order.specs.LivePaths.{IsLivePath}
+pub use Rattle.slew_order.specs.Shapes.{AreShaped}
 use Rattle.slew_order.specs.Slews.{AreSlews}
 use Rattle.slew_order.specs.declared.arcs.ArcAt.{ArcAt}
 use Rattle.annotation_rows.specs.CellPaths.{arc_in, path_of}
 use Rattle.annotation_rows.specs.PathRows.{TimedDesign, cell_arcs, delay_of_path, edge_delays, path_row, rows_at, states_of}
-
--- each cell has one shape at so many corners
-abbrev pub AreShaped : ℕ → List NamedCells → Type 0
-AreShaped count cells = (cell : ℕ) → cell < length cells → AreCornerCells count (get_or (set_cells cells) cell [])
 
 -- a design that has slews, and whose cells have one shape at all corners
 pub record IsSlewed (design : TimedDesign) : Type 0 where

@@ -21,3 +21,9 @@ pub mod LiveArcs
 pub mod OneTables
 pub mod OneSlewEnd
 pub mod StuckNets
+pub mod StuckStates
+pub mod AliveStates
+pub mod LongWalks
+pub mod CornerTables
+pub mod NoStuck
+pub mod PinsAgree

@@ -17,7 +17,7 @@ use Rattle.nldm_lookup.proofs.Ends.{some_width}
 use Rattle.nldm_lookup.proofs.OneValue.{some_attos}
 use Rattle.nldm_lookup.proofs.Scaling.{scale_sum, product_some}
 use Rattle.nldm_lookup.proofs.Sizes.{weighed_small}
-use Rattle.slew_order.specs.Lookups.{half_up, is_passed, between_on, quotient_of, value_of, axis_end, answer_of, lookup_of, LookupFunction}
+use Rattle.slew_order.specs.Lookups.{half_up, HalfUp, is_passed, between_on, quotient_of, value_of, axis_end, answer_of, lookup_of, LookupFunction}
 use Rattle.slew_order.proofs.BetweenPoints.{passed_where_true, within_where_false, between_is}
 
 -- answers past an axis are told apart
@@ -30,13 +30,16 @@ is_extend Extend = true
 is_extend _ = false
 
 -- a half more, rounded down, is rounded half up: 2n + d is v times 2d, and a rest that is less than 2d
-half_up_rounds : (n d : ℤ) → pos 1 ≤ℤ d → IsRounding n d (half_up n d)
+pub half_up_rounds : (n d : ℤ) → pos 1 ≤ℤ d → IsRounding n d (half_up n d)
 half_up_rounds n d some =
     let both : pos 1 ≤ℤ (d +ℤ d) = omega (arith, ints, some) in
     let whole = division ((n +ℤ n) +ℤ d) (d +ℤ d) both in
     let rest = rest_in_range ((n +ℤ n) +ℤ d) (d +ℤ d) both in
     let twice = scale_sum (half_up n d) d d in
     rounding_from n d (half_up n d) (half_up n d *ℤ d) refl (omega (arith, ints, whole, rest.0, rest.1, twice)) (omega (arith, ints, whole, rest.0, rest.1, twice))
+
+pub half_up_is : HalfUp
+half_up_is n d some = half_up_rounds n d (omega (arith, ints, some))
 
 module _ (table : TimingTable) (slew load : ℕ) (grain : Grain) where
   quotient_rounds : (on_slew on_load : Between) → pos 1 ≤ℤ width on_slew → pos 1 ≤ℤ width on_load

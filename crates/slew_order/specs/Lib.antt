@@ -11,5 +11,6 @@ pub mod SlewEnds
 pub mod Slews
 pub mod PinSlews
 pub mod LivePaths
+pub mod Shapes
 pub mod SlewLaws
 pub mod Loaded

@@ -1,7 +1,8 @@
 -- The value of a table at a slew and a load (nonlinear delay model), or why it has none, as a function.
-use Rattle.std.specs.Prelude.{◌≡◌, ◌↔◌, ℕ, ◌+◌, ◌-◌, min, max, Bool, ◌&&◌, ◌||◌, ◌==◌, nat_lt, nat_le, if◌then◌else◌, ℤ, pos, ◌+ℤ◌, ◌-ℤ◌, ◌*ℤ◌, unsigned_abs, List, length, slice_index_or, Option, Some, None, Result, Ok, Err}
+use Rattle.std.specs.Prelude.{◌≡◌, ◌↔◌, ℕ, ◌+◌, ◌-◌, min, max, Bool, ◌&&◌, ◌||◌, ◌==◌, nat_lt, nat_le, if◌then◌else◌, ℤ, pos, ◌+ℤ◌, ◌-ℤ◌, ◌*ℤ◌, ◌<ℤ◌, unsigned_abs, List, length, slice_index_or, Option, Some, None, Result, Ok, Err}
 use Rattle.std.specs.Int.{int_div_euclid}
 use Rattle.std.specs.List.{prefix_len}
+use Rattle.delay_units.specs.Rounding.{IsRounding}
 use Rattle.nldm_lookup.specs.Axes.{most}
 use Rattle.nldm_lookup.specs.Betweens.{Between, width}
 use Rattle.nldm_lookup.specs.Tables.{TimingTable, IsTable}
@@ -16,6 +17,10 @@ use Rattle.nldm_lookup.specs.declared.faults.Which.TheVariants.{Slew, Load}
 -- n / d rounded half up, which is n / d + 1/2 rounded down
 abbrev pub half_up : ℤ → ℤ → ℤ
 half_up n d = int_div_euclid ((n +ℤ n) +ℤ d) (d +ℤ d)
+
+-- that is the rounding
+abbrev pub HalfUp : Type 0
+HalfUp = (n d : ℤ) → pos 0 <ℤ d → IsRounding n d (half_up n d)
 
 -- the points of an axis by their places, from 0
 abbrev pub point_at : List ℕ → ℕ → ℕ

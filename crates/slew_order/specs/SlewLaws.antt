@@ -5,6 +5,7 @@ use Rattle.slew_states.specs.Laws.{Agree}
 use Rattle.slew_states.specs.Arcs.{arc_at}
 use Rattle.slew_states.specs.PinState.{state, worst}
 use Rattle.slew_states.specs.declared.states.PinState.{PinState}
+use Rattle.slew_states.specs.declared.states.PinState.TheVariants.{Known, Stuck}
 use Rattle.slew_order.specs.Cycles.{HasNoCycle}
 use Rattle.slew_order.specs.Designs.{IsSource}
 use Rattle.slew_states.specs.Settled.{states_in}
@@ -14,6 +15,8 @@ use Rattle.slew_order.specs.declared.ends.SlewEnd.TheVariants.{Loop, OutOfMemory
 use Rattle.slew_order.specs.FlatArcs.{IsArcAt}
 use Rattle.slew_order.specs.LivePaths.{HasInput, delay_at, input_state}
 use Rattle.slew_order.specs.NetStates.{drivers_in, net_state, states_at}
+use Rattle.slew_order.specs.PinSlews.{state_of_pin}
+use Rattle.slew_order.specs.Shapes.{AreShaped}
 use Rattle.slew_order.specs.SlewEnds.{IsSlewEnd}
 use Rattle.slew_order.specs.Sinks.{IsSunk}
 use Rattle.slew_order.specs.Slews.{SlewTables, AreSlews}
@@ -30,6 +33,23 @@ DeepSlews = (source : SlewSource) → IsSource source → HasNoCycle source.netl
 abbrev pub AgreeingCorners : Type 0
 AgreeingCorners = (source : SlewSource) (corner other net : ℕ) (edge : Edge)
     → Agree (net_state source corner net edge) (net_state source other net edge)
+
+-- the state of a pin of an instance at a corner, by the states of the nets that are kept
+abbrev pub pin_state_at : SlewSource → SlewTables → ℕ → ℕ → ℕ → Edge → PinState
+pin_state_at source tables corner =
+    state_of_pin source.netlist source.count source.times source.mode corner (states_in (states_at tables.corners corner))
+
+-- where a design has slews, and its cells have one shape at all corners, no pin is stuck
+abbrev pub NoPinStuck : Type 0
+NoPinStuck = (source : SlewSource) (tables : SlewTables) → AreSlews source tables → AreShaped source.count source.cells
+    → (corner instance pin : ℕ) (edge : Edge) → corner < source.count → pin_state_at source tables corner instance pin edge ≡ Stuck → ⊥
+
+-- there a pin that is known at an edge at one corner is known there at each
+abbrev pub PinsAgree : Type 0
+PinsAgree = (source : SlewSource) (tables : SlewTables) → AreSlews source tables → AreShaped source.count source.cells
+    → (corner other instance pin slew : ℕ) (edge : Edge) → corner < source.count → other < source.count
+    → pin_state_at source tables corner instance pin edge ≡ Known slew
+    → (also : ℕ) × (pin_state_at source tables other instance pin edge ≡ Known also)
 
 -- the worst input slew of an arc is that of the states of its related pin, where related pins are sinks
 abbrev pub WorstAtPins : Type 0

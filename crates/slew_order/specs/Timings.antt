@@ -1,5 +1,5 @@
 -- What the arcs of a design and the wires to their related pins make of a slew, at a corner.
-use Rattle.std.specs.Prelude.{ℕ, List, slice_index_or, unsigned_abs, ℤ, Option, Some, None, Result, Ok, Err}
+use Rattle.std.specs.Prelude.{ℕ, Bool, List, slice_index_or, unsigned_abs, ℤ, Option, Some, None, is_some, Result, Ok, Err}
 use Rattle.cell_models.specs.NamedSets.{NamedCells}
 use Rattle.cell_models.specs.declared.cell.Arc.{Arc}
 use Rattle.cell_models.specs.declared.cell.EdgeTables.{EdgeTables}
@@ -41,6 +41,11 @@ source_of netlist cells count times beyond mode slew =
 abbrev pub tables_of : Arc → Edge → Option EdgeTables
 tables_of arc Rise = arc.rise
 tables_of arc Fall = arc.fall
+
+-- an arc gives its output pin an edge
+abbrev pub arc_has : Arc → Edge → Bool
+arc_has arc Rise = is_some arc.rise
+arc_has arc Fall = is_some arc.fall
 
 -- both look-ups at a slew and a load: the delay in femtoseconds, the transition in attoseconds
 abbrev pub lookups_of : Beyond → EdgeTables → ℕ → ℕ → EdgeLookups

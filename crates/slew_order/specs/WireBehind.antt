@@ -1,6 +1,6 @@
 -- The slew behind a wire as a number. Slews are in attoseconds, Elmore sums in 10^-27 s.
-use Rattle.std.specs.Prelude.{ℕ, zero, suc, ◌+◌, ◌*◌, ◌/◌, ◌^◌, nat_le, if◌then◌else◌, Option, Some, None}
-use Rattle.wire_slews.specs.WireSlews.{most_slew}
+use Rattle.std.specs.Prelude.{◌≡◌, ◌↔◌, ◌≤◌, pos, ℕ, zero, suc, ◌+◌, ◌*◌, ◌/◌, ◌^◌, nat_le, if◌then◌else◌, Option, Some, None}
+use Rattle.wire_slews.specs.WireSlews.{IsWireSlew, most_slew}
 use Rattle.corner_set.specs.declared.choices.WireSlew.{WireSlew}
 use Rattle.corner_set.specs.declared.choices.WireSlew.TheVariants.{Same, Rss}
 
@@ -25,3 +25,8 @@ slew_behind Rss elmore slew = root (slew * slew + own_slew elmore * own_slew elm
 -- the same, and none past a microsecond
 abbrev pub wire_of : WireSlew → ℕ → ℕ → Option ℕ
 wire_of mode elmore slew = if nat_le (slew_behind mode elmore slew) most_slew then Some (slew_behind mode elmore slew) else None
+
+-- that is the one slew that the relation of wires has, where it is a microsecond at most, and nothing else is
+abbrev pub WireFunction : Type 0
+WireFunction = (mode : WireSlew) (elmore slew made : ℕ)
+    → (wire_of mode elmore slew ≡ Some made) ↔ (IsWireSlew mode (pos slew) elmore (pos made) × made ≤ most_slew)

@@ -1,11 +1,24 @@
 //! Laws of look-ups and slews.
-ghost use Rattle.slew_order.specs.Lookups.{LookupFunction};
-ghost use Rattle.slew_order.specs.SlewLaws.{DeepSlews, AgreeingCorners, WorstAtPins, LiveDelays, OneSlews, SlewsOrEnd, OneSlewEnd};
+ghost use Rattle.slew_order.specs.Lookups.{HalfUp, LookupFunction};
+ghost use Rattle.slew_order.specs.SlewLaws.{DeepSlews, AgreeingCorners, NoPinStuck, PinsAgree, WorstAtPins, LiveDelays, OneSlews, SlewsOrEnd, OneSlewEnd};
+ghost use Rattle.slew_order.specs.WireBehind.{WireFunction};
 
 /// The law of lookups, which its contract states: in a whole table a lookup answers what the function of lookups gives, and nothing
 /// else. It does nothing when it is called.
 pub fn lookups_are_a_function()
     ensures law { LookupFunction }
+{}
+
+/// The law of rounding, which its contract states: half up is the rounding to the nearest integer, and to the greater of two that are
+/// as near. It does nothing when it is called.
+pub fn half_up_is_rounding()
+    ensures law { HalfUp }
+{}
+
+/// The law of wires, which its contract states: the function of wires gives the slew that the relation of wires has, where that is a
+/// microsecond at most, and nothing else. It does nothing when it is called.
+pub fn wires_are_a_function()
+    ensures law { WireFunction }
 {}
 
 /// The law of settled depth, which its contract states: where a design has no cycle, the state of a net at each depth past the number
@@ -18,6 +31,13 @@ pub fn deep_slews_are_the_same()
 /// does nothing when it is called.
 pub fn corners_agree()
     ensures law { AgreeingCorners }
+{}
+
+/// The laws of pins, which its contract states: where a design has slews, and each of its cells has one shape at all corners, no pin is
+/// stuck, and a pin that is known at an edge at one corner is known there at each. It does nothing when it is called.
+pub fn pins_agree()
+    ensures free { NoPinStuck }
+    ensures agree { PinsAgree }
 {}
 
 /// The law of worst input slews, which its contract states: by the number of an arc, as states of nets are settled, it is what it is by

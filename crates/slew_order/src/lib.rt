@@ -23,8 +23,8 @@ pub use arcs::ArcAt;
 pub use ends::{ArcList, SlewEnd};
 pub use flattening::cell_arc;
 pub use laws::{
-    corners_agree, deep_slews_are_the_same, live_arcs_have_delays, lookups_are_a_function,
-    slews_are_one, worst_at_pins,
+    corners_agree, deep_slews_are_the_same, half_up_is_rounding, live_arcs_have_delays,
+    lookups_are_a_function, pins_agree, slews_are_one, wires_are_a_function, worst_at_pins,
 };
 pub use loaded::LoadedNetlist;
 pub use lookups::{EdgeLookups, PartEnd};

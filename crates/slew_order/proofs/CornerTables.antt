@@ -7,21 +7,24 @@ use Rattle.std.proofs.lemmas.Option.{slice_get-get_or}
 use Rattle.cell_models.specs.Cells.{TimedCell}
 use Rattle.cell_models.specs.CornerCells.{AreCornerCells, arcs_at}
 use Rattle.cell_models.specs.NamedSets.{NamedCells, set_cells}
+use Rattle.cell_models.specs.Shapes.{arc_entry}
 use Rattle.cell_models.specs.declared.cell.Arc.{Arc}
 use Rattle.cell_models.specs.declared.edge.Edge.{Edge}
 use Rattle.cell_models.specs.declared.edge.Edge.TheVariants.{Rise, Fall}
 use Rattle.cell_models.proofs.CornerLemmas.{arc_count_there}
-use Rattle.netlist_link.specs.FlatNetlist.{FlatNetlist, instance_at}
+use Rattle.netlist_link.specs.FlatNetlist.{FlatNetlist, instance_at, no_instance}
 use Rattle.netlist_link.specs.Linked.{IsLinked}
 use Rattle.slew_states.specs.Arcs.{has_edge}
 use Rattle.slew_order.specs.FlatArcs.{IsArcAt, arcs_of, cell_arc, flat_at, no_arc}
-use Rattle.slew_order.specs.Timings.{tables_of}
+use Rattle.slew_order.specs.Timings.{arc_has, tables_of}
 use Rattle.slew_order.specs.declared.arcs.ArcAt.{ArcAt}
 use Rattle.slew_order.proofs.Links.{same_entry}
-use Rattle.annotation_rows.specs.PathRows.{arc_has}
-use Rattle.annotation_rows.specs.RowLaws.{AreShaped}
-use Rattle.annotation_rows.proofs.ArcDelays.{entry_tables}
-use Rattle.annotation_rows.proofs.EndsThere.{cell_there}
+use Rattle.slew_order.specs.Shapes.{AreShaped}
+
+-- arcs of one shape have the same edges
+pub entry_tables : (one other : Arc) (edge : Edge) → arc_entry one ≡ arc_entry other → arc_has one edge ≡ arc_has other edge
+entry_tables one other Rise same = cc
+entry_tables one other Fall same = cc
 
 has_tables : (arc : Arc) (edge : Edge) → arc_has arc edge ≡ true → IsSome (tables_of arc edge)
 has_tables arc Rise has = has
@@ -53,7 +56,7 @@ module _ (netlist : FlatNetlist) (cells : List NamedCells) (linked : IsLinked ce
   edges_there =
       let cell = (instance_at netlist at.instance).cell in
       let models : List TimedCell = get_or (set_cells cells) cell [] in
-      let within = cell_there cells netlist linked at.instance there.0 in
+      let within = linked.cell at.instance (instance_at netlist at.instance) (slice_get-get_or netlist.instances at.instance no_instance there.0) in
       let many = length-map cells (λ (set : NamedCells). set.cells) in
       let here : slice_get (set_cells cells) cell ≡ Some models = slice_get-get_or (set_cells cells) cell [] (omega (arith, within, many)) in
       let arcs : (corner : ℕ) → arcs_of cells cell corner ≡ arcs_at models corner = λ corner. ap (λ found. option_map_or (λ m. arcs_at m corner) found (let empty : List Arc = [] in empty)) here in

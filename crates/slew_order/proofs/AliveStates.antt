@@ -6,7 +6,7 @@ use Rattle.slew_states.specs.Laws.{Agree}
 use Rattle.slew_states.specs.PinState.{behind, join, joined, known_or_stuck}
 use Rattle.slew_states.specs.declared.states.PinState.{PinState}
 use Rattle.slew_states.specs.declared.states.PinState.TheVariants.{Absent, Known, Stuck}
-use Rattle.annotation_rows.proofs.StuckStates.{joined_stuck}
+use Rattle.slew_order.proofs.StuckStates.{joined_stuck}
 
 abbrev pub is_known : PinState → Bool
 is_known Absent = false

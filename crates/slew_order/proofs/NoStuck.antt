@@ -28,10 +28,10 @@ use Rattle.slew_order.proofs.Cycling.{flat_is}
 use Rattle.slew_order.proofs.Links.{if_loaded_is, net_in}
 use Rattle.slew_order.proofs.Settling.{many_drivers}
 use Rattle.slew_order.proofs.SlewLaws.{all_there, deep_slews}
-use Rattle.annotation_rows.specs.RowLaws.{AreShaped}
-use Rattle.annotation_rows.proofs.CornerTables.{tables_there}
-use Rattle.annotation_rows.proofs.LongWalks.{walk_short}
-use Rattle.annotation_rows.proofs.StuckStates.{behind_stuck, driver_stuck, joined_stuck, over_stuck, pin_stuck}
+use Rattle.slew_order.specs.Shapes.{AreShaped}
+use Rattle.slew_order.proofs.CornerTables.{tables_there}
+use Rattle.slew_order.proofs.LongWalks.{walk_short}
+use Rattle.slew_order.proofs.StuckStates.{behind_stuck, driver_stuck, joined_stuck, over_stuck, pin_stuck}
 
 -- a transition that is not made is refused
 none_refused : (delay transition : Result ℤ LookupEnd) → if_both delay transition ≡ None → (end : PartEnd) × (first_end delay transition ≡ Some end)
@@ -51,7 +51,7 @@ pin_of : (instance pin : ℕ) (sink : End) → is_pin instance pin sink ≡ true
 pin_of instance pin (end.Port port) is = false≢true is
 pin_of instance pin (end.Pin this at) is = tt
 
-place_is_pin : (instance pin : ℕ) (sinks : List End) → pin_place instance pin sinks < length sinks → IsPin (get_or sinks (pin_place instance pin sinks) (end.Port 0))
+pub place_is_pin : (instance pin : ℕ) (sinks : List End) → pin_place instance pin sinks < length sinks → IsPin (get_or sinks (pin_place instance pin sinks) (end.Port 0))
 place_is_pin instance pin [] below = absurd (omega (arith, below))
 place_is_pin instance pin (sink ∷ sinks) below = by (is_pin instance pin sink) refl (place_is_pin instance pin sinks) below
   where
