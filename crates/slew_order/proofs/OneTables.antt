@@ -1,10 +1,8 @@
 -- Two tables of loads and Elmore sums that are alike are equal, and so are two tables of the slews of a design.
-use Rattle.std.proofs.Common.{◌≡◌, ℕ, ◌-◌, ◌*◌, ◌+◌, ◌<◌, ◌∙◌, ap, sym, subst, inl, inr, List, [], length, get_or, ext_get_or, arith}
+use Rattle.std.proofs.Common.{◌≡◌, ℕ, ◌<◌, ◌∙◌, ap, sym, subst, inl, inr, List, [], length, ext_get_or, arith}
 use Rattle.std.proofs.lemmas.Bool.{cases_eq}
 use Rattle.cell_models.specs.declared.edge.Edge.{Edge}
 use Rattle.cell_models.specs.declared.edge.Edge.TheVariants.{Rise, Fall}
-use Rattle.corner_set.specs.Places.{place}
-use Rattle.delay_units.specs.declared.quantities.Farads.{Farads}
 use Rattle.netlist_link.specs.FlatNetlist.{FlatNetlist}
 use Rattle.slew_states.specs.Settled.{both_absent, states_in}
 use Rattle.slew_states.specs.declared.states.PinState.{PinState}

@@ -10,7 +10,7 @@ ghost use Rattle.slew_order.specs.Timings.{arcs_in};
 
 use crate::design::Design;
 use crate::ends::SlewEnd;
-use crate::net_states::{NetStates, net_state};
+use crate::net_states::NetStates;
 use cell_models::Edge;
 use corner_set::CornerSet;
 use delay_units::Atto;
@@ -44,7 +44,7 @@ fn limit_at<C: CornerSet>(
     ensures limit { IfSome result (IsLimit design.now net sink edge number) }
     ensures none { IfNone result (NoLimitAt design.now net sink edge number) }
 {
-    let PinState::Known(slew) = net_state(design, net, edge, number, states) else {
+    let PinState::Known(slew) = states[net].at(edge) else {
         return None;
     };
     match design.behind(net, sink, design.corner(number), slew) {

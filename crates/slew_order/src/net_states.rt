@@ -1,17 +1,15 @@
 //! The states of all nets at all corners.
 ghost use Rattle.std.specs.Prelude.{◌≡◌, ◌+◌, ◌*◌, ◌^◌, ◌<◌, ◌≤◌, length, IfOk};
 ghost use Rattle.slew_states.specs.Loops.{IsNetOrder};
-ghost use Rattle.slew_states.specs.PinState.{IsSmall};
-ghost use Rattle.slew_order.specs.NetStates.{AreNetStates, AreStatesAt, drivers_in, edges_in, net_state};
+ghost use Rattle.slew_order.specs.NetStates.{AreNetStates, AreStatesAt, drivers_in, edges_in};
 ghost use Rattle.slew_order.specs.Timings.{flat_in};
 
 use crate::at_corner::AtCorner;
 use crate::design::Design;
-use cell_models::Edge;
 use corner_set::CornerSet;
 use edge_io::lists::push;
 use edge_io::{OutOfMemory, Steps};
-use slew_states::{Driver, EdgeStates, PinState, settle};
+use slew_states::{Driver, EdgeStates, settle};
 use std::alloc::Global;
 use std::marker::Model;
 use std::sync::ledger::Ledger;
@@ -66,23 +64,6 @@ fn settle_at<C: CornerSet, L: Ledger>(
         steps,
     )?;
     Ok(NetStates { states })
-}
-
-/// The state of a net at an edge.
-pub(crate) fn net_state<C: CornerSet>(
-    design: &Design<'_, C>,
-    net: usize,
-    edge: Edge,
-    number: usize,
-    states: &[EdgeStates],
-) -> PinState
-    requires net { net < length design.now.netlist.nets }
-    requires states { AreStatesAt design.now number states.now }
-    ensures value { result ≡ net_state design.now number net edge }
-    ensures small { IsSmall result }
-{
-    let _ = design;
-    states[net].at(edge)
 }
 
 /// The states at all corners, in an order of the nets. They take at most 64 steps for each corner and each pair of an arc and an

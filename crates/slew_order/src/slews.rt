@@ -16,7 +16,6 @@ use crate::wires::state_behind;
 use cell_models::Edge;
 use corner_set::{Beyond, CornerSet, WireSlew};
 use delay_units::Atto;
-use netlist_link::Netlist;
 use slew_states::PinState;
 use std::marker::{Model, PhantomData};
 
@@ -80,7 +79,8 @@ impl<C: CornerSet> Slews<C> {
         let Some(net) = loaded.linked.netlist.net_of(instance, pin) else {
             return PinState::Absent;
         };
-        let state = self.net_state(&loaded.linked.netlist, net, edge, corner);
+        let states = self.corners[C::number(corner)].as_slice();
+        let state = states[net].at(edge);
         if is_driver(loaded.linked.netlist.driver(net), instance, pin) {
             return state;
         }
@@ -91,17 +91,6 @@ impl<C: CornerSet> Slews<C> {
             Some(sink) => state_behind(self.mode, loaded.nets.elmore(net, sink, corner), state),
             None => PinState::Absent,
         }
-    }
-
-    // The state of a net, at an edge and a corner.
-    fn net_state(&self, netlist: &Netlist, net: usize, edge: Edge, corner: C::Index) -> PinState
-        requires tables { AreTablesOf netlist.now C.COUNT self.now }
-        requires net { net < length netlist.now.nets }
-        ensures value { result ≡ states_in (states_at self.now.corners (C.number_of corner)) net edge }
-        ensures small { IsSmall result }
-    {
-        let states = self.corners[C::number(corner)].as_slice();
-        states[net].at(edge)
     }
 
     /// The slew at a pin of an instance, at an edge and a corner, in attoseconds, for the netlist and the loads and Elmore sums that the
