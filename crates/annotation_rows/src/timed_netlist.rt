@@ -12,7 +12,7 @@ ghost use Rattle.annotation_rows.specs.SdfEnds.{pin_count, pin_sdf};
 use crate::cell_paths::PinPair;
 use crate::sdf_ends::pin_sdf;
 use crate::spelled_netlist::SpelledNetlist;
-use cell_models::{Arc, CellSet, CellSets, Edge};
+use cell_models::{CellSet, CellSets, Edge};
 use corner_set::{CornerSet, corner_at, first_corner};
 use edge_io::{Steps, Text};
 use netlist_link::Netlist;
@@ -37,16 +37,6 @@ impl<'a, C: CornerSet> Model for TimedNetlist<'a, C> {
 
     ghost invariant = { λ t. IsTimed (timed_of t.spelled.now.linked.now.netlist t.spelled.now.linked.now.cells C.COUNT
         t.spelled.now.nets.now t.slews.now) };
-}
-
-// Whether an arc has an edge.
-fn has_edge(arc: &Arc, edge: Edge) -> bool
-    ensures { result ≡ arc_has arc.now edge }
-{
-    match edge {
-        Edge::Rise => arc.rise.is_some(),
-        Edge::Fall => arc.fall.is_some(),
-    }
 }
 
 impl<'a, C: CornerSet> TimedNetlist<'a, C> {
@@ -163,10 +153,11 @@ impl<'a, C: CornerSet> TimedNetlist<'a, C> {
         requires at { IsArcAt self.now.source.netlist self.now.source.cells at }
         ensures { result ≡ arc_has (arc_in (cell_arcs self.now at.instance) at.arc) edge }
     {
-        has_edge(
-            self.cell_of(at.instance).arc(at.arc, first_corner::<C>()),
-            edge,
-        )
+        let arc = self.cell_of(at.instance).arc(at.arc, first_corner::<C>());
+        match edge {
+            Edge::Rise => arc.rise.is_some(),
+            Edge::Fall => arc.fall.is_some(),
+        }
     }
 
     // The delay of an arc that has the edge. It is one look-up of at most 32 steps.
