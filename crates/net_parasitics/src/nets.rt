@@ -1,5 +1,5 @@
 //! The loads of all nets of a netlist, and the Elmore sums of all their sinks.
-ghost use Rattle.std.specs.Prelude.{◌≡◌, ◌≤◌, ◌<◌, ◌↔◌, ℕ, length, slice_get, Contains, Some, IsTrue, IfOk, IfErr, IfSome, IfNone, OnOk};
+ghost use Rattle.std.specs.Prelude.{◌≡◌, ◌≤◌, ◌<◌, ◌↔◌, ◌⊎◌, ℕ, length, slice_get, Contains, Some, IsTrue, IfOk, IfErr, IfSome, IfNone, OnOk};
 ghost use Rattle.delay_units.specs.Bounds.{most_farads};
 ghost use Rattle.netlist_link.specs.FlatNetlist.{net_at};
 ghost use Rattle.spef_nets.specs.NetElements.{net_names};
@@ -246,6 +246,9 @@ pub fn net_delays<C: CornerSet, L: Ledger>(
     ensures work { IsWithin (inputs_of C.COUNT linked.now.netlist linked.now.cells sections.now port_load) (length linked.now.netlist.nets)
         steps.old steps.new }
     ensures no_steps { IfErr result (λ end. IsTrue (is_early end) → steps.new ≡ steps.old) }
+    // no tree is built where a net is missing, whatever is answered
+    ensures none_missing { (steps.new ≡ steps.old)
+        ⊎ NoneMissing (inputs_of C.COUNT linked.now.netlist linked.now.cells sections.now port_load) missing }
 {
     let inputs = NetInputs {
         linked,
