@@ -1,5 +1,6 @@
 //! The command `flat`: the flat netlist of a design.
-ghost use Rattle.std.specs.Prelude.{◌≡◌, [], ◌∷◌, IfOk};
+ghost use Rattle.std.specs.Prelude.{◌≡◌, [], ◌∷◌, IfOk, OnOk};
+ghost use Rattle.edge_io.specs.Counts.{RoseBy};
 ghost use Rattle.verdict_phases.specs.Phases.{Follows};
 ghost use Rattle.design_phases.specs.DesignReading.{IsInputFault};
 ghost use Rattle.refusals.specs.Refused.{AtReadFault};
@@ -34,6 +35,7 @@ pub fn flat<H: Shelf>(
     ensures follows { Follows (FlatGives (H.held shelf.old) netlist.now top.now library.now) result }
     ensures fault { AtReadFault result (IsInputFault (H.held shelf.old) 1 (netlist.now ∷ library.now ∷ []) (H.faults shelf.old)
         (H.faults shelf.new) (H.opens shelf.old) (H.opens shelf.new)) }
+    ensures opens { OnOk result (RoseBy 2 (H.opens shelf.old) (H.opens shelf.new)) }
 {
     let libraries = list_of(alloc, library)?;
     let design = read_design::<Single, H>(alloc, shelf, netlist, top, &libraries)?;
