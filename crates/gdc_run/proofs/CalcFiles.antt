@@ -33,7 +33,7 @@ use Rattle.delay_core.specs.AnnotationWork.{FilesWork}
 use Rattle.delay_core.specs.declared.settings.Files.{Files}
 use Rattle.delay_core.specs.declared.settings.Settings.{Settings}
 use Rattle.gdc_run.specs.Calculation.{each_corner, corner_count, library_names, files_with, settings_at, ReadsSettings, AreSettingsOf, DesignGives, CalcGives, CalcWork, no_settings, of_settings}
-use Rattle.gdc_run.specs.Outcomes.{name_of, place_in_calc, place_for, HasCause}
+use Rattle.gdc_run.specs.Outcomes.{name_of, place_at, places_in_calc, places_for, HasCause}
 use Rattle.gdc_run.specs.Verdict.{CalcOutput}
 
 -- ---- the libraries
@@ -96,13 +96,13 @@ module _ (request : Request) where
   -- a file that is read has a key, whose file it is, at its place
   record IsRead (libraries : Libraries) (name : List ℕ) (before : ℕ) (key : FileKey) : Type 0 where
     name_is : name_of request key ≡ name
-    place_is : place_in_calc libraries key ≡ before + 1
+    place_is : place_at (places_in_calc libraries) key ≡ before + 1
 
-  read_as : (libraries : Libraries) (own name : List ℕ) (before : ℕ) (key fixed : FileKey) → key ≡ fixed → Some own ≡ Some name → name_of request fixed ≡ own → place_in_calc libraries fixed ≡ before + 1
+  read_as : (libraries : Libraries) (own name : List ℕ) (before : ℕ) (key fixed : FileKey) → key ≡ fixed → Some own ≡ Some name → name_of request fixed ≡ own → place_at (places_in_calc libraries) fixed ≡ before + 1
       → IsRead libraries name before key
   read_as libraries own name before key fixed keyed named its place = record {
     name_is = ap (name_of request) keyed ∙ its ∙ some_is own name named;
-    place_is = ap (place_in_calc libraries) keyed ∙ place;
+    place_is = ap (place_at (places_in_calc libraries)) keyed ∙ place;
   }
 
   -- by how many are read before it
@@ -130,7 +130,7 @@ module _ (request : Request) where
             | inr missing ↦ inr (subst (TellsMissing held) (sym its.name_is) missing)
           ];
           opened = subst (λ n. RoseBy n opens opens')
-              (sym (ap (λ (c : Command). place_for c (libraries_of request.given) key) is ∙ ap (λ (l : Libraries). place_in_calc l key) are ∙ its.place_is)) fault.opened;
+              (sym (ap (λ (c : Command). place_at (places_for c (libraries_of request.given)) key) is ∙ ap (λ (l : Libraries). place_at (places_in_calc l) key) are ∙ its.place_is)) fault.opened;
         }
 
     -- a fault at one of them has its cause

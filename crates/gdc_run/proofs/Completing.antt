@@ -1,5 +1,5 @@
 -- That the verdict is answered follows from what each answer says.
-use Rattle.std.proofs.Common.{◌≡◌, ℕ, inl, inr, refl, List, Option, Result, Ok, Err, subst}
+use Rattle.std.proofs.Common.{◌≡◌, ◌+◌, ℕ, inl, inr, refl, List, Option, Result, Ok, Err, subst}
 use Rattle.edge_io.specs.Counts.{Rose}
 use Rattle.edge_io.specs.Holding.{Held, TellsMissing}
 use Rattle.edge_io.specs.Told.{appended, AppendsFrontOf}
@@ -7,6 +7,8 @@ use Rattle.verdict_phases.specs.Phases.{RefusedBy, Unread, Reads, Go, Halt}
 use Rattle.corner_set.specs.declared.choices.Beyond.{Beyond}
 use Rattle.gdc_words.specs.declared.commands.Command.{Command}
 use Rattle.gdc_words.specs.declared.commands.Command.TheVariants.{Wires, Calc, Show, Lookup, Flat, Trial, Help, Version}
+use Rattle.gdc_words.specs.declared.commands.Libraries.{Libraries}
+use Rattle.gdc_words.specs.declared.commands.Libraries.TheVariants.{One, EachCorner}
 use Rattle.gdc_words.specs.declared.commands.Shape.{Shape}
 use Rattle.gdc_words.specs.declared.faults.UsageFault.{UsageFault}
 use Rattle.gdc_words.proofs.Pairs.{one_request}
@@ -17,9 +19,10 @@ use Rattle.gdc_run.specs.declared.outcome.Outcome.{Outcome}
 use Rattle.gdc_run.specs.declared.outcome.Outcome.TheVariants.{Done, Refused, Usage, ReadFault, WriteFault, OutOfMemory}
 use Rattle.gdc_words.specs.CommandLine.{Request, Asks, libraries_of}
 use Rattle.command_rows.specs.CommandRows.{WiresGives, ShowGives, LookupGives, at_reading, at_sdf_reading, at_library_reading}
+use Rattle.gdc_run.specs.Calculation.{corner_count}
 use Rattle.gdc_run.specs.Verdict.{Faulty, Answers, Gives, CommandGives}
 use Rattle.gdc_run.specs.Trial.{TrialGives}
-use Rattle.gdc_run.specs.Outcomes.{OnDone, IfRefused, IfUsage, IfReadFault, OnWriteFault, GivesText, HasReadFault, AskForTrial, AnswersUsage, name_of}
+use Rattle.gdc_run.specs.Outcomes.{OnDone, IfRefused, IfUsage, IfReadFault, OnWriteFault, GivesText, HasReadFault, AskForNoFile, AnswersUsage, file_count, name_of}
 use Rattle.gdc_run.proofs.CalcFiles.{unread_output}
 use Rattle.gdc_run.proofs.FlatFiles.{unread_flat}
 use Rattle.gdc_run.specs.Completeness.{AnswersVerdict, IsComplete}
@@ -102,23 +105,31 @@ complete_of words held f f' o o' w w' g g' WriteFault done refused usage fault w
 complete_of words held f f' o o' w w' g g' OutOfMemory done refused usage fault write calm sink_calm =
     inl refl
 
--- no read fault comes of `trial`
-trial_faultless : (held : Option Held) (command : Command) (request : Request) (key : FileKey) → command ≡ Trial → CommandGives held command request (Halt (Reads key)) → ⊥
-trial_faultless held command request key is reached =
-    let own : CommandGives held Trial request (Halt (Reads key)) = subst (λ (c : Command). CommandGives held c request (Halt (Reads key))) is reached in
-    trial_reads_none own.shape own.size key own.holds
+-- `calc` reads files
+calc_reads : (libraries : Libraries) → ¬ (corner_count libraries + 2 ≡ 0)
+calc_reads One none = cc
+calc_reads EachCorner none = cc
 
-pub trial_without_fault : (words : List (List ℕ)) (held : Option Held) (faults faults' opens opens' : ℕ) (outcome : Outcome) → IfReadFault outcome (λ key. HasReadFault words held key faults faults' opens opens')
-    → IfReadFault outcome (λ _. AskForTrial words → ⊥)
-trial_without_fault words held f f' o o' (ReadFault key) fault = λ asks.
-    let same : asked fault.request ≡ asked asks.0 = one_request words (Ok fault.request) (Ok asks.0) fault.asked asks.1 in
-    let is : fault.request.command ≡ Trial = cc (same, asks.2) in
-    trial_faultless held fault.request.command fault.request key is fault.reached
-trial_without_fault words held f f' o o' Done fault = tt
-trial_without_fault words held f f' o o' (Refused refusal) fault = tt
-trial_without_fault words held f f' o o' (Usage faulty) fault = tt
-trial_without_fault words held f f' o o' WriteFault fault = tt
-trial_without_fault words held f f' o o' OutOfMemory fault = tt
+-- no read fault comes of a command that reads no file
+none_reached : (held : Option Held) (command : Command) (request : Request) (key : FileKey) → file_count command (libraries_of request.given) ≡ 0 → ¬ CommandGives held command request (Halt (Reads key))
+none_reached held Wires request key none reached = cc
+none_reached held Calc request key none reached = absurd (calc_reads (libraries_of request.given) none)
+none_reached held Show request key none reached = cc
+none_reached held Lookup request key none reached = cc
+none_reached held Flat request key none reached = cc
+none_reached held Trial request key none reached = trial_reads_none reached.shape reached.size key reached.holds
+none_reached held Help request key none reached = cc
+none_reached held Version request key none reached = cc
+
+pub no_fault_without_file : (words : List (List ℕ)) (held : Option Held) (faults faults' opens opens' : ℕ) (outcome : Outcome)
+    → IfReadFault outcome (λ key. HasReadFault words held key faults faults' opens opens') → IfReadFault outcome (λ _. AskForNoFile words → ⊥)
+no_fault_without_file words held f f' o o' Done fault = tt
+no_fault_without_file words held f f' o o' (Refused refusal) fault = tt
+no_fault_without_file words held f f' o o' (Usage faulty) fault = tt
+no_fault_without_file words held f f' o o' (ReadFault key) fault = λ none.
+    none_reached held fault.request.command fault.request key (none fault.request fault.asked) fault.reached
+no_fault_without_file words held f f' o o' WriteFault fault = tt
+no_fault_without_file words held f f' o o' OutOfMemory fault = tt
 
 -- words with a first fault ask for nothing
 asks_nothing : (words : List (List ℕ)) (fault : UsageFault) (request : Request) → Asks words (Err fault) → Asks words (Ok request) → ⊥

@@ -12,7 +12,7 @@ use Rattle.design_phases.specs.DesignReading.{input_key, IsInputFault}
 use Rattle.refusals.specs.declared.refusal.FileKey.{FileKey}
 use Rattle.design_phases.proofs.DesignLemmas.{comes_to}
 use Rattle.refusals.proofs.Places.{some_is}
-use Rattle.gdc_run.specs.Outcomes.{name_of, place_for, HasCause}
+use Rattle.gdc_run.specs.Outcomes.{name_of, place_at, places_for, HasCause}
 use Rattle.command_rows.specs.CommandRows.{FlatGives}
 
 module _ (request : Request) where
@@ -27,9 +27,9 @@ module _ (request : Request) where
 
   -- the key of a file has its name, and its place in the order of reading
   file_named : (before : ℕ) (name : List ℕ) (key : FileKey) → slice_get (netlist_name ∷ library_name ∷ []) before ≡ Some name → key ≡ input_key 1 before
-      → (name_of request key ≡ name) × (place_for Flat (libraries_of request.given) key ≡ before + 1)
-  file_named zero name key named keyed = (ap (name_of request) keyed ∙ some_is netlist_name name named, ap (place_for Flat (libraries_of request.given)) keyed)
-  file_named (suc zero) name key named keyed = (ap (name_of request) keyed ∙ some_is library_name name named, ap (place_for Flat (libraries_of request.given)) keyed)
+      → (name_of request key ≡ name) × (place_at (places_for Flat (libraries_of request.given)) key ≡ before + 1)
+  file_named zero name key named keyed = (ap (name_of request) keyed ∙ some_is netlist_name name named, ap (place_at (places_for Flat (libraries_of request.given))) keyed)
+  file_named (suc zero) name key named keyed = (ap (name_of request) keyed ∙ some_is library_name name named, ap (place_at (places_for Flat (libraries_of request.given))) keyed)
   file_named (suc (suc before)) name key named keyed = cc
 
   module _ (held : Option Held) where
@@ -42,7 +42,7 @@ module _ (request : Request) where
             | inl rose ↦ inl rose
             | inr missing ↦ inr (subst (TellsMissing held) (sym names.0) missing)
           ];
-          opened = subst (λ n. RoseBy n opens opens') (sym (ap (λ (c : Command). place_for c (libraries_of request.given) key) is ∙ names.1)) fault.opened;
+          opened = subst (λ n. RoseBy n opens opens') (sym (ap (λ (c : Command). place_at (places_for c (libraries_of request.given)) key) is ∙ names.1)) fault.opened;
         }
 
     -- where the phases come to one that is not held, that decides

@@ -17,7 +17,7 @@ is_said corners outcome before after faults faults' (Err failed) writes = inr (w
 -- every answer but a refusal has one line, however many corners there are
 of_corners : (words : List (List ℕ)) (outcome : Outcome) (corners : ℕ) (before after : Option (List ℕ)) (faults faults' : ℕ) → IfRefused outcome (λ _. AskForCorners words corners)
     → IsSaid corners outcome before after faults faults' → Says words outcome before after faults faults'
-of_corners words Done corners before after faults faults' asks said = said
+of_corners words Done corners before after faults faults' asks said = tt
 of_corners words (Refused refusal) corners before after faults faults' asks said = (corners, asks, said)
 of_corners words (Usage fault) corners before after faults faults' asks said = said
 of_corners words (ReadFault key) corners before after faults faults' asks said = said

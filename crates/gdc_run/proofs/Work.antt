@@ -1,6 +1,10 @@
 -- The work of a run.
 use Rattle.std.proofs.Common.{◌≡◌, ℕ, List, Ok, refl, sym, subst, arith}
-use Rattle.std.specs.Prelude.{Option, Some}
+use Rattle.std.specs.Prelude.{IsTrue, Option, Some}
+use Rattle.refusals.specs.declared.refusal.Refusal.{Refusal}
+use Rattle.refusals.specs.EarlyRefusals.{is_early}
+use Rattle.gdc_run.specs.declared.outcome.Outcome.{Outcome}
+use Rattle.gdc_run.specs.declared.outcome.Outcome.TheVariants as outcome
 use Rattle.edge_io.specs.Holding.{Held}
 use Rattle.gdc_words.specs.declared.commands.Command.{Command}
 use Rattle.gdc_words.specs.declared.commands.Command.TheVariants.{Wires, Calc, Show, Lookup, Flat, Trial, Help, Version}
@@ -13,7 +17,7 @@ use Rattle.gdc_words.specs.CommandLine.{Request, Asks, libraries_of, shape_of, v
 use Rattle.gdc_run.specs.Calculation.{no_settings}
 use Rattle.gdc_run.specs.Trial.{TrialWork}
 use Rattle.wire_phases.specs.SpefWork.{IsWithin}
-use Rattle.gdc_run.specs.Work.{OutputWork, not_made, of_made, CommandWork, WordsWork, no_words, of_words}
+use Rattle.gdc_run.specs.Work.{OnEarlyAnswer, IsEarlyOf, BeforeTrees, OutputWork, not_made, of_made, CommandWork, WordsWork, no_words, of_words}
 use Rattle.command_rows.specs.RowsWork.{no_file, no_library}
 
 no_output_work : (held : Option Held) (request : Request) (libraries : Libraries) → OutputWork held request libraries 0
@@ -54,3 +58,22 @@ no_words_work words held steps = record { work = 0; given = no_words; bound = om
 
 pub words_work : (words : List (List ℕ)) (held : Option Held) (request : Request) (before after : ℕ) → Asks words (Ok request) → IsWithin (CommandWork held request.command request) before after → IsWithin (WordsWork words held) before after
 words_work words held request before after asks within = record { work = within.work; given = of_words request asks within.given; bound = within.bound }
+
+-- a refusal that is early for a command is early
+early_of : (command : Command) (refusal : Refusal) → IsEarlyOf command refusal → IsTrue (is_early refusal)
+early_of Wires refusal early = early
+early_of Calc refusal early = early
+early_of Show refusal early = early
+early_of Lookup refusal early = early
+early_of Flat refusal early = early
+early_of Trial refusal early = early
+early_of Help refusal early = early
+early_of Version refusal early = early
+
+pub before_trees : (words : List (List ℕ)) (outcome : Outcome) (before after : ℕ) → OnEarlyAnswer outcome (after ≡ before) → BeforeTrees words outcome (after ≡ before)
+before_trees words outcome.Done before after early = tt
+before_trees words (outcome.Refused refusal) before after early = λ request asks own. early (early_of request.command refusal own)
+before_trees words (outcome.Usage fault) before after early = early
+before_trees words (outcome.ReadFault key) before after early = λ request asks own. early
+before_trees words outcome.WriteFault before after early = tt
+before_trees words outcome.OutOfMemory before after early = tt

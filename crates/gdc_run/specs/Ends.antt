@@ -38,5 +38,9 @@ MeansEnd words held faults faults' opens opens' (Err OutOfMemory) = Unit {0}
 
 -- a fact where an input is refused
 abbrev pub IfRefusedEnd : Result Output End → Type 0 → Type 0
+IfRefusedEnd (Ok output) fact = Unit {0}
+IfRefusedEnd (Err (Usage fault)) fact = Unit {0}
 IfRefusedEnd (Err (Phase (phase.Refused refusal))) fact = fact
-IfRefusedEnd _ fact = Unit {0}
+IfRefusedEnd (Err (Phase (phase.ReadFault key))) fact = Unit {0}
+IfRefusedEnd (Err (Phase phase.OutOfMemory)) fact = Unit {0}
+IfRefusedEnd (Err OutOfMemory) fact = Unit {0}

@@ -1,10 +1,10 @@
 -- What each way in which a run ends says of the verdict, and of what was written.
-use Rattle.std.specs.Prelude.{◌≡◌, ℕ, ◌⊎◌, List, Option, Ok, Err}
+use Rattle.std.specs.Prelude.{◌≡◌, ℕ, ◌+◌, ◌⊎◌, List, Option, Ok, Err}
 use Rattle.edge_io.specs.Counts.{Rose, RoseBy}
 use Rattle.edge_io.specs.Holding.{Held, TellsMissing}
 use Rattle.verdict_phases.specs.Phases.{Reads, Go, Halt}
 use Rattle.gdc_words.specs.declared.commands.Command.{Command}
-use Rattle.gdc_words.specs.declared.commands.Command.TheVariants.{Wires, Calc, Show, Lookup, Flat, Trial}
+use Rattle.gdc_words.specs.declared.commands.Command.TheVariants.{Wires, Calc, Show, Lookup, Flat, Trial, Help, Version}
 use Rattle.gdc_words.specs.declared.commands.Key.TheVariants as key
 use Rattle.gdc_words.specs.declared.commands.Libraries.{Libraries}
 use Rattle.gdc_words.specs.declared.commands.Libraries.TheVariants.{One, EachCorner}
@@ -17,39 +17,72 @@ use Rattle.gdc_run.specs.declared.outcome.Outcome.TheVariants.{Done, Refused, Us
 use Rattle.gdc_words.specs.CommandLine.{Request, Asks, libraries_of, value_of}
 use Rattle.gdc_run.specs.declared.output.Output.{Output}
 use Rattle.gdc_run.specs.Outputs.{output_text}
+use Rattle.gdc_run.specs.Calculation.{corner_count}
 use Rattle.gdc_run.specs.ReadBack.{IsFitFor, IsReadable}
 use Rattle.gdc_run.specs.Verdict.{Gives, Answers, CommandGives}
 
 -- a fact of the run where it is done
 abbrev pub OnDone : Outcome → Type 0 → Type 0
 OnDone Done fact = fact
-OnDone _ fact = Unit {0}
+OnDone (Refused refusal) fact = Unit {0}
+OnDone (Usage fault) fact = Unit {0}
+OnDone (ReadFault key) fact = Unit {0}
+OnDone WriteFault fact = Unit {0}
+OnDone OutOfMemory fact = Unit {0}
 
 -- a fact of the refusal where the run is refused
 abbrev pub IfRefused : Outcome → (Refusal → Type 0) → Type 0
+IfRefused Done fact = Unit {0}
 IfRefused (Refused refusal) fact = fact refusal
-IfRefused _ fact = Unit {0}
+IfRefused (Usage fault) fact = Unit {0}
+IfRefused (ReadFault key) fact = Unit {0}
+IfRefused WriteFault fact = Unit {0}
+IfRefused OutOfMemory fact = Unit {0}
 
 -- a fact of the fault of the words where it is answered
 abbrev pub IfUsage : Outcome → (UsageFault → Type 0) → Type 0
+IfUsage Done fact = Unit {0}
+IfUsage (Refused refusal) fact = Unit {0}
 IfUsage (Usage fault) fact = fact fault
-IfUsage _ fact = Unit {0}
+IfUsage (ReadFault key) fact = Unit {0}
+IfUsage WriteFault fact = Unit {0}
+IfUsage OutOfMemory fact = Unit {0}
 
 -- a fact of the key where a file could not be read
 abbrev pub IfReadFault : Outcome → (FileKey → Type 0) → Type 0
+IfReadFault Done fact = Unit {0}
+IfReadFault (Refused refusal) fact = Unit {0}
+IfReadFault (Usage fault) fact = Unit {0}
 IfReadFault (ReadFault key) fact = fact key
-IfReadFault _ fact = Unit {0}
+IfReadFault WriteFault fact = Unit {0}
+IfReadFault OutOfMemory fact = Unit {0}
 
 -- a fact where the text could not be written whole
 abbrev pub OnWriteFault : Outcome → Type 0 → Type 0
+OnWriteFault Done fact = Unit {0}
+OnWriteFault (Refused refusal) fact = Unit {0}
+OnWriteFault (Usage fault) fact = Unit {0}
+OnWriteFault (ReadFault key) fact = Unit {0}
 OnWriteFault WriteFault fact = fact
-OnWriteFault _ fact = Unit {0}
+OnWriteFault OutOfMemory fact = Unit {0}
+
+-- a fact of every answer that comes once the text is written, whole or not
+abbrev pub OnceWritten : Outcome → Type 0 → Type 0
+OnceWritten Done fact = fact
+OnceWritten (Refused refusal) fact = Unit {0}
+OnceWritten (Usage fault) fact = Unit {0}
+OnceWritten (ReadFault key) fact = Unit {0}
+OnceWritten WriteFault fact = fact
+OnceWritten OutOfMemory fact = Unit {0}
 
 -- a fact of every answer that comes before a byte of the text is written
 abbrev pub UnlessWritten : Outcome → Type 0 → Type 0
 UnlessWritten Done fact = Unit {0}
+UnlessWritten (Refused refusal) fact = fact
+UnlessWritten (Usage fault) fact = fact
+UnlessWritten (ReadFault key) fact = fact
 UnlessWritten WriteFault fact = Unit {0}
-UnlessWritten _ fact = fact
+UnlessWritten OutOfMemory fact = fact
 
 -- the verdict gives what is to be written, of whose text this holds
 abbrev pub GivesText : List (List ℕ) → Option Held → (List ℕ → Type 0) → Type 0
@@ -75,31 +108,63 @@ name_of request LibMin = value_of request.given key.LibMin
 name_of request LibTyp = value_of request.given key.LibTyp
 name_of request LibMax = value_of request.given key.LibMax
 
--- the place of the file of a key in the order in which `calc` reads its files with such libraries
-abbrev pub place_in_calc : Libraries → FileKey → ℕ
-place_in_calc One Netlist = 1
-place_in_calc One Lib = 2
-place_in_calc One Spef = 3
-place_in_calc EachCorner Netlist = 1
-place_in_calc EachCorner LibMin = 2
-place_in_calc EachCorner LibTyp = 3
-place_in_calc EachCorner LibMax = 4
-place_in_calc EachCorner Spef = 5
-place_in_calc _ _ = 0
+-- a place for each key of a file
+pub record Places : Type 0 where
+  pub netlist : ℕ
+  pub library : ℕ
+  pub minimum : ℕ
+  pub typical : ℕ
+  pub maximum : ℕ
+  pub spef : ℕ
+  pub sdf : ℕ
 
--- the place of the file of a key in the order in which a command reads its files, from 1; 0 where it does not read it
-abbrev pub place_for : Command → Libraries → FileKey → ℕ
-place_for Wires libraries Spef = 1
-place_for Calc libraries key = place_in_calc libraries key
-place_for Show libraries Sdf = 1
-place_for Lookup libraries Lib = 1
-place_for Flat libraries Netlist = 1
-place_for Flat libraries Lib = 2
-place_for _ _ _ = 0
+abbrev pub place_at : Places → FileKey → ℕ
+place_at places Netlist = places.netlist
+place_at places Lib = places.library
+place_at places LibMin = places.minimum
+place_at places LibTyp = places.typical
+place_at places LibMax = places.maximum
+place_at places Spef = places.spef
+place_at places Sdf = places.sdf
 
--- the same by what is asked for
+-- the places where no file is read
+abbrev pub no_places : Places
+no_places = record { netlist = 0; library = 0; minimum = 0; typical = 0; maximum = 0; spef = 0; sdf = 0 }
+
+-- the places of the files in the order in which `calc` reads them with such libraries
+abbrev pub places_in_calc : Libraries → Places
+places_in_calc One = record no_places { netlist = 1; library = 2; spef = 3 }
+places_in_calc EachCorner = record no_places { netlist = 1; minimum = 2; typical = 3; maximum = 4; spef = 5 }
+
+-- the places of the files in the order in which a command reads them, from 1; 0 for a file that it does not read
+abbrev pub places_for : Command → Libraries → Places
+places_for Wires libraries = record no_places { spef = 1 }
+places_for Calc libraries = places_in_calc libraries
+places_for Show libraries = record no_places { sdf = 1 }
+places_for Lookup libraries = record no_places { library = 1 }
+places_for Flat libraries = record no_places { netlist = 1; library = 2 }
+places_for Trial libraries = no_places
+places_for Help libraries = no_places
+places_for Version libraries = no_places
+
+-- how many files a command reads: the netlist, the SPEF file and the libraries of its corners for `calc`
+abbrev pub file_count : Command → Libraries → ℕ
+file_count Wires libraries = 1
+file_count Calc libraries = corner_count libraries + 2
+file_count Show libraries = 1
+file_count Lookup libraries = 1
+file_count Flat libraries = 2
+file_count Trial libraries = 0
+file_count Help libraries = 0
+file_count Version libraries = 0
+
+-- the place of the file of a key in the order in which it is read for what is asked for
 abbrev pub reading_place : Request → FileKey → ℕ
-reading_place request key = place_for request.command (libraries_of request.given) key
+reading_place request key = place_at (places_for request.command (libraries_of request.given)) key
+
+-- how many files are read for what is asked for
+abbrev pub files_asked : Request → ℕ
+files_asked request = file_count request.command (libraries_of request.given)
 
 -- Why the file of a key could not be read: the shelf's count of faults rose, or the shelf tells that it does not hold the
 -- file. So many files were opened as stand up to it.
@@ -114,9 +179,13 @@ pub record HasReadFault (words : List (List ℕ)) (held : Option Held) (key : Fi
   pub reached : CommandGives held request.command request (Halt (Reads key))
   pub fault : HasCause held request faults faults' opens opens' key
 
--- the words ask for `trial`
-abbrev pub AskForTrial : List (List ℕ) → Type 0
-AskForTrial words = (request : Request) × Asks words (Ok request) × (request.command ≡ Trial)
+-- the words ask for no file: they have a fault, or they ask for help, the version or `trial`
+abbrev pub AskForNoFile : List (List ℕ) → Type 0
+AskForNoFile words = (request : Request) → Asks words (Ok request) → files_asked request ≡ 0
+
+-- as many files were opened as are read for what the words ask for
+abbrev pub OpenedFiles : List (List ℕ) → ℕ → ℕ → Type 0
+OpenedFiles words opens opens' = (request : Request) × Asks words (Ok request) × RoseBy (files_asked request) opens opens'
 
 -- where the words have a first fault, the run answers it, unless memory runs out
 abbrev pub AnswersUsage : List (List ℕ) → Outcome → Type 0

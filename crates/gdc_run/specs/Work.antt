@@ -13,6 +13,8 @@ use Rattle.gdc_run.specs.declared.outcome.Outcome.{Outcome}
 use Rattle.gdc_run.specs.declared.outcome.Outcome.TheVariants as outcome
 use Rattle.gdc_run.specs.declared.top.End.{End}
 use Rattle.gdc_run.specs.declared.top.End.TheVariants as end
+use Rattle.refusals.specs.declared.refusal.FileKey.{FileKey}
+use Rattle.refusals.specs.declared.refusal.Refusal.{Refusal}
 use Rattle.refusals.specs.EarlyRefusals.{is_early}
 use Rattle.gdc_run.specs.Calculation.{each_corner, files_with, CalcWork}
 use Rattle.gdc_run.specs.Trial.{TrialWork, ReadsTrial}
@@ -54,11 +56,46 @@ OnEarlyEnd (Err (end.Phase (phase.ReadFault key))) fact = fact
 OnEarlyEnd (Err (end.Phase phase.OutOfMemory)) fact = Unit {0}
 OnEarlyEnd (Err end.OutOfMemory) fact = Unit {0}
 
--- a fact of every answer that comes before a tree is built
-abbrev pub BeforeTrees : Outcome → Type 0 → Type 0
-BeforeTrees outcome.Done fact = Unit {0}
-BeforeTrees (outcome.Refused refusal) fact = IsTrue (is_early refusal) → fact
-BeforeTrees (outcome.Usage fault) fact = fact
-BeforeTrees (outcome.ReadFault key) fact = fact
-BeforeTrees outcome.WriteFault fact = Unit {0}
-BeforeTrees outcome.OutOfMemory fact = Unit {0}
+-- a fact of every answer that comes before a tree is built, of the commands that read no file behind one
+abbrev pub OnEarlyAnswer : Outcome → Type 0 → Type 0
+OnEarlyAnswer outcome.Done fact = Unit {0}
+OnEarlyAnswer (outcome.Refused refusal) fact = IsTrue (is_early refusal) → fact
+OnEarlyAnswer (outcome.Usage fault) fact = fact
+OnEarlyAnswer (outcome.ReadFault key) fact = fact
+OnEarlyAnswer outcome.WriteFault fact = Unit {0}
+OnEarlyAnswer outcome.OutOfMemory fact = Unit {0}
+
+-- a refusal of a command comes before a tree is built
+abbrev pub IsEarlyOf : Command → Refusal → Type 0
+IsEarlyOf Wires refusal = IsTrue (is_early refusal)
+IsEarlyOf Calc refusal = IsTrue (is_early refusal)
+IsEarlyOf Show refusal = IsTrue (is_early refusal)
+IsEarlyOf Lookup refusal = IsTrue (is_early refusal)
+IsEarlyOf Flat refusal = IsTrue (is_early refusal)
+IsEarlyOf Trial refusal = IsTrue (is_early refusal)
+IsEarlyOf Help refusal = IsTrue (is_early refusal)
+IsEarlyOf Version refusal = IsTrue (is_early refusal)
+
+-- a command reads the file of a key before a tree is built, as each does with each of its files
+abbrev pub IsReadEarly : Command → FileKey → Type 0
+IsReadEarly Wires key = Unit {0}
+IsReadEarly Calc key = Unit {0}
+IsReadEarly Show key = Unit {0}
+IsReadEarly Lookup key = Unit {0}
+IsReadEarly Flat key = Unit {0}
+IsReadEarly Trial key = Unit {0}
+IsReadEarly Help key = Unit {0}
+IsReadEarly Version key = Unit {0}
+
+-- a fact that holds where this is so of the command that the words ask for
+abbrev pub WhereAsked : List (List ℕ) → (Command → Type 0) → Type 0 → Type 0
+WhereAsked words So fact = (request : Request) → Asks words (Ok request) → So request.command → fact
+
+-- a fact of every answer that comes before a tree is built for the command that the words ask for
+abbrev pub BeforeTrees : List (List ℕ) → Outcome → Type 0 → Type 0
+BeforeTrees words outcome.Done fact = Unit {0}
+BeforeTrees words (outcome.Refused refusal) fact = WhereAsked words (λ command. IsEarlyOf command refusal) fact
+BeforeTrees words (outcome.Usage fault) fact = fact
+BeforeTrees words (outcome.ReadFault key) fact = WhereAsked words (λ command. IsReadEarly command key) fact
+BeforeTrees words outcome.WriteFault fact = Unit {0}
+BeforeTrees words outcome.OutOfMemory fact = Unit {0}

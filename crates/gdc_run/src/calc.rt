@@ -1,5 +1,6 @@
 //! The command `calc`: the delays of the wires and the cells of a design.
-ghost use Rattle.std.specs.Prelude.{◌≡◌, ◌∷◌, ◌++◌, [], IsTrue, IfOk, OnOk};
+ghost use Rattle.std.specs.Prelude.{◌≡◌, ◌+◌, ◌∷◌, ◌++◌, [], IsTrue, IfOk, OnOk};
+ghost use Rattle.edge_io.specs.Counts.{RoseBy};
 ghost use Rattle.name_table.specs.WellSpelled.{IsWellSpelled};
 ghost use Rattle.sdf_read_back.specs.ReadBack.{AreFit};
 ghost use Rattle.spef_nets.specs.Drafts.{corners_of};
@@ -114,6 +115,7 @@ fn calc_rows<C: CornerSet, H: Shelf, L: Ledger>(
     ensures fit { IfOk result (AreFit IsWellSpelled C.COUNT) }
     ensures fault { AtReadFault result
         (HasCause (H.held shelf.old) asked.now (H.faults shelf.old) (H.faults shelf.new) (H.opens shelf.old) (H.opens shelf.new)) }
+    ensures opens { OnOk result (RoseBy (corner_count (libraries_of asked.now.given) + 2) (H.opens shelf.old) (H.opens shelf.new)) }
     ensures steps { IsWithin (CalcWork (corners_of C.COUNT C.number_of C.member_of) (H.held shelf.old) (files_from asked.now) asked.now)
         steps.old steps.new }
     ensures no_steps { OnEarly result (steps.new ≡ steps.old) }
@@ -135,6 +137,7 @@ pub fn calc<H: Shelf, L: Ledger>(
     ensures fit { IfOk result (IsFitFor Calc) }
     ensures fault { AtReadFault result
         (HasCause (H.held shelf.old) asked.now (H.faults shelf.old) (H.faults shelf.new) (H.opens shelf.old) (H.opens shelf.new)) }
+    ensures opens { OnOk result (RoseBy (corner_count (libraries_of asked.now.given) + 2) (H.opens shelf.old) (H.opens shelf.new)) }
     ensures steps { IsWithin (OutputWork (H.held shelf.old) asked.now (libraries_of asked.now.given)) steps.old steps.new }
     ensures no_steps { OnEarly result (steps.new ≡ steps.old) }
 {

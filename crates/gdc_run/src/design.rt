@@ -1,5 +1,6 @@
 //! The rows of a design, from its files.
-ghost use Rattle.std.specs.Prelude.{◌≡◌, length, IfOk};
+ghost use Rattle.std.specs.Prelude.{◌≡◌, ◌+◌, length, IfOk, OnOk};
+ghost use Rattle.edge_io.specs.Counts.{RoseBy};
 ghost use Rattle.name_table.specs.WellSpelled.{IsWellSpelled};
 ghost use Rattle.sdf_read_back.specs.ReadBack.{AreFit};
 ghost use Rattle.spef_nets.specs.Drafts.{corners_of};
@@ -36,6 +37,7 @@ pub fn design_rows<C: CornerSet, H: Shelf, L: Ledger>(
     ensures fit { IfOk result (AreFit IsWellSpelled C.COUNT) }
     ensures fault { AtReadFault result (IsAnnotationFault (H.held shelf.old) C.COUNT files.now (H.faults shelf.old) (H.faults shelf.new)
         (H.opens shelf.old) (H.opens shelf.new)) }
+    ensures opens { OnOk result (RoseBy (C.COUNT + 2) (H.opens shelf.old) (H.opens shelf.new)) }
     ensures steps { IsWithin (FilesWork (H.held shelf.old) (corners_of C.COUNT C.number_of C.member_of settings.now.pick)
         files.now settings.now) steps.old steps.new }
     ensures no_steps { OnEarly result (steps.new ≡ steps.old) }

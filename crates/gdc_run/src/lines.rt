@@ -1,6 +1,7 @@
 //! The line that says how a run ended.
 ghost use Rattle.std.specs.Prelude.{◌≡◌};
 ghost use Rattle.edge_io.specs.Writing.{Writes};
+ghost use Rattle.gdc_run.specs.Outcomes.{OnDone};
 ghost use Rattle.gdc_run.specs.Lines.{kind_text, usage_line, line_of};
 
 use crate::outcome::Outcome;
@@ -44,6 +45,7 @@ fn say_usage<E: Sink>(fault: &UsageFault, err: &mut E) -> Result<(), Failed>
 pub fn say<E: Sink>(outcome: &Outcome, corners: usize, err: &mut E) -> Result<(), Failed>
     ensures writes { Writes (line_of corners outcome.now) (E.written err.old) (E.written err.new) (E.faults err.old)
         (E.faults err.new) result }
+    ensures untouched { OnDone outcome.now (err.new ≡ err.old) }
 {
     match outcome {
         Outcome::Done => Ok(()),

@@ -1,9 +1,9 @@
 //! What each command does.
-ghost use Rattle.std.specs.Prelude.{◌≡◌, IfOk};
+ghost use Rattle.std.specs.Prelude.{◌≡◌, IfOk, OnOk};
+ghost use Rattle.edge_io.specs.Counts.{RoseBy};
 ghost use Rattle.verdict_phases.specs.Phases.{Follows};
 ghost use Rattle.refusals.specs.Refused.{AtReadFault};
-ghost use Rattle.gdc_words.specs.declared.commands.Command.TheVariants.{Trial};
-ghost use Rattle.gdc_run.specs.Outcomes.{HasCause};
+ghost use Rattle.gdc_run.specs.Outcomes.{HasCause, files_asked};
 ghost use Rattle.gdc_run.specs.ReadBack.{IsFitFor};
 ghost use Rattle.gdc_run.specs.Verdict.{CommandGives};
 ghost use Rattle.refusals.specs.EarlyRefusals.{OnEarly};
@@ -35,7 +35,8 @@ pub fn perform<H: Shelf, L: Ledger>(
         (HasCause (H.held shelf.old) asked.now (H.faults shelf.old) (H.faults shelf.new) (H.opens shelf.old) (H.opens shelf.new)) }
     ensures steps { IsWithin (CommandWork (H.held shelf.old) asked.now.command asked.now) steps.old steps.new }
     ensures no_steps { OnEarly result (steps.new ≡ steps.old) }
-    ensures untouched { asked.now.command ≡ Trial → shelf.new ≡ shelf.old }
+    ensures opens { OnOk result (RoseBy (files_asked asked.now) (H.opens shelf.old) (H.opens shelf.new)) }
+    ensures untouched { files_asked asked.now ≡ 0 → shelf.new ≡ shelf.old }
 {
     match asked.command() {
         Command::Wires => {

@@ -1,18 +1,18 @@
 //! The one call that the program makes.
-ghost use Rattle.std.specs.Prelude.{◌≡◌, Result, Err};
+ghost use Rattle.std.specs.Prelude.{◌≡◌, Result, Err, OnOk};
 ghost use Rattle.edge_io.specs.Counts.{Rose};
 ghost use Rattle.edge_io.specs.Told.{appended, AppendsFrontOf};
 ghost use Rattle.edge_io.specs.Writing.{Writes};
 ghost use Rattle.gdc_words.specs.CommandLine.{Asks};
 ghost use Rattle.gdc_run.specs.Verdict.{Gives, Answers};
 ghost use Rattle.gdc_run.specs.Outputs.{output_text};
-ghost use Rattle.gdc_run.specs.Outcomes.{OnDone, IfRefused, IfUsage, IfReadFault, OnWriteFault, UnlessWritten, GivesText, GivesFit, GivesReadable, HasReadFault, AskForTrial, AnswersUsage};
+ghost use Rattle.gdc_run.specs.Outcomes.{OnDone, IfRefused, IfUsage, IfReadFault, OnWriteFault, UnlessWritten, GivesText, GivesFit, GivesReadable, HasReadFault, AskForNoFile, OpenedFiles, OnceWritten, AnswersUsage};
 ghost use Rattle.gdc_run.specs.OneVerdict.{OneVerdict};
 ghost use Rattle.gdc_run.specs.Saying.{AskForCorners, Says};
 ghost use Rattle.gdc_run.specs.Completeness.{IsComplete};
 ghost use Rattle.gdc_run.specs.Ends.{MeansEnd, IfRefusedEnd, FollowsTop};
 ghost use Rattle.wire_phases.specs.SpefWork.{IsWithin};
-ghost use Rattle.gdc_run.specs.Work.{WordsWork, OnEarlyEnd, BeforeTrees};
+ghost use Rattle.gdc_run.specs.Work.{WordsWork, OnEarlyEnd, OnEarlyAnswer, BeforeTrees};
 ghost use Rattle.verdict_phases.specs.Phases.{RefusedBy, Halt};
 
 use crate::calc::corner_count;
@@ -77,7 +77,8 @@ fn decide<H: Shelf, L: Ledger>(
     ensures corners { IfRefusedEnd result (AskForCorners words.now corners.new) }
     ensures steps { IsWithin (WordsWork words.now (H.held shelf.old)) steps.old steps.new }
     ensures no_steps { OnEarlyEnd result (steps.new ≡ steps.old) }
-    ensures untouched { AskForTrial words.now → shelf.new ≡ shelf.old }
+    ensures opens { OnOk result (OpenedFiles words.now (H.opens shelf.old) (H.opens shelf.new)) }
+    ensures untouched { AskForNoFile words.now → shelf.new ≡ shelf.old }
 {
     let asked = read_words(alloc, words)?;
     *corners = corner_count(asked.libraries());
@@ -111,11 +112,12 @@ fn answer<H: Shelf, O: Sink, L: Ledger>(
     ensures write_fault { OnWriteFault result (Rose (O.faults out.old) (O.faults out.new)
         × GivesText words.now (H.held shelf.old)
         (λ text. AppendsFrontOf text (O.written out.old) (O.written out.new))) }
-    ensures untouched { UnlessWritten result (O.written out.new ≡ O.written out.old) }
+    ensures untouched { UnlessWritten result (out.new ≡ out.old) }
     ensures corners { IfRefused result (λ _. AskForCorners words.now corners.new) }
     ensures steps { IsWithin (WordsWork words.now (H.held shelf.old)) steps.old steps.new }
-    ensures no_steps { BeforeTrees result (steps.new ≡ steps.old) }
-    ensures untouched_shelf { AskForTrial words.now → shelf.new ≡ shelf.old }
+    ensures no_steps { OnEarlyAnswer result (steps.new ≡ steps.old) }
+    ensures opens { OnceWritten result (OpenedFiles words.now (H.opens shelf.old) (H.opens shelf.new)) }
+    ensures untouched_shelf { AskForNoFile words.now → shelf.new ≡ shelf.old }
 {
     match decide(alloc, words, shelf, corners, steps) {
         Err(End::Usage(fault)) => Outcome::Usage(fault),
@@ -160,17 +162,20 @@ pub fn run<H: Shelf, O: Sink, E: Sink, L: Ledger>(
     ensures read_fault { IfReadFault result (λ key. HasReadFault words.now (H.held shelf.old) key
         (H.faults shelf.old) (H.faults shelf.new) (H.opens shelf.old) (H.opens shelf.new)) }
 
-    // `trial` uses no shelf, and no read fault comes of it.
-    ensures untouched_shelf { AskForTrial words.now → shelf.new ≡ shelf.old }
-    ensures no_read_fault { IfReadFault result (λ _. AskForTrial words.now → ⊥) }
+    // Where the words ask for no file, the shelf is what it was, and no read fault is answered. Once the text is written, as many files were
+    // opened as the command reads.
+    ensures untouched_shelf { AskForNoFile words.now → shelf.new ≡ shelf.old }
+    ensures no_read_fault { IfReadFault result (λ _. AskForNoFile words.now → ⊥) }
+    ensures opens { OnceWritten result (OpenedFiles words.now (H.opens shelf.old) (H.opens shelf.new)) }
 
     // Where the text could not be written whole, a front of it was, and the count of `out` rose.
     ensures write_fault { OnWriteFault result (Rose (O.faults out.old) (O.faults out.new)
         × GivesText words.now (H.held shelf.old)
         (λ text. AppendsFrontOf text (O.written out.old) (O.written out.new))) }
 
-    // Every other answer leaves `out` as it was.
-    ensures untouched { UnlessWritten result (O.written out.new ≡ O.written out.old) }
+    // Every other answer leaves `out` as it was, and a run that is done leaves `err` so.
+    ensures untouched { UnlessWritten result (out.new ≡ out.old) }
+    ensures untouched_err { OnDone result (err.new ≡ err.old) }
 
     // Where no count rises, the answer is the verdict's, or memory ran out.
     ensures complete { IsComplete words.now (H.held shelf.old) (H.faults shelf.old) (H.faults shelf.new)
@@ -185,7 +190,7 @@ pub fn run<H: Shelf, O: Sink, E: Sink, L: Ledger>(
     // No more steps than 16 for each resistor, capacitance to ground and connection of the nets, and for `calc` and `trial` 160 for each
     // edge of an arc beside them; and none before all sections are read without a fault, or before the model of a cell is made.
     ensures steps { IsWithin (WordsWork words.now (H.held shelf.old)) steps.old steps.new }
-    ensures no_steps { BeforeTrees result (steps.new ≡ steps.old) }
+    ensures no_steps { BeforeTrees words.now result (steps.new ≡ steps.old) }
 {
     always_readable();
     one_verdict();
