@@ -4,7 +4,7 @@ use Rattle.std.specs.Prelude.{⊤}
 use Rattle.std.proofs.lemmas.Bool.{ltb-true}
 use Rattle.token_fronts.specs.Accepting.{Accepts, ended, taken}
 use Rattle.verilog_netlist.specs.Grammar.{Tok, Is, range_from, added, Listed, one, and_one, Many, none, more, Maybe, left_out, there, IsName, name, IsDirection, input, output, MaybeWire, no_wire, wire, range, MaybeRange, no_range, with_range, declared, IsAnsi, ansi, names, directions, IsPorts, ports, IsExpr, whole, bit, part, constant, in_braces, AreExprs, one_expr, and_expr, IsConnection, connection, IsInstance, instance, IsItem, directed, wires, instances, IsModule, is_module, IsNetlist}
-use Rattle.verilog_netlist.specs.Steps.{Go, Refuse, bound_at, modules_step, module_name_step, module_head_step, header_start_step, header_name_step, header_more_step, header_end_step, items_step, after_wire_step, after_way_step, range_left_step, range_colon_step, range_right_step, range_end_step, declared_name_step, header_declared_step, item_declared_step, next_port_step, instance_name_step, instance_open_step, first_connection_step, next_connection_step, port_name_step, port_open_step, place_at, operand_step, joined_step, behind_expr, saying, name_end_step, select_left_step, select_next_step, select_right_step, select_end_step, connection_end_step, instance_end_step}
+use Rattle.verilog_netlist.specs.Steps.{Go, Refuse, bound_at, modules_step, name_step, open_step, listed_step, item_end_step, module_head_step, header_start_step, header_end_step, items_step, after_wire_step, after_way_step, range_left_step, range_colon_step, range_right_step, range_end_step, next_port_step, first_connection_step, next_connection_step, place_at, operand_step, joined_step, behind_expr, saying, name_end_step, select_left_step, select_next_step, select_right_step, select_end_step}
 use Rattle.verilog_netlist.specs.Modes.{State, first_state, state_after, next, finish}
 use Rattle.token_texts.specs.declared.spans.Span.{Span}
 use Rattle.verilog_netlist.specs.declared.kinds.Kind.{Kind}
@@ -305,7 +305,7 @@ module _ {from here : List Tok} {token : Tok} {entries : List Entry} {after : St
   in_modules kind.Module is are e = becomes (at ModuleName entries) e (at_name are is)
   in_modules _ is are e = never e
 
-  in_name : {word : Tok} (k : Kind) → Is k token → Many IsModule from [] entries (word ∷ token ∷ here) → Is kind.Module word → state_after (module_name_step k token.text.at) entries ≡ Ok after → Meant after from here
+  in_name : {word : Tok} (k : Kind) → Is k token → Many IsModule from [] entries (word ∷ token ∷ here) → Is kind.Module word → state_after (name_step k ModuleHead (entry.Module token.text.at)) entries ≡ Ok after → Meant after from here
   in_name kind.Name is are m e = becomes (at ModuleHead (added entries (entry.Module token.text.at))) e (at_head (begun are m is))
   in_name _ is are m e = never e
 
@@ -321,11 +321,11 @@ module _ {from here : List Tok} {token : Tok} {entries : List Entry} {after : St
   in_header_start kind.RightParen is o e = becomes (at HeaderEnd entries) e (at_header_end (no_names_close o is))
   in_header_start _ is o e = never e
 
-  in_header_name : {comma : Tok} (k : Kind) → Is k token → HasNames entries from (comma ∷ token ∷ here) → Is kind.Comma comma → state_after (header_name_step k token.text.at) entries ≡ Ok after → Meant after from here
+  in_header_name : {comma : Tok} (k : Kind) → Is k token → HasNames entries from (comma ∷ token ∷ here) → Is kind.Comma comma → state_after (name_step k HeaderMore (entry.Header token.text.at)) entries ≡ Ok after → Meant after from here
   in_header_name kind.Name is (has_names o are) c e = becomes (at HeaderMore (added entries (entry.Header token.text.at))) e (at_header_more (has_names o (one_more_name are c is)))
   in_header_name _ is h c e = never e
 
-  in_header_more : (k : Kind) → Is k token → HasNames entries from (token ∷ here) → state_after (header_more_step k) entries ≡ Ok after → Meant after from here
+  in_header_more : (k : Kind) → Is k token → HasNames entries from (token ∷ here) → state_after (listed_step k HeaderName HeaderEnd) entries ≡ Ok after → Meant after from here
   in_header_more kind.Comma is h e = becomes (at HeaderName entries) e (at_header_name h is)
   in_header_more kind.RightParen is h e = becomes (at HeaderEnd entries) e (at_header_end (names_close h is))
   in_header_more _ is h e = never e
@@ -372,17 +372,17 @@ module _ {from here : List Tok} {token : Tok} {entries : List Entry} {after : St
       becomes (at (DeclaredName by (Some (range_from left first right second))) entries) e (at_declared_name (first_due w (with_range (range b f c s is))))
   in_range_end _ is w b f c s e = never e
 
-  in_declared_name : {by : Decl} {bounds : Option Range} (k : Kind) → Is k token → NameDue by bounds entries from (token ∷ here) → state_after (declared_name_step k token.text.at by bounds) entries ≡ Ok after → Meant after from here
+  in_declared_name : {by : Decl} {bounds : Option Range} (k : Kind) → Is k token → NameDue by bounds entries from (token ∷ here) → state_after (name_step k (DeclaredMore by bounds) (entry.Declared by token.text.at bounds)) entries ≡ Ok after → Meant after from here
   in_declared_name {by} {bounds} kind.Name is due e = becomes (at (DeclaredMore by bounds) (added entries (entry.Declared by token.text.at bounds))) e (at_declared (declare due is))
   in_declared_name _ is due e = never e
 
-  in_header_declared : {way : Direction} {bounds : Option Range} (k : Kind) → Is k token → HasDeclared (decl.InHeader way) bounds entries from (token ∷ here) → state_after (header_declared_step k way bounds) entries ≡ Ok after → Meant after from here
+  in_header_declared : {way : Direction} {bounds : Option Range} (k : Kind) → Is k token → HasDeclared (decl.InHeader way) bounds entries from (token ∷ here) → state_after (listed_step k (NextPort way bounds) HeaderEnd) entries ≡ Ok after → Meant after from here
   in_header_declared {way} {bounds} kind.Comma is h e = becomes (at (NextPort way bounds) entries) e (at_next_port h is)
   in_header_declared kind.RightParen is h e = becomes (at HeaderEnd entries) e (at_header_end (ansis_close (ansis_end h) is))
   in_header_declared _ is h e = never e
 
   in_item_declared : {by : Decl} {bounds : Option Range} (k : Kind) → Is k token → (Is kind.Semicolon token → InModule entries from here)
-      → HasDeclared by bounds entries from (token ∷ here) → state_after (item_declared_step k by bounds) entries ≡ Ok after → Meant after from here
+      → HasDeclared by bounds entries from (token ∷ here) → state_after (item_end_step k (DeclaredName by bounds)) entries ≡ Ok after → Meant after from here
   in_item_declared {by} {bounds} kind.Comma is item h e = becomes (at (DeclaredName by bounds) entries) e (at_declared_name (next_due h is))
   in_item_declared kind.Semicolon is item h e = becomes (at Items entries) e (at_items (item is))
   in_item_declared _ is item h e = never e
@@ -400,11 +400,11 @@ module _ {from here : List Tok} {token : Tok} {entries : List Entry} {after : St
   in_next_port kind.Output is h c e = becomes (at (AfterWay (decl.InHeader Out)) entries) e (at_way (in_header (ansis_end h) c (output is)))
   in_next_port _ is h c e = never e
 
-  in_instance : {cell : Span} (k : Kind) → Is k token → InstanceDue cell entries from (token ∷ here) → state_after (instance_name_step k token.text.at cell) entries ≡ Ok after → Meant after from here
+  in_instance : {cell : Span} (k : Kind) → Is k token → InstanceDue cell entries from (token ∷ here) → state_after (name_step k (InstanceOpen cell) (entry.Instance cell token.text.at)) entries ≡ Ok after → Meant after from here
   in_instance {cell} kind.Name is due e = becomes (at (InstanceOpen cell) (added entries (entry.Instance cell token.text.at))) e (at_instance_open (instance_named due is))
   in_instance _ is due e = never e
 
-  in_instance_open : {cell : Span} (k : Kind) → Is k token → InstanceNamed cell entries from (token ∷ here) → state_after (instance_open_step k cell) entries ≡ Ok after → Meant after from here
+  in_instance_open : {cell : Span} (k : Kind) → Is k token → InstanceNamed cell entries from (token ∷ here) → state_after (open_step k (FirstConnection cell)) entries ≡ Ok after → Meant after from here
   in_instance_open {cell} kind.LeftParen is n e = becomes (at (FirstConnection cell) entries) e (at_first (instance_opened n is))
   in_instance_open _ is n e = never e
 
@@ -417,11 +417,11 @@ module _ {from here : List Tok} {token : Tok} {entries : List Entry} {after : St
   in_next {cell} kind.Dot is h c e = becomes (at (PortName cell) entries) e (at_port (next_connection h c) is)
   in_next _ is h c e = never e
 
-  in_port : {cell : Span} {dot : Tok} (k : Kind) → Is k token → ConnectionDue cell entries from (dot ∷ token ∷ here) → Is kind.Dot dot → state_after (port_name_step k token.text.at cell) entries ≡ Ok after → Meant after from here
+  in_port : {cell : Span} {dot : Tok} (k : Kind) → Is k token → ConnectionDue cell entries from (dot ∷ token ∷ here) → Is kind.Dot dot → state_after (name_step k (PortOpen cell) (entry.Port token.text.at)) entries ≡ Ok after → Meant after from here
   in_port {cell} kind.Name is due d e = becomes (at (PortOpen cell) (added entries (entry.Port token.text.at))) e (at_port_open (port_named due d is))
   in_port _ is due d e = never e
 
-  in_port_open : {cell : Span} (k : Kind) → Is k token → PortNamed cell entries from (token ∷ here) → state_after (port_open_step k cell) entries ≡ Ok after → Meant after from here
+  in_port_open : {cell : Span} (k : Kind) → Is k token → PortNamed cell entries from (token ∷ here) → state_after (open_step k (Joined cell)) entries ≡ Ok after → Meant after from here
   in_port_open {cell} kind.LeftParen is n e = becomes (at (Joined cell) entries) e (at_joined (port_opened n is))
   in_port_open _ is n e = never e
 
@@ -473,12 +473,12 @@ module _ {from here : List Tok} {token : Tok} {entries : List Entry} {after : St
       becomes (at (OperandEnd (place_at cell depth)) (added entries (entry.Part id.text.at (range_from left first right second)))) e (at_operand_end (expr_ends due (part n (range b f c s is))))
   in_select_end _ is due n b f c s e = never e
 
-  in_connection_end : {cell : Span} (k : Kind) → Is k token → HasConnections cell entries from (token ∷ here) → state_after (connection_end_step k cell) entries ≡ Ok after → Meant after from here
+  in_connection_end : {cell : Span} (k : Kind) → Is k token → HasConnections cell entries from (token ∷ here) → state_after (listed_step k (NextConnection cell) (InstanceEnd cell)) entries ≡ Ok after → Meant after from here
   in_connection_end {cell} kind.Comma is h e = becomes (at (NextConnection cell) entries) e (at_next h is)
   in_connection_end {cell} kind.RightParen is (has_connections o are) e = becomes (at (InstanceEnd cell) entries) e (at_instance_end (instance_end o (there are) is))
   in_connection_end _ is h e = never e
 
-  in_instance_end : {cell : Span} (k : Kind) → Is k token → HasInstances cell entries from (token ∷ here) → state_after (instance_end_step k cell) entries ≡ Ok after → Meant after from here
+  in_instance_end : {cell : Span} (k : Kind) → Is k token → HasInstances cell entries from (token ∷ here) → state_after (item_end_step k (InstanceName cell)) entries ≡ Ok after → Meant after from here
   in_instance_end {cell} kind.Comma is h e = becomes (at (InstanceName cell) entries) e (at_instance (next_instance h is))
   in_instance_end kind.Semicolon is h e = becomes (at Items entries) e (at_items (instances_end h is))
   in_instance_end _ is h e = never e

@@ -21,13 +21,31 @@ pub data Step : Type 0 where
   Go : Mode → Step
   Put : Mode → Entry → Step
 
+-- a name that says something
+abbrev pub name_step : Kind → Mode → Entry → Step
+name_step kind.Name mode said = Put mode said
+name_step _ mode said = Refuse
+
+-- a `(`
+abbrev pub open_step : Kind → Mode → Step
+open_step kind.LeftParen mode = Go mode
+open_step _ mode = Refuse
+
+-- behind a piece of a list in parentheses: a comma and one more, or the `)`
+abbrev pub listed_step : Kind → Mode → Mode → Step
+listed_step kind.Comma more end = Go more
+listed_step kind.RightParen more end = Go end
+listed_step _ more end = Refuse
+
+-- behind a piece of an item: a comma and one more, or the `;`
+abbrev pub item_end_step : Kind → Mode → Step
+item_end_step kind.Comma more = Go more
+item_end_step kind.Semicolon more = Go Items
+item_end_step _ more = Refuse
+
 abbrev pub modules_step : Kind → Step
 modules_step kind.Module = Go ModuleName
 modules_step _ = Refuse
-
-abbrev pub module_name_step : Kind → Span → Step
-module_name_step kind.Name at = Put ModuleHead (entry.Module at)
-module_name_step _ at = Refuse
 
 abbrev pub module_head_step : Kind → Step
 module_head_step kind.LeftParen = Go HeaderStart
@@ -41,15 +59,6 @@ header_start_step kind.Input at = Go (AfterWay (decl.InHeader In))
 header_start_step kind.Output at = Go (AfterWay (decl.InHeader Out))
 header_start_step kind.RightParen at = Go HeaderEnd
 header_start_step _ at = Refuse
-
-abbrev pub header_name_step : Kind → Span → Step
-header_name_step kind.Name at = Put HeaderMore (entry.Header at)
-header_name_step _ at = Refuse
-
-abbrev pub header_more_step : Kind → Step
-header_more_step kind.Comma = Go HeaderName
-header_more_step kind.RightParen = Go HeaderEnd
-header_more_step _ = Refuse
 
 abbrev pub header_end_step : Kind → Step
 header_end_step kind.Semicolon = Go Items
@@ -97,38 +106,15 @@ abbrev pub range_end_step : Kind → Decl → Range → Step
 range_end_step kind.RightBracket by bounds = Go (DeclaredName by (Some bounds))
 range_end_step _ by bounds = Refuse
 
-abbrev pub declared_name_step : Kind → Span → Decl → Option Range → Step
-declared_name_step kind.Name at by bounds = Put (DeclaredMore by bounds) (entry.Declared by at bounds)
-declared_name_step _ at by bounds = Refuse
-
--- behind a name that is declared
-abbrev pub header_declared_step : Kind → Direction → Option Range → Step
-header_declared_step kind.Comma way bounds = Go (NextPort way bounds)
-header_declared_step kind.RightParen way bounds = Go HeaderEnd
-header_declared_step _ way bounds = Refuse
-
-abbrev pub item_declared_step : Kind → Decl → Option Range → Step
-item_declared_step kind.Comma by bounds = Go (DeclaredName by bounds)
-item_declared_step kind.Semicolon by bounds = Go Items
-item_declared_step _ by bounds = Refuse
-
 abbrev pub declared_more_step : Kind → Decl → Option Range → Step
-declared_more_step k (decl.InHeader way) bounds = header_declared_step k way bounds
-declared_more_step k by bounds = item_declared_step k by bounds
+declared_more_step k (decl.InHeader way) bounds = listed_step k (NextPort way bounds) HeaderEnd
+declared_more_step k by bounds = item_end_step k (DeclaredName by bounds)
 
 abbrev pub next_port_step : Kind → Span → Direction → Option Range → Step
 next_port_step kind.Name at way bounds = Put (DeclaredMore (decl.InHeader way) bounds) (entry.Declared (decl.InHeader way) at bounds)
 next_port_step kind.Input at way bounds = Go (AfterWay (decl.InHeader In))
 next_port_step kind.Output at way bounds = Go (AfterWay (decl.InHeader Out))
 next_port_step _ at way bounds = Refuse
-
-abbrev pub instance_name_step : Kind → Span → Span → Step
-instance_name_step kind.Name at cell = Put (InstanceOpen cell) (entry.Instance cell at)
-instance_name_step _ at cell = Refuse
-
-abbrev pub instance_open_step : Kind → Span → Step
-instance_open_step kind.LeftParen cell = Go (FirstConnection cell)
-instance_open_step _ cell = Refuse
 
 abbrev pub first_connection_step : Kind → Span → Step
 first_connection_step kind.Dot cell = Go (PortName cell)
@@ -138,14 +124,6 @@ first_connection_step _ cell = Refuse
 abbrev pub next_connection_step : Kind → Span → Step
 next_connection_step kind.Dot cell = Go (PortName cell)
 next_connection_step _ cell = Refuse
-
-abbrev pub port_name_step : Kind → Span → Span → Step
-port_name_step kind.Name at cell = Put (PortOpen cell) (entry.Port at)
-port_name_step _ at cell = Refuse
-
-abbrev pub port_open_step : Kind → Span → Step
-port_open_step kind.LeftParen cell = Go (Joined cell)
-port_open_step _ cell = Refuse
 
 abbrev pub place_at : Span → ℕ → Place
 place_at cell depth = record { cell = cell; depth = depth }
@@ -201,24 +179,14 @@ abbrev pub select_end_step : Kind → Place → Span → Range → Step
 select_end_step kind.RightBracket place id bounds = Put (OperandEnd place) (entry.Part id bounds)
 select_end_step _ place id bounds = Refuse
 
-abbrev pub connection_end_step : Kind → Span → Step
-connection_end_step kind.Comma cell = Go (NextConnection cell)
-connection_end_step kind.RightParen cell = Go (InstanceEnd cell)
-connection_end_step _ cell = Refuse
-
-abbrev pub instance_end_step : Kind → Span → Step
-instance_end_step kind.Comma cell = Go (InstanceName cell)
-instance_end_step kind.Semicolon cell = Go Items
-instance_end_step _ cell = Refuse
-
 -- what a token of this kind at this place of the file does
 abbrev pub step_in : Mode → Kind → Span → Step
 step_in Modules k at = modules_step k
-step_in ModuleName k at = module_name_step k at
+step_in ModuleName k at = name_step k ModuleHead (entry.Module at)
 step_in ModuleHead k at = module_head_step k
 step_in HeaderStart k at = header_start_step k at
-step_in HeaderName k at = header_name_step k at
-step_in HeaderMore k at = header_more_step k
+step_in HeaderName k at = name_step k HeaderMore (entry.Header at)
+step_in HeaderMore k at = listed_step k HeaderName HeaderEnd
 step_in HeaderEnd k at = header_end_step k
 step_in Items k at = items_step k at
 step_in (AfterWay by) k at = after_way_step k at by
@@ -227,15 +195,15 @@ step_in (RangeLeft by) k at = range_left_step k at by
 step_in (RangeColon by left) k at = range_colon_step k by left
 step_in (RangeRight by left) k at = range_right_step k at by left
 step_in (RangeEnd by bounds) k at = range_end_step k by bounds
-step_in (DeclaredName by bounds) k at = declared_name_step k at by bounds
+step_in (DeclaredName by bounds) k at = name_step k (DeclaredMore by bounds) (entry.Declared by at bounds)
 step_in (DeclaredMore by bounds) k at = declared_more_step k by bounds
 step_in (NextPort way bounds) k at = next_port_step k at way bounds
-step_in (InstanceName cell) k at = instance_name_step k at cell
-step_in (InstanceOpen cell) k at = instance_open_step k cell
+step_in (InstanceName cell) k at = name_step k (InstanceOpen cell) (entry.Instance cell at)
+step_in (InstanceOpen cell) k at = open_step k (FirstConnection cell)
 step_in (FirstConnection cell) k at = first_connection_step k cell
 step_in (NextConnection cell) k at = next_connection_step k cell
-step_in (PortName cell) k at = port_name_step k at cell
-step_in (PortOpen cell) k at = port_open_step k cell
+step_in (PortName cell) k at = name_step k (PortOpen cell) (entry.Port at)
+step_in (PortOpen cell) k at = open_step k (Joined cell)
 step_in (Joined cell) k at = joined_step k at cell
 step_in (Operand place) k at = operand_step k at place
 step_in (NameEnd place id) k at = name_end_step k place id
@@ -244,5 +212,5 @@ step_in (SelectNext place id left) k at = select_next_step k place id left
 step_in (SelectRight place id left) k at = select_right_step k at place id left
 step_in (SelectEnd place id bounds) k at = select_end_step k place id bounds
 step_in (OperandEnd place) k at = operand_end_step k place
-step_in (ConnectionEnd cell) k at = connection_end_step k cell
-step_in (InstanceEnd cell) k at = instance_end_step k cell
+step_in (ConnectionEnd cell) k at = listed_step k (NextConnection cell) (InstanceEnd cell)
+step_in (InstanceEnd cell) k at = item_end_step k (InstanceName cell)

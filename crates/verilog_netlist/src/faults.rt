@@ -1,13 +1,10 @@
 //! The first fault in the names and ranges of a netlist.
-ghost use Rattle.std.specs.Prelude.{◌≡◌, ◌^◌, ◌<◌, [], length, IfOk};
-ghost use Rattle.verilog_netlist.specs.DeclaredNames.{CoversRanged};
+ghost use Rattle.std.specs.Prelude.{◌≡◌, ◌^◌, ◌<◌, length, IfOk};
 ghost use Rattle.verilog_netlist.specs.Faults.{FindsFault, or_earlier};
-ghost use Rattle.verilog_netlist.specs.NameKeys.{keys_in};
-ghost use Rattle.verilog_netlist.specs.Ranges.{IsFirstBadRange};
 
 use crate::declared::DeclaredNames;
 use crate::entries::Entry;
-use crate::repeats::{NameKey, NamesSoFar};
+use crate::repeats::NamesSoFar;
 use edge_io::OutOfMemory;
 use indexmap::IndexSet;
 use name_table::NameHash;
@@ -56,45 +53,6 @@ fn or_earlier(
     }
 }
 
-// The place of the first bad range, where these are the keys of the names that are declared with a range.
-fn first_bad_range(
-    alloc: Global,
-    ranged: &IndexSet<NameKey<'_>, NameHash>,
-    bytes: &[u8],
-    entries: &[Entry],
-) -> Result<Option<usize>, OutOfMemory>
-    requires few { length entries.now < 2 ^ 30 }
-    requires ranged { CoversRanged bytes.now entries.now (length entries.now) (keys_in ranged.now.keys) }
-    ensures { IfOk result (IsFirstBadRange bytes.now entries.now) }
-{
-    let mut declared = DeclaredNames::new(alloc, ranged.len())?;
-    declared.add_all(ranged, bytes, entries)?;
-    Ok(declared.first_bad_range(bytes, entries))
-}
-
-impl<'a> NamesSoFar<'a> {
-    // The first fault, where no name was taken before.
-    fn first_fault(
-        &mut self,
-        alloc: Global,
-        bytes: &'a [u8],
-        entries: &[Entry],
-    ) -> Result<Option<FirstFault>, OutOfMemory>
-        requires few { length entries.now < 2 ^ 30 }
-        requires keys { self.old.keys.keys ≡ [] }
-        requires ports { self.old.ports ≡ [] }
-        ensures { IfOk result (FindsFault bytes.now entries.now) }
-    {
-        let mut ranged = IndexSet::with_hasher(alloc, NameHash::default());
-        let repeated = self.take_all(alloc, bytes, entries, &mut ranged)?;
-        let unpaired = self.first_unpaired(bytes, entries);
-        let bad_range = first_bad_range(alloc, &ranged, bytes, entries)?;
-        let found = or_earlier(None, NameFault::Repeated, repeated);
-        let found = or_earlier(found, NameFault::PortDirection, unpaired);
-        Ok(or_earlier(found, NameFault::BadRange, bad_range))
-    }
-}
-
 /// The first fault in the names and ranges of a netlist, if there is one: that at the least place, and at one place the first in
 /// the order repeated, direction, range. It takes time in proportion to the bytes of the names.
 pub(crate) fn first_fault(
@@ -105,8 +63,14 @@ pub(crate) fn first_fault(
     requires { length entries.now < 2 ^ 30 }
     ensures { IfOk result (FindsFault bytes.now entries.now) }
 {
-    match NamesSoFar::new(alloc, entries.len()) {
-        Ok(mut names) => names.first_fault(alloc, bytes, entries),
-        Err(_) => Err(OutOfMemory),
-    }
+    let mut ranged = IndexSet::with_hasher(alloc, NameHash::default());
+    let mut names = NamesSoFar::new(alloc, entries.len())?;
+    let repeated = names.take_all(alloc, bytes, entries, &mut ranged)?;
+    let unpaired = names.first_unpaired(bytes, entries);
+    let mut declared = DeclaredNames::new(alloc, ranged.len())?;
+    declared.add_all(&ranged, bytes, entries)?;
+    let bad_range = declared.first_bad_range(bytes, entries);
+    let found = or_earlier(None, NameFault::Repeated, repeated);
+    let found = or_earlier(found, NameFault::PortDirection, unpaired);
+    Ok(or_earlier(found, NameFault::BadRange, bad_range))
 }

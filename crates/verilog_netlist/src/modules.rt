@@ -233,20 +233,6 @@ impl<'a> Modules<'a> {
     {
         self.tables.bit(m, self.tables.connection(m, k, c), b)
     }
-
-    /// A bit of a connection, from the left. It takes one pass over what is joined before it: to see all bits, go over the runs.
-    pub fn bit(&self, m: usize, k: usize, c: usize, b: usize) -> Bit
-        requires within { m < length self.now }
-        requires instance { k < length (module_at self.now m).instances }
-        requires connection { c < length (instance_at self.now m k).connections }
-        requires place { b < length (bits_at self.now m k c) }
-        ensures { slice_get (bits_at self.now m k c) b ≡ Some result }
-    {
-        match self.get_bit(m, k, c, b) {
-            Some(bit) => bit,
-            None => Bit::Tied,
-        }
-    }
 }
 
 /// The number of each module, by its name.

@@ -1,6 +1,6 @@
 //! Looks for bad ranges, selects, constants and connections.
 ghost use Rattle.std.specs.Prelude.{◌≡◌, ℕ, false, ◌^◌, ◌<◌, ◌≤◌, nat_lt, length, IfSome};
-ghost use Rattle.verilog_netlist.specs.Ranges.{most_bits, width_of, written_width, bits_across, has_large_bound, is_past, one_range, differ, is_bad_declaration, is_outside, declared_range, is_bad_bit, runs_against, is_bad_part, whole_width, whole_bits, bits_of, joined_width, is_bad_entry, IsFirstBadRange};
+ghost use Rattle.verilog_netlist.specs.Ranges.{most_bits, width_of, bits_across, has_large_bound, is_past, one_range, differ, is_bad_declaration, is_outside, declared_range, is_bad_bit, runs_against, is_bad_part, whole_width, whole_bits, bits_of, joined_width, is_bad_entry, IsFirstBadRange};
 ghost use Rattle.verilog_netlist.specs.DeclaredNames.{found_in, HoldsRanged, BoundsWidths, IsAtMost};
 
 use crate::declared::{Declaration, DeclaredNames};
@@ -36,12 +36,15 @@ impl Range {
         self.left > LARGEST_BOUND || self.right > LARGEST_BOUND
     }
 
-    /// How many bits a range of the file has, by its numbers as they are written. One with more bits than a connection may have counts
-    /// one more than that.
-    fn written_width(self, bytes: &[u8]) -> u64
-        ensures value { result ≡ written_width bytes.now self }
+    /// How many bits a range of the file has, by its numbers as they are written; bounds that are not past the limit are these numbers.
+    /// One with more bits than a connection may have counts one more than that.
+    fn bits(self, bytes: &[u8]) -> u64
+        ensures value { result ≡ bits_across bytes.now self }
         ensures few { result ≤ 2 ^ 32 }
     {
+        if !self.has_large_bound() {
+            return self.width();
+        }
         let left = digits_at(bytes, self.left_at);
         let right = digits_at(bytes, self.right_at);
         let apart = if left.len() < right.len() {
@@ -50,19 +53,6 @@ impl Range {
             distance(left, right)
         };
         (u64::from(apart) + 1).min(MOST_BITS + 1)
-    }
-
-    /// How many bits a range of the file has. Bounds that are not past the limit are their numbers.
-    #[inline]
-    fn bits(self, bytes: &[u8]) -> u64
-        ensures value { result ≡ bits_across bytes.now self }
-        ensures few { result ≤ 2 ^ 32 }
-    {
-        if self.has_large_bound() {
-            self.written_width(bytes)
-        } else {
-            self.width()
-        }
     }
 
     /// Whether a bit is outside the range.

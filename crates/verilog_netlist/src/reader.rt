@@ -1,7 +1,7 @@
 //! The reader: takes one token after another.
 ghost use Rattle.std.specs.Prelude.{◌≡◌};
 ghost use Rattle.std.specs.Option.{option_map};
-ghost use Rattle.verilog_netlist.specs.Steps.{Refuse, Go, Put, step_in};
+ghost use Rattle.verilog_netlist.specs.Steps.{Go, Put, step_in};
 ghost use Rattle.verilog_netlist.specs.Modes.{first_state, finish};
 ghost use Rattle.verilog_netlist.specs.ReaderStates.{state_of, Does, Finishes};
 
@@ -9,13 +9,11 @@ use crate::entries::Entry;
 use crate::kinds::Kind;
 use crate::modes::Mode;
 use crate::steps::{
-    after_way_step, after_wire_step, connection_end_step, declared_more_step, declared_name_step,
-    first_connection_step, header_end_step, header_more_step, header_name_step, header_start_step,
-    instance_end_step, instance_name_step, instance_open_step, items_step, joined_step,
-    module_head_step, module_name_step, modules_step, name_end_step, next_connection_step,
-    next_port_step, operand_end_step, operand_step, port_name_step, port_open_step,
-    range_colon_step, range_end_step, range_left_step, range_right_step, select_end_step,
-    select_left_step, select_next_step, select_right_step,
+    after_way_step, after_wire_step, declared_more_step, first_connection_step, header_end_step,
+    header_start_step, item_end_step, items_step, joined_step, listed_step, module_head_step,
+    modules_step, name_end_step, name_step, next_connection_step, next_port_step, open_step,
+    operand_end_step, operand_step, range_colon_step, range_end_step, range_left_step,
+    range_right_step, select_end_step, select_left_step, select_next_step, select_right_step,
 };
 use edge_io::OutOfMemory;
 use edge_io::lists::push;
@@ -38,14 +36,6 @@ impl Reader {
             mode: Mode::Modules,
             entries: Vec::new(alloc),
         }
-    }
-
-    /// The token cannot stand here.
-    #[inline(always)]
-    pub(crate) fn refuse(&mut self) -> Result<bool, OutOfMemory>
-        ensures { Does self.old Refuse result self.new }
-    {
-        Ok(false)
     }
 
     /// Waits for something else.
@@ -75,11 +65,11 @@ impl Reader {
     {
         match self.mode {
             Mode::Modules => modules_step(self, kind),
-            Mode::ModuleName => module_name_step(self, kind, at),
+            Mode::ModuleName => name_step(self, kind, Mode::ModuleHead, Entry::Module(at)),
             Mode::ModuleHead => module_head_step(self, kind),
             Mode::HeaderStart => header_start_step(self, kind, at),
-            Mode::HeaderName => header_name_step(self, kind, at),
-            Mode::HeaderMore => header_more_step(self, kind),
+            Mode::HeaderName => name_step(self, kind, Mode::HeaderMore, Entry::Header(at)),
+            Mode::HeaderMore => listed_step(self, kind, Mode::HeaderName, Mode::HeaderEnd),
             Mode::HeaderEnd => header_end_step(self, kind),
             Mode::Items => items_step(self, kind, at),
             Mode::AfterWay(decl) => after_way_step(self, kind, at, decl),
@@ -88,15 +78,25 @@ impl Reader {
             Mode::RangeColon(decl, left) => range_colon_step(self, kind, decl, left),
             Mode::RangeRight(decl, left) => range_right_step(self, kind, at, decl, left),
             Mode::RangeEnd(decl, range) => range_end_step(self, kind, decl, range),
-            Mode::DeclaredName(decl, range) => declared_name_step(self, kind, at, decl, range),
+            Mode::DeclaredName(decl, range) => name_step(
+                self,
+                kind,
+                Mode::DeclaredMore(decl, range),
+                Entry::Declared(decl, at, range),
+            ),
             Mode::DeclaredMore(decl, range) => declared_more_step(self, kind, decl, range),
             Mode::NextPort(way, range) => next_port_step(self, kind, at, way, range),
-            Mode::InstanceName(cell) => instance_name_step(self, kind, at, cell),
-            Mode::InstanceOpen(cell) => instance_open_step(self, kind, cell),
+            Mode::InstanceName(cell) => name_step(
+                self,
+                kind,
+                Mode::InstanceOpen(cell),
+                Entry::Instance(cell, at),
+            ),
+            Mode::InstanceOpen(cell) => open_step(self, kind, Mode::FirstConnection(cell)),
             Mode::FirstConnection(cell) => first_connection_step(self, kind, cell),
             Mode::NextConnection(cell) => next_connection_step(self, kind, cell),
-            Mode::PortName(cell) => port_name_step(self, kind, at, cell),
-            Mode::PortOpen(cell) => port_open_step(self, kind, cell),
+            Mode::PortName(cell) => name_step(self, kind, Mode::PortOpen(cell), Entry::Port(at)),
+            Mode::PortOpen(cell) => open_step(self, kind, Mode::Joined(cell)),
             Mode::Joined(cell) => joined_step(self, kind, at, cell),
             Mode::Operand(place) => operand_step(self, kind, at, place),
             Mode::NameEnd(place, name) => name_end_step(self, kind, place, name),
@@ -107,8 +107,13 @@ impl Reader {
             ),
             Mode::SelectEnd(place, name, range) => select_end_step(self, kind, place, name, range),
             Mode::OperandEnd(place) => operand_end_step(self, kind, place),
-            Mode::ConnectionEnd(cell) => connection_end_step(self, kind, cell),
-            Mode::InstanceEnd(cell) => instance_end_step(self, kind, cell),
+            Mode::ConnectionEnd(cell) => listed_step(
+                self,
+                kind,
+                Mode::NextConnection(cell),
+                Mode::InstanceEnd(cell),
+            ),
+            Mode::InstanceEnd(cell) => item_end_step(self, kind, Mode::InstanceName(cell)),
         }
     }
 

@@ -1,6 +1,6 @@
 //! What each token does, by what is waited for.
 ghost use Rattle.std.specs.Prelude.{◌≡◌};
-ghost use Rattle.verilog_netlist.specs.Steps.{modules_step, module_name_step, module_head_step, header_start_step, header_name_step, header_more_step, header_end_step, items_step, after_way_step, after_wire_step, range_left_step, range_colon_step, range_between, range_right_step, range_end_step, declared_name_step, declared_more_step, next_port_step, instance_name_step, instance_open_step, first_connection_step, next_connection_step, port_name_step, port_open_step, joined_step, operand_step, saying, name_end_step, select_left_step, select_next_step, select_right_step, select_end_step, operand_end_step, open_brace, header_declared_step, item_declared_step, connection_end_step, instance_end_step};
+ghost use Rattle.verilog_netlist.specs.Steps.{modules_step, module_head_step, header_start_step, header_end_step, items_step, after_way_step, after_wire_step, range_left_step, range_colon_step, range_right_step, range_end_step, name_step, open_step, listed_step, item_end_step, declared_more_step, next_port_step, first_connection_step, next_connection_step, joined_step, operand_step, saying, name_end_step, select_left_step, select_next_step, select_right_step, select_end_step, operand_end_step, open_brace};
 ghost use Rattle.verilog_netlist.specs.ReaderStates.{go_if, Does};
 
 use crate::entries::{Decl, Direction, Entry, Range};
@@ -24,7 +24,7 @@ fn open_brace(reader: &mut Reader, place: Place) -> Result<bool, OutOfMemory>
             depth: place.depth + 1,
         }))
     } else {
-        reader.refuse()
+        Ok(false)
     }
 }
 
@@ -59,7 +59,67 @@ pub(crate) fn operand_end_step(
 {
     match mode_behind(kind, place) {
         Some(mode) => reader.go(mode),
-        None => reader.refuse(),
+        None => Ok(false),
+    }
+}
+
+/// A name that says something.
+#[inline(always)]
+pub(crate) fn name_step(
+    reader: &mut Reader,
+    kind: Kind,
+    mode: Mode,
+    said: Entry,
+) -> Result<bool, OutOfMemory>
+    ensures { Does reader.old (name_step kind mode said) result reader.new }
+{
+    match kind {
+        Kind::Name => reader.put(mode, said),
+        _ => Ok(false),
+    }
+}
+
+/// A `(`.
+#[inline(always)]
+pub(crate) fn open_step(reader: &mut Reader, kind: Kind, mode: Mode) -> Result<bool, OutOfMemory>
+    ensures { Does reader.old (open_step kind mode) result reader.new }
+{
+    match kind {
+        Kind::LeftParen => reader.go(mode),
+        _ => Ok(false),
+    }
+}
+
+/// Behind a piece of a list in parentheses: a comma and one more, or the `)`.
+#[inline(always)]
+pub(crate) fn listed_step(
+    reader: &mut Reader,
+    kind: Kind,
+    more: Mode,
+    end: Mode,
+) -> Result<bool, OutOfMemory>
+    ensures { Does reader.old (listed_step kind more end) result reader.new }
+{
+    match kind {
+        Kind::Comma => reader.go(more),
+        Kind::RightParen => reader.go(end),
+        _ => Ok(false),
+    }
+}
+
+/// Behind a piece of an item: a comma and one more, or the `;`.
+#[inline(always)]
+pub(crate) fn item_end_step(
+    reader: &mut Reader,
+    kind: Kind,
+    more: Mode,
+) -> Result<bool, OutOfMemory>
+    ensures { Does reader.old (item_end_step kind more) result reader.new }
+{
+    match kind {
+        Kind::Comma => reader.go(more),
+        Kind::Semicolon => reader.go(Mode::Items),
+        _ => Ok(false),
     }
 }
 
@@ -70,21 +130,7 @@ pub(crate) fn modules_step(reader: &mut Reader, kind: Kind) -> Result<bool, OutO
 {
     match kind {
         Kind::Module => reader.go(Mode::ModuleName),
-        _ => reader.refuse(),
-    }
-}
-
-#[inline(always)]
-pub(crate) fn module_name_step(
-    reader: &mut Reader,
-    kind: Kind,
-    at: Span,
-) -> Result<bool, OutOfMemory>
-    ensures { Does reader.old (module_name_step kind at) result reader.new }
-{
-    match kind {
-        Kind::Name => reader.put(Mode::ModuleHead, Entry::Module(at)),
-        _ => reader.refuse(),
+        _ => Ok(false),
     }
 }
 
@@ -95,7 +141,7 @@ pub(crate) fn module_head_step(reader: &mut Reader, kind: Kind) -> Result<bool, 
     match kind {
         Kind::LeftParen => reader.go(Mode::HeaderStart),
         Kind::Semicolon => reader.go(Mode::Items),
-        _ => reader.refuse(),
+        _ => Ok(false),
     }
 }
 
@@ -113,32 +159,7 @@ pub(crate) fn header_start_step(
         Kind::Input => reader.go(Mode::AfterWay(Decl::InHeader(Direction::In))),
         Kind::Output => reader.go(Mode::AfterWay(Decl::InHeader(Direction::Out))),
         Kind::RightParen => reader.go(Mode::HeaderEnd),
-        _ => reader.refuse(),
-    }
-}
-
-#[inline(always)]
-pub(crate) fn header_name_step(
-    reader: &mut Reader,
-    kind: Kind,
-    at: Span,
-) -> Result<bool, OutOfMemory>
-    ensures { Does reader.old (header_name_step kind at) result reader.new }
-{
-    match kind {
-        Kind::Name => reader.put(Mode::HeaderMore, Entry::Header(at)),
-        _ => reader.refuse(),
-    }
-}
-
-#[inline(always)]
-pub(crate) fn header_more_step(reader: &mut Reader, kind: Kind) -> Result<bool, OutOfMemory>
-    ensures { Does reader.old (header_more_step kind) result reader.new }
-{
-    match kind {
-        Kind::Comma => reader.go(Mode::HeaderName),
-        Kind::RightParen => reader.go(Mode::HeaderEnd),
-        _ => reader.refuse(),
+        _ => Ok(false),
     }
 }
 
@@ -148,7 +169,7 @@ pub(crate) fn header_end_step(reader: &mut Reader, kind: Kind) -> Result<bool, O
 {
     match kind {
         Kind::Semicolon => reader.go(Mode::Items),
-        _ => reader.refuse(),
+        _ => Ok(false),
     }
 }
 
@@ -163,7 +184,7 @@ pub(crate) fn items_step(reader: &mut Reader, kind: Kind, at: Span) -> Result<bo
         Kind::Wire => reader.go(Mode::AfterWire(Decl::Wire)),
         Kind::Name => reader.go(Mode::InstanceName(at)),
         Kind::EndModule => reader.go(Mode::Modules),
-        _ => reader.refuse(),
+        _ => Ok(false),
     }
 }
 
@@ -183,7 +204,7 @@ pub(crate) fn after_wire_step(
             Mode::DeclaredMore(decl, None),
             Entry::Declared(decl, at, None),
         ),
-        _ => reader.refuse(),
+        _ => Ok(false),
     }
 }
 
@@ -200,19 +221,6 @@ pub(crate) fn after_way_step(
     match kind {
         Kind::Wire => reader.go(Mode::AfterWire(decl)),
         _ => after_wire_step(reader, kind, at, decl),
-    }
-}
-
-/// The range from this bound to that of the number here.
-#[inline(always)]
-fn range_between(left: Bound, right: u32, at: Span) -> Range
-    ensures { result ≡ range_between left right at }
-{
-    Range {
-        left: left.value,
-        right,
-        left_at: left.at,
-        right_at: at.start,
     }
 }
 
@@ -234,7 +242,7 @@ pub(crate) fn range_left_step(
                 at: at.start,
             },
         )),
-        _ => reader.refuse(),
+        _ => Ok(false),
     }
 }
 
@@ -249,7 +257,7 @@ pub(crate) fn range_colon_step(
 {
     match kind {
         Kind::Colon => reader.go(Mode::RangeRight(decl, left)),
-        _ => reader.refuse(),
+        _ => Ok(false),
     }
 }
 
@@ -264,8 +272,16 @@ pub(crate) fn range_right_step(
     ensures { Does reader.old (range_right_step kind at decl left) result reader.new }
 {
     match kind {
-        Kind::Number(right) => reader.go(Mode::RangeEnd(decl, range_between(left, right, at))),
-        _ => reader.refuse(),
+        Kind::Number(right) => reader.go(Mode::RangeEnd(
+            decl,
+            Range {
+                left: left.value,
+                right,
+                left_at: left.at,
+                right_at: at.start,
+            },
+        )),
+        _ => Ok(false),
     }
 }
 
@@ -280,61 +296,7 @@ pub(crate) fn range_end_step(
 {
     match kind {
         Kind::RightBracket => reader.go(Mode::DeclaredName(decl, Some(range))),
-        _ => reader.refuse(),
-    }
-}
-
-/// A name that is declared.
-#[inline(always)]
-pub(crate) fn declared_name_step(
-    reader: &mut Reader,
-    kind: Kind,
-    at: Span,
-    decl: Decl,
-    range: Option<Range>,
-) -> Result<bool, OutOfMemory>
-    ensures { Does reader.old (declared_name_step kind at decl range) result reader.new }
-{
-    match kind {
-        Kind::Name => reader.put(
-            Mode::DeclaredMore(decl, range),
-            Entry::Declared(decl, at, range),
-        ),
-        _ => reader.refuse(),
-    }
-}
-
-/// Behind a name that a direction declares in a header.
-#[inline(always)]
-fn header_declared_step(
-    reader: &mut Reader,
-    kind: Kind,
-    way: Direction,
-    range: Option<Range>,
-) -> Result<bool, OutOfMemory>
-    ensures { Does reader.old (header_declared_step kind way range) result reader.new }
-{
-    match kind {
-        Kind::Comma => reader.go(Mode::NextPort(way, range)),
-        Kind::RightParen => reader.go(Mode::HeaderEnd),
-        _ => reader.refuse(),
-    }
-}
-
-/// Behind a name that an item declares.
-#[inline(always)]
-fn item_declared_step(
-    reader: &mut Reader,
-    kind: Kind,
-    decl: Decl,
-    range: Option<Range>,
-) -> Result<bool, OutOfMemory>
-    ensures { Does reader.old (item_declared_step kind decl range) result reader.new }
-{
-    match kind {
-        Kind::Comma => reader.go(Mode::DeclaredName(decl, range)),
-        Kind::Semicolon => reader.go(Mode::Items),
-        _ => reader.refuse(),
+        _ => Ok(false),
     }
 }
 
@@ -348,8 +310,13 @@ pub(crate) fn declared_more_step(
     ensures { Does reader.old (declared_more_step kind decl range) result reader.new }
 {
     match decl {
-        Decl::InHeader(way) => header_declared_step(reader, kind, way, range),
-        _ => item_declared_step(reader, kind, decl, range),
+        Decl::InHeader(way) => listed_step(
+            reader,
+            kind,
+            Mode::NextPort(way, range),
+            Mode::HeaderEnd,
+        ),
+        _ => item_end_step(reader, kind, Mode::DeclaredName(decl, range)),
     }
 }
 
@@ -371,36 +338,7 @@ pub(crate) fn next_port_step(
         ),
         Kind::Input => reader.go(Mode::AfterWay(Decl::InHeader(Direction::In))),
         Kind::Output => reader.go(Mode::AfterWay(Decl::InHeader(Direction::Out))),
-        _ => reader.refuse(),
-    }
-}
-
-#[inline(always)]
-pub(crate) fn instance_name_step(
-    reader: &mut Reader,
-    kind: Kind,
-    at: Span,
-    cell: Span,
-) -> Result<bool, OutOfMemory>
-    ensures { Does reader.old (instance_name_step kind at cell) result reader.new }
-{
-    match kind {
-        Kind::Name => reader.put(Mode::InstanceOpen(cell), Entry::Instance(cell, at)),
-        _ => reader.refuse(),
-    }
-}
-
-#[inline(always)]
-pub(crate) fn instance_open_step(
-    reader: &mut Reader,
-    kind: Kind,
-    cell: Span,
-) -> Result<bool, OutOfMemory>
-    ensures { Does reader.old (instance_open_step kind cell) result reader.new }
-{
-    match kind {
-        Kind::LeftParen => reader.go(Mode::FirstConnection(cell)),
-        _ => reader.refuse(),
+        _ => Ok(false),
     }
 }
 
@@ -415,7 +353,7 @@ pub(crate) fn first_connection_step(
     match kind {
         Kind::Dot => reader.go(Mode::PortName(cell)),
         Kind::RightParen => reader.go(Mode::InstanceEnd(cell)),
-        _ => reader.refuse(),
+        _ => Ok(false),
     }
 }
 
@@ -429,36 +367,7 @@ pub(crate) fn next_connection_step(
 {
     match kind {
         Kind::Dot => reader.go(Mode::PortName(cell)),
-        _ => reader.refuse(),
-    }
-}
-
-#[inline(always)]
-pub(crate) fn port_name_step(
-    reader: &mut Reader,
-    kind: Kind,
-    at: Span,
-    cell: Span,
-) -> Result<bool, OutOfMemory>
-    ensures { Does reader.old (port_name_step kind at cell) result reader.new }
-{
-    match kind {
-        Kind::Name => reader.put(Mode::PortOpen(cell), Entry::Port(at)),
-        _ => reader.refuse(),
-    }
-}
-
-#[inline(always)]
-pub(crate) fn port_open_step(
-    reader: &mut Reader,
-    kind: Kind,
-    cell: Span,
-) -> Result<bool, OutOfMemory>
-    ensures { Does reader.old (port_open_step kind cell) result reader.new }
-{
-    match kind {
-        Kind::LeftParen => reader.go(Mode::Joined(cell)),
-        _ => reader.refuse(),
+        _ => Ok(false),
     }
 }
 
@@ -476,7 +385,7 @@ pub(crate) fn operand_step(
         Kind::Name => reader.go(Mode::NameEnd(place, at)),
         Kind::Constant => reader.put(Mode::OperandEnd(place), Entry::Constant(at)),
         Kind::LeftBrace => open_brace(reader, place),
-        _ => reader.refuse(),
+        _ => Ok(false),
     }
 }
 
@@ -510,7 +419,7 @@ pub(crate) fn name_end_step(
         Kind::LeftBracket => reader.go(Mode::SelectLeft(place, name)),
         _ => match mode_behind(kind, place) {
             Some(mode) => reader.put(mode, Entry::Whole(name)),
-            None => reader.refuse(),
+            None => Ok(false),
         },
     }
 }
@@ -535,7 +444,7 @@ pub(crate) fn select_left_step(
                 at: at.start,
             },
         )),
-        _ => reader.refuse(),
+        _ => Ok(false),
     }
 }
 
@@ -552,7 +461,7 @@ pub(crate) fn select_next_step(
     match kind {
         Kind::RightBracket => reader.put(Mode::OperandEnd(place), Entry::Bit(name, left.value)),
         Kind::Colon => reader.go(Mode::SelectRight(place, name, left)),
-        _ => reader.refuse(),
+        _ => Ok(false),
     }
 }
 
@@ -571,9 +480,14 @@ pub(crate) fn select_right_step(
         Kind::Number(right) => reader.go(Mode::SelectEnd(
             place,
             name,
-            range_between(left, right, at),
+            Range {
+                left: left.value,
+                right,
+                left_at: left.at,
+                right_at: at.start,
+            },
         )),
-        _ => reader.refuse(),
+        _ => Ok(false),
     }
 }
 
@@ -589,38 +503,6 @@ pub(crate) fn select_end_step(
 {
     match kind {
         Kind::RightBracket => reader.put(Mode::OperandEnd(place), Entry::Part(name, range)),
-        _ => reader.refuse(),
-    }
-}
-
-/// Behind a connection.
-#[inline(always)]
-pub(crate) fn connection_end_step(
-    reader: &mut Reader,
-    kind: Kind,
-    cell: Span,
-) -> Result<bool, OutOfMemory>
-    ensures { Does reader.old (connection_end_step kind cell) result reader.new }
-{
-    match kind {
-        Kind::Comma => reader.go(Mode::NextConnection(cell)),
-        Kind::RightParen => reader.go(Mode::InstanceEnd(cell)),
-        _ => reader.refuse(),
-    }
-}
-
-/// Behind an instance.
-#[inline(always)]
-pub(crate) fn instance_end_step(
-    reader: &mut Reader,
-    kind: Kind,
-    cell: Span,
-) -> Result<bool, OutOfMemory>
-    ensures { Does reader.old (instance_end_step kind cell) result reader.new }
-{
-    match kind {
-        Kind::Comma => reader.go(Mode::InstanceName(cell)),
-        Kind::Semicolon => reader.go(Mode::Items),
-        _ => reader.refuse(),
+        _ => Ok(false),
     }
 }

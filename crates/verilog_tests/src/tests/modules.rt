@@ -84,7 +84,9 @@ fn tell_connection(
     text.push_all(b"port ")?;
     text.push_all(modules.port(m, k, c))?;
     for b in 0..modules.bit_count(m, k, c) {
-        tell_bit(alloc, text, modules, m, modules.bit(m, k, c, b))?;
+        if let Some(bit) = modules.get_bit(m, k, c, b) {
+            tell_bit(alloc, text, modules, m, bit)?;
+        }
     }
     text.push_all(b"\n")?;
     Ok(())

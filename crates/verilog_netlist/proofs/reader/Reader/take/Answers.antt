@@ -9,7 +9,7 @@ pub returns-in-Modules : goal.returns-in-Modules
 returns-in-Modules c = subst (λ (m : Mode). Does c.args.self.now (step_in m c.args.kind c.args.at) c.modules_step.result c.modules_step.new.reader) (sym c.in-Modules.is) c.modules_step.ensures
 
 pub returns-in-ModuleName : goal.returns-in-ModuleName
-returns-in-ModuleName c = subst (λ (m : Mode). Does c.args.self.now (step_in m c.args.kind c.args.at) c.module_name_step.result c.module_name_step.new.reader) (sym c.in-ModuleName.is) c.module_name_step.ensures
+returns-in-ModuleName c = subst (λ (m : Mode). Does c.args.self.now (step_in m c.args.kind c.args.at) c.name_step.result c.name_step.new.reader) (sym c.in-ModuleName.is) c.name_step.ensures
 
 pub returns-in-ModuleHead : goal.returns-in-ModuleHead
 returns-in-ModuleHead c = subst (λ (m : Mode). Does c.args.self.now (step_in m c.args.kind c.args.at) c.module_head_step.result c.module_head_step.new.reader) (sym c.in-ModuleHead.is) c.module_head_step.ensures
@@ -18,10 +18,10 @@ pub returns-in-HeaderStart : goal.returns-in-HeaderStart
 returns-in-HeaderStart c = subst (λ (m : Mode). Does c.args.self.now (step_in m c.args.kind c.args.at) c.header_start_step.result c.header_start_step.new.reader) (sym c.in-HeaderStart.is) c.header_start_step.ensures
 
 pub returns-in-HeaderName : goal.returns-in-HeaderName
-returns-in-HeaderName c = subst (λ (m : Mode). Does c.args.self.now (step_in m c.args.kind c.args.at) c.header_name_step.result c.header_name_step.new.reader) (sym c.in-HeaderName.is) c.header_name_step.ensures
+returns-in-HeaderName c = subst (λ (m : Mode). Does c.args.self.now (step_in m c.args.kind c.args.at) c.name_step-in-HeaderName.result c.name_step-in-HeaderName.new.reader) (sym c.in-HeaderName.is) c.name_step-in-HeaderName.ensures
 
 pub returns-in-HeaderMore : goal.returns-in-HeaderMore
-returns-in-HeaderMore c = subst (λ (m : Mode). Does c.args.self.now (step_in m c.args.kind c.args.at) c.header_more_step.result c.header_more_step.new.reader) (sym c.in-HeaderMore.is) c.header_more_step.ensures
+returns-in-HeaderMore c = subst (λ (m : Mode). Does c.args.self.now (step_in m c.args.kind c.args.at) c.listed_step.result c.listed_step.new.reader) (sym c.in-HeaderMore.is) c.listed_step.ensures
 
 pub returns-in-HeaderEnd : goal.returns-in-HeaderEnd
 returns-in-HeaderEnd c = subst (λ (m : Mode). Does c.args.self.now (step_in m c.args.kind c.args.at) c.header_end_step.result c.header_end_step.new.reader) (sym c.in-HeaderEnd.is) c.header_end_step.ensures
@@ -48,7 +48,7 @@ pub returns-in-RangeEnd : goal.returns-in-RangeEnd
 returns-in-RangeEnd c = subst (λ (m : Mode). Does c.args.self.now (step_in m c.args.kind c.args.at) c.range_end_step.result c.range_end_step.new.reader) (sym c.in-RangeEnd.is) c.range_end_step.ensures
 
 pub returns-in-DeclaredName : goal.returns-in-DeclaredName
-returns-in-DeclaredName c = subst (λ (m : Mode). Does c.args.self.now (step_in m c.args.kind c.args.at) c.declared_name_step.result c.declared_name_step.new.reader) (sym c.in-DeclaredName.is) c.declared_name_step.ensures
+returns-in-DeclaredName c = subst (λ (m : Mode). Does c.args.self.now (step_in m c.args.kind c.args.at) c.name_step-in-DeclaredName.result c.name_step-in-DeclaredName.new.reader) (sym c.in-DeclaredName.is) c.name_step-in-DeclaredName.ensures
 
 pub returns-in-DeclaredMore : goal.returns-in-DeclaredMore
 returns-in-DeclaredMore c = subst (λ (m : Mode). Does c.args.self.now (step_in m c.args.kind c.args.at) c.declared_more_step.result c.declared_more_step.new.reader) (sym c.in-DeclaredMore.is) c.declared_more_step.ensures
@@ -57,10 +57,10 @@ pub returns-in-NextPort : goal.returns-in-NextPort
 returns-in-NextPort c = subst (λ (m : Mode). Does c.args.self.now (step_in m c.args.kind c.args.at) c.next_port_step.result c.next_port_step.new.reader) (sym c.in-NextPort.is) c.next_port_step.ensures
 
 pub returns-in-InstanceName : goal.returns-in-InstanceName
-returns-in-InstanceName c = subst (λ (m : Mode). Does c.args.self.now (step_in m c.args.kind c.args.at) c.instance_name_step.result c.instance_name_step.new.reader) (sym c.in-InstanceName.is) c.instance_name_step.ensures
+returns-in-InstanceName c = subst (λ (m : Mode). Does c.args.self.now (step_in m c.args.kind c.args.at) c.name_step-in-InstanceName.result c.name_step-in-InstanceName.new.reader) (sym c.in-InstanceName.is) c.name_step-in-InstanceName.ensures
 
 pub returns-in-InstanceOpen : goal.returns-in-InstanceOpen
-returns-in-InstanceOpen c = subst (λ (m : Mode). Does c.args.self.now (step_in m c.args.kind c.args.at) c.instance_open_step.result c.instance_open_step.new.reader) (sym c.in-InstanceOpen.is) c.instance_open_step.ensures
+returns-in-InstanceOpen c = subst (λ (m : Mode). Does c.args.self.now (step_in m c.args.kind c.args.at) c.open_step.result c.open_step.new.reader) (sym c.in-InstanceOpen.is) c.open_step.ensures
 
 pub returns-in-FirstConnection : goal.returns-in-FirstConnection
 returns-in-FirstConnection c = subst (λ (m : Mode). Does c.args.self.now (step_in m c.args.kind c.args.at) c.first_connection_step.result c.first_connection_step.new.reader) (sym c.in-FirstConnection.is) c.first_connection_step.ensures
@@ -69,10 +69,10 @@ pub returns-in-NextConnection : goal.returns-in-NextConnection
 returns-in-NextConnection c = subst (λ (m : Mode). Does c.args.self.now (step_in m c.args.kind c.args.at) c.next_connection_step.result c.next_connection_step.new.reader) (sym c.in-NextConnection.is) c.next_connection_step.ensures
 
 pub returns-in-PortName : goal.returns-in-PortName
-returns-in-PortName c = subst (λ (m : Mode). Does c.args.self.now (step_in m c.args.kind c.args.at) c.port_name_step.result c.port_name_step.new.reader) (sym c.in-PortName.is) c.port_name_step.ensures
+returns-in-PortName c = subst (λ (m : Mode). Does c.args.self.now (step_in m c.args.kind c.args.at) c.name_step-in-PortName.result c.name_step-in-PortName.new.reader) (sym c.in-PortName.is) c.name_step-in-PortName.ensures
 
 pub returns-in-PortOpen : goal.returns-in-PortOpen
-returns-in-PortOpen c = subst (λ (m : Mode). Does c.args.self.now (step_in m c.args.kind c.args.at) c.port_open_step.result c.port_open_step.new.reader) (sym c.in-PortOpen.is) c.port_open_step.ensures
+returns-in-PortOpen c = subst (λ (m : Mode). Does c.args.self.now (step_in m c.args.kind c.args.at) c.open_step-in-PortOpen.result c.open_step-in-PortOpen.new.reader) (sym c.in-PortOpen.is) c.open_step-in-PortOpen.ensures
 
 pub returns-in-Joined : goal.returns-in-Joined
 returns-in-Joined c = subst (λ (m : Mode). Does c.args.self.now (step_in m c.args.kind c.args.at) c.joined_step.result c.joined_step.new.reader) (sym c.in-Joined.is) c.joined_step.ensures
@@ -99,7 +99,7 @@ pub returns-in-OperandEnd : goal.returns-in-OperandEnd
 returns-in-OperandEnd c = subst (λ (m : Mode). Does c.args.self.now (step_in m c.args.kind c.args.at) c.operand_end_step.result c.operand_end_step.new.reader) (sym c.in-OperandEnd.is) c.operand_end_step.ensures
 
 pub returns-in-ConnectionEnd : goal.returns-in-ConnectionEnd
-returns-in-ConnectionEnd c = subst (λ (m : Mode). Does c.args.self.now (step_in m c.args.kind c.args.at) c.connection_end_step.result c.connection_end_step.new.reader) (sym c.in-ConnectionEnd.is) c.connection_end_step.ensures
+returns-in-ConnectionEnd c = subst (λ (m : Mode). Does c.args.self.now (step_in m c.args.kind c.args.at) c.listed_step-in-ConnectionEnd.result c.listed_step-in-ConnectionEnd.new.reader) (sym c.in-ConnectionEnd.is) c.listed_step-in-ConnectionEnd.ensures
 
 pub returns-in-InstanceEnd : goal.returns-in-InstanceEnd
-returns-in-InstanceEnd c = subst (λ (m : Mode). Does c.args.self.now (step_in m c.args.kind c.args.at) c.instance_end_step.result c.instance_end_step.new.reader) (sym c.in-InstanceEnd.is) c.instance_end_step.ensures
+returns-in-InstanceEnd c = subst (λ (m : Mode). Does c.args.self.now (step_in m c.args.kind c.args.at) c.item_end_step.result c.item_end_step.new.reader) (sym c.in-InstanceEnd.is) c.item_end_step.ensures
