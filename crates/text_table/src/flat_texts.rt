@@ -74,14 +74,15 @@ impl FlatTexts {
         Ok(FlatTexts { bytes, pieces })
     }
 
-    /// Puts a text of three pieces at the end.
+    /// Puts a text of three pieces at the end. Where memory is missing the texts stay as they were.
     pub fn push_joined(
         &mut self,
         path: &[u8],
         name: &[u8],
         suffix: &[u8],
     ) -> Result<(), OutOfMemory>
-        ensures { OnOk result (self.new ≡ self.old ++ (path.now ++ name.now ++ suffix.now) ∷ []) }
+        ensures ok { OnOk result (self.new ≡ self.old ++ (path.now ++ name.now ++ suffix.now) ∷ []) }
+        ensures err { OnErr result (self.new ≡ self.old) }
     {
         let start = to_u32(self.bytes.len())?;
         extend(&mut self.bytes, path, name, suffix)?;
@@ -90,9 +91,11 @@ impl FlatTexts {
         Ok(())
     }
 
-    /// Puts a text at the end: a path and a name. In the top module the path is empty.
+    /// Puts a text at the end: a path and a name. In the top module the path is empty. Where memory is missing the texts stay as they
+    /// were.
     pub fn push(&mut self, path: &[u8], name: &[u8]) -> Result<(), OutOfMemory>
-        ensures { OnOk result (self.new ≡ self.old ++ (path.now ++ name.now) ∷ []) }
+        ensures ok { OnOk result (self.new ≡ self.old ++ (path.now ++ name.now) ∷ []) }
+        ensures err { OnErr result (self.new ≡ self.old) }
     {
         if path.is_empty() {
             self.add(name)?;

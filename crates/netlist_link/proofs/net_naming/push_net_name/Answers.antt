@@ -8,4 +8,4 @@ pub returns-in-None : goal.returns-in-None
 returns-in-None c =
     let named = c.args.path.now ++ c.args.name.now in
     subst (λ (r : Option Range). OnOk c.push.result (c.push.new.self ≡ c.args.names.now ++ (named ++ bit_suffix r c.args.bit) ∷ [])) (sym c.in-None.is)
-    (subst (λ (text : List ℕ). OnOk c.push.result (c.push.new.self ≡ c.args.names.now ++ text ∷ [])) (sym (append-nil named)) c.push.ensures)
+    (subst (λ (text : List ℕ). OnOk c.push.result (c.push.new.self ≡ c.args.names.now ++ text ∷ [])) (sym (append-nil named)) c.push.ensures.ok)
