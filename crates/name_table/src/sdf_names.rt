@@ -37,16 +37,6 @@ pub(crate) fn push_spelled(bytes: &mut Vec<u8>, byte: u8) -> Result<(), OutOfMem
     push(bytes, byte)
 }
 
-/// Puts the spelling of a name as one part of a path at the end.
-pub(crate) fn push_escaped_sdf(text: &mut Vec<u8>, name: &[u8]) -> Result<(), OutOfMemory>
-    ensures ok { OnOk result (text.new.items ≡ text.old.items ++ part name.now) }
-{
-    for &byte in name {
-        push_spelled(text, byte)?;
-    }
-    Ok(())
-}
-
 /// The spelling of a name as one part of a path: letters, digits and `_` stand as they are, and every
 /// other byte has a backslash before it.
 pub fn escape_sdf(alloc: Global, name: &[u8]) -> Result<Text, OutOfMemory>
@@ -55,7 +45,9 @@ pub fn escape_sdf(alloc: Global, name: &[u8]) -> Result<Text, OutOfMemory>
     ensures settled { IfOk result (λ text. canonical slash text ≡ text) }
 {
     let mut spelling = Vec::with_capacity(alloc, name.len())?;
-    push_escaped_sdf(&mut spelling, name)?;
+    for &byte in name {
+        push_spelled(&mut spelling, byte)?;
+    }
     Ok(Text::from_vec(spelling))
 }
 
