@@ -31,27 +31,13 @@ fn is_top_text(text: &[u8]) -> bool
     }
 }
 
-/// A token that may stand in a connection behind what is read of it.
-pub fn is_loose(text: &[u8]) -> bool
-    ensures { result ≡ is_loose text.now }
-{
-    is_loose_as(text, word_of(text))
-}
-
-/// The same of a token that is this keyword, or none.
+/// A token, which is this keyword or none, that may stand in a connection behind what is read of it.
 #[tactic(auto, unfolding(crate::specs::Classes::is_loose))]
-pub fn is_loose_as(text: &[u8], word: Option<Word>) -> bool
+pub fn is_loose(text: &[u8], word: Option<Word>) -> bool
     requires { word ≡ word_of text.now }
     ensures { result ≡ is_loose text.now }
 {
-    !is_broken(text) && !is_tight_word(word)
-}
-
-// A keyword that ends what stands loose in a connection.
-fn is_tight_word(word: Option<Word>) -> bool
-    ensures { result ≡ holds_of is_tight word }
-{
-    !matches!(word, None | Some(Word::Confidence))
+    !is_broken(text) && matches!(word, None | Some(Word::Confidence))
 }
 
 /// A byte from 33 to 126 that is no letter, digit, `_`, `"`, `*` or backslash.
@@ -171,22 +157,15 @@ fn is_indexed(delimiter: u8, text: &[u8]) -> bool
     0 < digits && is_tail(delimiter, text.split_at(digits).1)
 }
 
+/// A name, also one that an index stands for in the name map: neither `*` nor `"` begins it.
 #[tactic(auto, unfolding(crate::specs::Classes::is_name))]
-fn is_name(text: &[u8]) -> bool
+pub fn is_name(text: &[u8]) -> bool
     ensures { result ≡ is_name text.now }
 {
     match text {
         [] => false,
         [first, ..] => *first != b'*' && *first != b'"' && !is_broken(text),
     }
-}
-
-/// What an index may stand for in the name map: neither `*` nor `"` begins it.
-#[tactic(auto, unfolding(crate::specs::Classes::is_map_name))]
-pub fn is_map_name(text: &[u8]) -> bool
-    ensures { result ≡ is_map_name text.now }
-{
-    is_name(text)
 }
 
 /// A name that has not the form of a value. References are indices as a rule, so this stands by itself.

@@ -91,7 +91,7 @@ fn unquoted(text: &[u8]) -> &[u8]
 fn design_of(alloc: Global, file: &SpefFile) -> Result<Text, OutOfMemory>
     ensures { IfOk result (λ text. text ≡ design_at file.now file.now.reading.head.design) }
 {
-    match file.head.design() {
+    match file.head.design {
         Some(name) => Text::from_bytes(alloc, unquoted(file.text_of(name as u64))),
         None => Ok(Text::new(alloc)),
     }
@@ -111,11 +111,11 @@ pub fn read_head(alloc: Global, file: &SpefFile) -> Result<Head, HeadEnd>
     // A file that has a head is not refused, unless memory ran out.
     ensures only { (head : HeadText) → IsHeadOf file.now head → IfErr result (λ end. end ≡ HeadEnd.OutOfMemory) }
 {
-    let cap_unit = match unit_at(Quantity::Capacitance, file, file.head.cap_unit()) {
+    let cap_unit = match unit_at(Quantity::Capacitance, file, file.head.cap_unit) {
         Ok(unit) => unit,
         Err(token) => return Err(HeadEnd::BadUnit { token }),
     };
-    let res_unit = match unit_at(Quantity::Resistance, file, file.head.res_unit()) {
+    let res_unit = match unit_at(Quantity::Resistance, file, file.head.res_unit) {
         Ok(unit) => unit,
         Err(token) => return Err(HeadEnd::BadUnit { token }),
     };

@@ -10,10 +10,10 @@ use std::marker::Model;
 /// What the items of the head have set so far. Contracts see the head.
 #[derive(Drop)]
 pub struct HeadItems {
-    marks: Marks,
-    design: Option<u32>,
-    cap_unit: Option<u32>,
-    res_unit: Option<u32>,
+    pub(crate) marks: Marks,
+    pub(crate) design: Option<u32>,
+    pub(crate) cap_unit: Option<u32>,
+    pub(crate) res_unit: Option<u32>,
     map: Vec<MapEntry>,
 }
 
@@ -40,41 +40,6 @@ impl HeadItems {
             res_unit: None,
             map: Vec::new(alloc),
         }
-    }
-
-    /// The mark between the two parts of a node's name.
-    pub fn delimiter(&self) -> u8
-        ensures { result ≡ self.now.marks.delimiter }
-    {
-        self.marks.delimiter
-    }
-
-    /// The marks that part names.
-    pub fn marks(&self) -> Marks
-        ensures { result ≡ self.now.marks }
-    {
-        self.marks
-    }
-
-    /// The token of the design's name.
-    pub fn design(&self) -> Option<u32>
-        ensures { result ≡ self.now.design }
-    {
-        self.design
-    }
-
-    /// The number's token of the unit of capacitances.
-    pub fn cap_unit(&self) -> Option<u32>
-        ensures { result ≡ self.now.cap_unit }
-    {
-        self.cap_unit
-    }
-
-    /// The number's token of the unit of resistances.
-    pub fn res_unit(&self) -> Option<u32>
-        ensures { result ≡ self.now.res_unit }
-    {
-        self.res_unit
     }
 
     /// The entries of the name map.

@@ -4,7 +4,7 @@ ghost use Rattle.spef_text.specs.Classes.{is_tight, holds_of};
 ghost use Rattle.spef_text.specs.Modes.{start_step, top_step, sections_step, total_step, confident_step, conns_step, left_step, tail_step, next_mode, may_end};
 
 use crate::classes::{
-    is_direction, is_id, is_index, is_loose, is_map_name, is_mark, is_other, is_ref, is_two_marks,
+    is_direction, is_id, is_index, is_loose, is_mark, is_name, is_other, is_ref, is_two_marks,
     is_value,
 };
 use crate::entries::{CapAt, ConnAt, HeadItem, MapEntry, ResAt};
@@ -248,22 +248,13 @@ pub(crate) fn tail_step(conn: ConnAt, word: Option<Word>, loose: bool) -> Step
     }
 }
 
-/// The first byte of a text, and the second, or 0.
+/// The first byte of a text, or 0.
 fn first_byte(text: &[u8]) -> u8
     ensures { result ≡ slice_index text.now 0 }
 {
     match text {
         [first, ..] => *first,
         [] => 0,
-    }
-}
-
-fn second_byte(text: &[u8]) -> u8
-    ensures { result ≡ slice_index text.now 1 }
-{
-    match text {
-        [_, second, ..] => *second,
-        _ => 0,
     }
 }
 
@@ -283,14 +274,16 @@ pub(crate) fn delimiter_step(text: &[u8]) -> Step
 }
 
 /// What the bus marks do: both in one token, or the left one.
+#[tactic(auto, unfolding(crate::specs::Classes::is_two_marks, crate::specs::Classes::is_mark))]
 pub(crate) fn bus_step(text: &[u8]) -> Step
     ensures { (mark number : ℕ) → result ≡ next_mode Mode.BusLeft mark number text.now }
 {
-    if is_two_marks(text) {
-        let item = HeadItem::BusDelimiter(first_byte(text), second_byte(text));
-        Step::Put(Mode::Items, item)
-    } else {
-        go_if(is_mark(text), Mode::BusRight(first_byte(text)))
+    match text {
+        [left, right] => {
+            let item = HeadItem::BusDelimiter(*left, *right);
+            put_if(is_two_marks(text), Mode::Items, item)
+        }
+        _ => go_if(is_mark(text), Mode::BusRight(first_byte(text))),
     }
 }
 
@@ -412,6 +405,7 @@ pub(crate) fn map_step(number: u32, text: &[u8]) -> Step
 
 /// What the name of an index does.
 #[inline(always)]
+#[tactic(auto, unfolding(crate::specs::Classes::is_map_name))]
 pub(crate) fn map_name_step(index: u32, number: u32, text: &[u8]) -> Step
     ensures { (mark : ℕ) → result ≡ next_mode (Mode.MapName index) mark number text.now }
 {
@@ -419,7 +413,7 @@ pub(crate) fn map_name_step(index: u32, number: u32, text: &[u8]) -> Step
         index,
         name: number,
     };
-    put_if(is_map_name(text), Mode::NameMap, HeadItem::Mapped(entry))
+    put_if(is_name(text), Mode::NameMap, HeadItem::Mapped(entry))
 }
 
 /// What a token does behind `*D_NET`.
@@ -438,10 +432,11 @@ pub(crate) fn net_step(mark: u8, number: u32, text: &[u8]) -> Step
 pub(crate) fn node_line_step(text: &[u8]) -> Step
     ensures { (mark number : ℕ) → result ≡ next_mode Mode.NodeLine mark number text.now }
 {
-    if is_loose(text) {
+    let word = word_of(text);
+    if is_loose(text, word) {
         Step::Go(Mode::NodeLine)
     } else {
-        conns_step(word_of(text))
+        conns_step(word)
     }
 }
 

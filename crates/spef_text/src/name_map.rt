@@ -34,18 +34,9 @@ impl Places {
     #[inline]
     pub fn place_of(&self, index: &[u8]) -> Option<usize> {
         match self {
-            Places::Runs(runs) => place_in(runs.as_slice(), index_number(index)),
+            Places::Runs(runs) => place_in(runs.as_slice(), number_of(index_digits(index))),
             Places::Table(table) => Some(table.find(index_digits(index))?.0 as usize),
         }
-    }
-}
-
-// The number of an index. Zeros in front make no other number.
-#[inline]
-fn index_number(index: &[u8]) -> u64 {
-    match index {
-        [] => 0,
-        [_, digits @ ..] => number_of(digits),
     }
 }
 

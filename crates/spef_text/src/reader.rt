@@ -7,7 +7,7 @@ ghost use Rattle.spef_text.specs.Tokens.{cut_at};
 ghost use Rattle.spef_text.specs.Within.{cut_within};
 ghost use Rattle.spef_text.specs.Leading.{Leads, Stops, Makes};
 
-use crate::classes::{is_loose_as, is_other, is_ref, is_value};
+use crate::classes::{is_loose, is_other, is_ref, is_value};
 use crate::entries::{ConnAt, HeadItem};
 use crate::head_items::HeadItems;
 use crate::modes::{
@@ -117,7 +117,7 @@ impl Reader {
         let word = word_of(text);
         match joined_mode(word) {
             Some(mode) => self.join(mode, conn),
-            None => self.step(&tail_step(conn, word, is_loose_as(text, word))),
+            None => self.step(&tail_step(conn, word, is_loose(text, word))),
         }
     }
 
@@ -129,7 +129,7 @@ impl Reader {
         ensures starts { self.new.starts ≡ self.old.starts }
         ensures lens { self.new.lens ≡ self.old.lens }
     {
-        let mark = self.head.delimiter();
+        let mark = self.head.marks.delimiter;
         match self.mode {
             Mode::Start => self.step(&start_step(word_of(text))),
             Mode::Others => self.step(&others_step(text)),

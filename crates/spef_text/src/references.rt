@@ -61,7 +61,7 @@ impl<'a> SpefFile<'a> {
     fn marks(&self) -> SpefMarks
         ensures { result ≡ marks_of self.now }
     {
-        let marks = self.head.marks();
+        let marks = self.head.marks;
         SpefMarks {
             divider: marks.divider,
             delimiter: marks.delimiter,

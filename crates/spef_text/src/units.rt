@@ -1,6 +1,6 @@
 //! The units of a SPEF file.
 ghost use Rattle.std.specs.Prelude.{◌≡◌, ◌≤◌, unsigned_abs, IfSome, IfNone};
-ghost use Rattle.spef_text.specs.Units.{same_word, power_of, IsUnit, IsNoUnit};
+ghost use Rattle.spef_text.specs.Units.{power_of, IsUnit, IsNoUnit};
 
 use delay_units::{Farads, Ohms, Unit, read_decimal, unit};
 
@@ -14,33 +14,26 @@ pub enum Quantity {
     Resistance,
 }
 
-// One word, in any case of letters.
-#[tactic(auto, unfolding(crate::specs::Units::same_word))]
-fn same_word(one: &[u8], other: &[u8]) -> bool
-    ensures { result ≡ same_word one.now other.now }
-{
-    one.eq_ignore_ascii_case(other)
-}
-
 impl Quantity {
     // The power of ten that a word stands for, in any case of letters.
+    #[tactic(auto, unfolding(crate::specs::Units::same_word))]
     fn power_of(self, word: &[u8]) -> Option<i32>
         ensures { result ≡ power_of self word.now }
     {
         match self {
             Quantity::Capacitance => {
-                if same_word(word, b"FF") {
+                if word.eq_ignore_ascii_case(b"FF") {
                     Some(Farads::FEMTOFARAD_POWER)
-                } else if same_word(word, b"PF") {
+                } else if word.eq_ignore_ascii_case(b"PF") {
                     Some(Farads::PICOFARAD_POWER)
                 } else {
                     None
                 }
             }
             Quantity::Resistance => {
-                if same_word(word, b"OHM") {
+                if word.eq_ignore_ascii_case(b"OHM") {
                     Some(Ohms::OHM_POWER)
-                } else if same_word(word, b"KOHM") {
+                } else if word.eq_ignore_ascii_case(b"KOHM") {
                     Some(Ohms::KILOOHM_POWER)
                 } else {
                     None
