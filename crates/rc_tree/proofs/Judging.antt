@@ -2,10 +2,10 @@
 use Rattle.std.proofs.Common.{◌≡◌, ◌≢◌, ℕ, suc, ◌+◌, ◌-◌, ◌<◌, List, [], ◌∷◌, ◌++◌, map, length, get_or, slice_get, slice_index, slice_index_or, Some, All, option_map, refl, sym, ◌∙◌, ap, subst, arith, inl, inr}
 use Rattle.std.proofs.lemmas.Bool.{cases_eq}
 use Rattle.std.proofs.lemmas.List.{get_or_default, get_or_push, get_or_append_left}
-use Rattle.std.proofs.lemmas.List.Elements.{Contains-append_left, Contains-append_right}
 use Rattle.std.proofs.lemmas.Option.{slice_get-map, slice_get-get_or, get_or_from_slice_get, slice_get_within}
 use Rattle.name_table.specs.declared.spef_names.NodeName.{NodeName}
 use Rattle.spef_nets.specs.NetElements.{NetElements as SectionElements}
+use Rattle.spef_nets.specs.Nodes.{AreDistinctNodes}
 use Rattle.rc_tree.specs.RcTree.{IsUnreached}
 use Rattle.rc_tree.specs.Nodes.{Node, node_of, with_nodes}
 use Rattle.rc_tree.specs.Pins.{Pins, pin_nodes}
@@ -13,12 +13,13 @@ use Rattle.rc_tree.specs.SectionNets.{joint_at, net_elements, sink_node}
 use Rattle.rc_tree.specs.Numbering.{AreSpots, AreEnds}
 use Rattle.rc_tree.specs.Searches.{Search, IsSearch, IsClosed}
 use Rattle.rc_tree.specs.Searched.{Searched, IsNumbered, IsExplored, IsNameAt, all_nodes}
-use Rattle.rc_tree.specs.Builds.{IsFit, IsTreeEnd}
+use Rattle.rc_tree.specs.Builds.{IsFit, IsTreeEnd, names}
 use Rattle.rc_tree.specs.declared.node_ids.NodeId.{NodeId}
 use Rattle.rc_tree.specs.declared.ends.TreeEnd.TheVariants.{Unreached, Mesh}
 use Rattle.rc_tree.proofs.Numbers.{all_keep}
-use Rattle.rc_tree.proofs.Nets.{Apart, first_all, first_apart}
+use Rattle.rc_tree.proofs.Nets.{Apart, first_all, first_apart, one_place}
 use Rattle.rc_tree.proofs.Answering.{unreached, mesh, all_without}
+use Rattle.rc_tree.proofs.Spellings.{first_spelling, behind, before, in_front, parted, same_in_section}
 
 -- the pins stand first, where they are apart
 pub pins_first : (section : SectionElements) (pins : Pins) → Apart (pin_nodes pins) → all_nodes section pins ≡ with_nodes (pin_nodes pins) (map node_of section.nodes)
@@ -112,29 +113,60 @@ searched_so section pins spots count s some numbered e = record {
   closed = e.closed;
 }
 
--- a name that the section has for a number
-pub section_named : (section : SectionElements) (pins : Pins) (spots : List ℕ) (number : ℕ) (name : NodeName) → AreSpots section.nodes (all_nodes section pins) spots
+-- the node that the section names at a place has the number of the place
+pub spot_named : (section : SectionElements) (pins : Pins) (spots : List ℕ) (number : ℕ) (name : NodeName) → AreSpots section.nodes (all_nodes section pins) spots
+    → (place : ℕ) × (slice_index spots place ≡ number) × (slice_get section.nodes place ≡ Some name) → slice_get (all_nodes section pins) number ≡ Some (node_of name)
+spot_named section pins spots number name are h =
+    ap (slice_get (all_nodes section pins)) (sym h.1) ∙ are.each h.0 name (slice_get_within section.nodes h.0 name h.2) ∙ ap (λ n. Some (node_of n)) (get_or_from_slice_get section.nodes h.0 name name h.2)
+
+-- a name that the section has for a number, where no pin has another name of the node
+pub section_named : (section : SectionElements) (pins : Pins) (spots : List ℕ) (number : ℕ) (name : NodeName) → AreSpots section.nodes (all_nodes section pins) spots → AreDistinctNodes section.nodes
+    → ((k : ℕ) (other : NodeName) → slice_get (pins.driver ∷ pins.sinks) k ≡ Some other → node_of other ≡ node_of name → other ≡ name)
     → (place : ℕ) × (slice_index spots place ≡ number) × (slice_get section.nodes place ≡ Some name) → IsNameAt section pins number name
-section_named section pins spots number name are h =
-    let below = slice_get_within section.nodes h.0 name h.2 in (
-      Contains-append_right (pins.driver ∷ pins.sinks) section.nodes name (h.0, below, get_or_from_slice_get section.nodes h.0 name name h.2),
-      ap (slice_get (all_nodes section pins)) (sym h.1) ∙ are.each h.0 name below ∙ ap (λ n. Some (node_of n)) (get_or_from_slice_get section.nodes h.0 name name h.2),
-    )
+section_named section pins spots number name are distinct pins_so h =
+    let there = behind (pins.driver ∷ pins.sinks) section.nodes h.0 name h.2 in
+    (first_spelling (names section pins) name there.0 there.1 one, spot_named section pins spots number name are h)
+  where
+    one : (k : ℕ) (other : NodeName) → slice_get (names section pins) k ≡ Some other → node_of other ≡ node_of name → other ≡ name
+    one k other at same = elim (parted (pins.driver ∷ pins.sinks) section.nodes k other at) [
+      | inl pin ↦ pins_so k other pin same
+      | inr listed ↦ same_in_section section.nodes distinct listed.0 h.0 other name listed.1 h.2 same
+    ]
+
+-- a node with a number behind the pins is none of theirs
+pub no_pin : (section : SectionElements) (pins : Pins) (spots : List ℕ) (count number : ℕ) (name : NodeName) → IsNumbered section pins spots count → Apart (pin_nodes pins) → length pins.sinks < number
+    → slice_get (all_nodes section pins) number ≡ Some (node_of name) → (k : ℕ) (other : NodeName) → slice_get (pins.driver ∷ pins.sinks) k ≡ Some other → node_of other ≡ node_of name → other ≡ name
+no_pin section pins spots count number name numbered apart more at k other pin same =
+    let nodes = all_nodes section pins in
+    let there : slice_get nodes k ≡ Some (node_of other) = pin_there section pins apart k (node_of other) (slice_get-map node_of (pins.driver ∷ pins.sinks) k ∙ ap (option_map node_of) pin) in
+    let place : k ≡ number = one_place nodes numbered.apart (node_of name) k number (slice_get_within nodes k (node_of other) there) (slice_get_within nodes number (node_of name) at)
+    (get_or_from_slice_get nodes k (node_of other) (node_of name) there ∙ same ∙ sym (get_or_from_slice_get nodes number (node_of name) (node_of name) at)) in
+    let inside = slice_get_within (pins.driver ∷ pins.sinks) k other pin in
+    absurd (omega (arith, more, place, inside))
 
 -- the driver's name, and a sink's
 pub driver_named : (section : SectionElements) (pins : Pins) → IsNameAt section pins 0 pins.driver
-driver_named section pins = (Contains-append_left (pins.driver ∷ pins.sinks) section.nodes pins.driver (0, omega arith, refl), refl)
+driver_named section pins = (record { place = 0; here = refl; earlier = λ k other less. absurd (omega (arith, less)) }, refl)
 
 pub sink_there : (section : SectionElements) (pins : Pins) → Apart (pin_nodes pins) → (k : ℕ) (name : NodeName) → slice_get pins.sinks k ≡ Some name → slice_get (all_nodes section pins) (suc k) ≡ Some (node_of name)
 sink_there section pins apart k name at = pin_there section pins apart (suc k) (node_of name) (slice_get-map node_of pins.sinks k ∙ ap (option_map node_of) at)
 
 pub sink_named : (section : SectionElements) (pins : Pins) → Apart (pin_nodes pins) → (number : ℕ) (name : NodeName) → 0 < number → slice_get pins.sinks (number - 1) ≡ Some name → IsNameAt section pins number name
 sink_named section pins apart number name some at =
-    let inside = slice_get_within pins.sinks (number - 1) name at in
     let is_suc : number ≡ suc (number - 1) = omega (arith, some) in (
-      Contains-append_left (pins.driver ∷ pins.sinks) section.nodes name (suc (number - 1), omega (arith, inside), get_or_from_slice_get pins.sinks (number - 1) name name at),
+      (record { place = suc (number - 1); here = before (pins.driver ∷ pins.sinks) section.nodes (suc (number - 1)) name at; earlier = none }),
       ap (slice_get (all_nodes section pins)) is_suc ∙ sink_there section pins apart (number - 1) name at,
     )
+  where
+    none : (k : ℕ) (other : NodeName) → k < suc (number - 1) → slice_get (names section pins) k ≡ Some other → node_of other ≡ node_of name → ⊥
+    none k other less there same =
+        let inside = slice_get_within pins.sinks (number - 1) name at in
+        let pin : slice_get (pins.driver ∷ pins.sinks) k ≡ Some other = in_front (pins.driver ∷ pins.sinks) section.nodes k other (omega (arith, less, inside)) there in
+        let one : slice_get (pin_nodes pins) k ≡ Some (node_of other) = slice_get-map node_of (pins.driver ∷ pins.sinks) k ∙ ap (option_map node_of) pin in
+        let two : slice_get (pin_nodes pins) (suc (number - 1)) ≡ Some (node_of name) = slice_get-map node_of (pins.driver ∷ pins.sinks) (suc (number - 1)) ∙ ap (option_map node_of) at in
+        let place : k ≡ suc (number - 1) = one_place (pin_nodes pins) apart (node_of name) k (suc (number - 1)) (slice_get_within (pin_nodes pins) k (node_of other) one) (slice_get_within (pin_nodes pins) (suc (number - 1)) (node_of name) two)
+        (get_or_from_slice_get (pin_nodes pins) k (node_of other) (node_of name) one ∙ same ∙ sym (get_or_from_slice_get (pin_nodes pins) (suc (number - 1)) (node_of name) (node_of name) two)) in
+        omega (arith, less, place)
 
 -- the sinks so far stand where the search has their nodes
 abbrev pub HasSink : SectionElements → Pins → List ℕ → List NodeId → ℕ → Type 0

@@ -26,5 +26,6 @@ pub mod Strangers
 pub mod Growing
 pub mod LoneTree
 pub mod ListedLemmas
+pub mod Spellings
 pub mod MarkingLemmas
 pub mod SectionNumbers

@@ -1,5 +1,5 @@
 -- What is made of a net: a tree, or the reason why it has none.
-use Rattle.std.specs.Prelude.{◌≡◌, ◌≢◌, ℕ, ◌<◌, ◌↔◌, List, ◌∷◌, ◌++◌, length, slice_index, slice_index_or, slice_get, Some, All, AllPairs, Contains}
+use Rattle.std.specs.Prelude.{◌≡◌, ◌≢◌, ℕ, ◌<◌, ◌↔◌, List, ◌∷◌, ◌++◌, length, slice_index, slice_index_or, slice_get, Some, All, AllPairs}
 use Rattle.name_table.specs.declared.spef_names.NodeName.{NodeName}
 use Rattle.spef_nets.specs.NetElements.{NetElements as SectionElements}
 use Rattle.rc_tree.specs.NetElements.{NetElements, NetResistor, nodes_of}
@@ -23,15 +23,21 @@ IsFit section pins = AreListed section (pin_nodes pins) × (IsTooLarge section p
 abbrev pub CutsNothing : NetElements Node → ℕ → Type 0
 CutsNothing net place = All (ReachedWithout net place) (nodes_of net)
 
--- how the names of a net's nodes are written
+-- how the names of a net's nodes are written, those of the pins first
 abbrev pub names : SectionElements → Pins → List NodeName
 names section pins = (pins.driver ∷ pins.sinks) ++ section.nodes
+
+-- a name is the first of these that is one of its node
+pub record IsFirstSpelling (spellings : List NodeName) (name : NodeName) : Type 0 where
+  pub place : ℕ
+  pub here : slice_get spellings place ≡ Some name
+  pub earlier : (k : ℕ) (other : NodeName) → k < place → slice_get spellings k ≡ Some other → node_of other ≢ node_of name
 
 -- Why a net has no tree, at each corner. Want of memory alone may come at any time.
 abbrev pub IsTreeEnd : ℕ → SectionElements → Pins → TreeEnd → Type 0
 IsTreeEnd count section pins (StrangePin name) = IsFirstStrange section (pin_nodes pins) name
 IsTreeEnd count section pins TooLarge = AreListed section (pin_nodes pins) × IsTooLarge section pins
-IsTreeEnd count section pins (Unreached name) = IsFit section pins × Contains (names section pins) name
+IsTreeEnd count section pins (Unreached name) = IsFit section pins × IsFirstSpelling (names section pins) name
     × ((number : ℕ) → number < count → IsUnreached (net_elements count section pins number) (node_of name))
 IsTreeEnd count section pins (Mesh place) = IsFit section pins × (place < length section.joints)
     × ((number : ℕ) → number < count → IsMesh (net_elements count section pins number)

@@ -1,5 +1,5 @@
 -- A net whose nodes are numbered, and whose resistors are searched from the driver's node.
-use Rattle.std.specs.Prelude.{◌≡◌, ◌≢◌, ℕ, ◌-◌, ◌<◌, ◌++◌, List, length, map, slice_get, slice_index, slice_index_or, Some, AllPairs, Contains}
+use Rattle.std.specs.Prelude.{◌≡◌, ◌≢◌, ℕ, ◌-◌, ◌<◌, ◌++◌, List, length, map, slice_get, slice_index, slice_index_or, Some, AllPairs}
 use Rattle.name_table.specs.declared.spef_names.NodeName.{NodeName}
 use Rattle.spef_nets.specs.NetElements.{NetElements as SectionElements}
 use Rattle.rc_tree.specs.Nodes.{Node, node_of, first_places}
@@ -7,7 +7,7 @@ use Rattle.rc_tree.specs.Pins.{Pins, pin_nodes}
 use Rattle.rc_tree.specs.SectionNets.{sink_node}
 use Rattle.rc_tree.specs.Numbering.{AreSpots, AreEnds}
 use Rattle.rc_tree.specs.Searches.{Search, IsSearch, IsClosed}
-use Rattle.rc_tree.specs.Builds.{names}
+use Rattle.rc_tree.specs.Builds.{IsFirstSpelling, names}
 use Rattle.rc_tree.specs.declared.node_ids.NodeId.{NodeId}
 
 -- all nodes of the pins and of a section, by first place
@@ -38,9 +38,9 @@ pub record Searched (section : SectionElements) (pins : Pins) (nodes : List Node
   pub search : IsSearch (length nodes) froms tos s
   pub closed : IsClosed froms tos s
 
--- a written name of the node of a number
+-- the first written name of the node of a number
 abbrev pub IsNameAt : SectionElements → Pins → ℕ → NodeName → Type 0
-IsNameAt section pins number name = Contains (names section pins) name × (slice_get (all_nodes section pins) number ≡ Some (node_of name))
+IsNameAt section pins number name = IsFirstSpelling (names section pins) name × (slice_get (all_nodes section pins) number ≡ Some (node_of name))
 
 -- each sink stands where the search has its node, whose number gives one more than its place
 abbrev pub AreSinks : SectionElements → Pins → List ℕ → List NodeId → Type 0

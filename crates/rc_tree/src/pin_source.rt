@@ -62,7 +62,8 @@ pub trait PinSource<C: CornerSet> {
         ensures { slice_get (all_nodes section.now (pins self.now section.now)) result
             ≡ Some (sink_node (pins self.now section.now) sink) };
 
-    /// A name of the node of a number.
+    /// The first name of the node of a number, in the order of the pins and then of the section's nodes. Each connection of the
+    /// section is one of the pins.
     fn name_at(
         &self,
         alloc: Global,
@@ -70,7 +71,8 @@ pub trait PinSource<C: CornerSet> {
         numbered: &Numbered,
         number: usize,
     ) -> Result<NodeName, OutOfMemory>
-        requires { IsNumbered section.now (pins self.now section.now) numbered.now.spots.items numbered.now.count }
+        requires numbered { IsNumbered section.now (pins self.now section.now) numbered.now.spots.items numbered.now.count }
+        requires listed { AreListed section.now (pin_nodes (pins self.now section.now)) }
         ensures { IfOk result (λ name. IsNameAt section.now (pins self.now section.now) number name) };
 }
 
@@ -116,6 +118,7 @@ impl<'p, C: CornerSet> PinSource<C> for PinLoads<'p, C> {
             let name = self.sink(number - 1).node_name(alloc)?;
             return Ok(name);
         }
+        section.distinct();
         let name = section_name(alloc, section, numbered, number)?;
         Ok(name)
     }
@@ -155,6 +158,7 @@ impl<C: CornerSet> PinSource<C> for ListedPins {
         numbered: &Numbered,
         number: usize,
     ) -> Result<NodeName, OutOfMemory> {
+        section.distinct();
         let name = section_name(alloc, section, numbered, number)?;
         Ok(name)
     }

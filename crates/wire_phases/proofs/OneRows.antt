@@ -1,6 +1,6 @@
 -- Nets give one list of rows, or one refusal, the resistor of a mesh aside.
 use Rattle.std.proofs.Common.{◌≡◌, ℕ, zero, suc, ◌+◌, ◌<◌, ◌⊎◌, inl, inr, ⊎_elim, Bool, true, false, List, [], ◌∷◌, ◌++◌, length, map, take, drop, Some, Result, Ok, Err, refl, sym, ap, ap₂, ◌∙◌, subst, arith, append_assoc, append-nil}
-use Rattle.std.specs.Prelude.{slice_get, slice_index_or, filter, All, Contains, pos, ◌^◌, ◌<ℤ◌}
+use Rattle.std.specs.Prelude.{slice_get, slice_index_or, filter, All, pos, ◌^◌, ◌<ℤ◌}
 use Rattle.std.proofs.lemmas.Int.{ints}
 use Rattle.std.specs.List.{AllByRecursion, AllZip}
 use Rattle.std.proofs.lemmas.List.Elements.{recursion_from_All}
@@ -13,7 +13,6 @@ use Rattle.sdf_writer.specs.SdfText.{WireRow, SdfRows}
 use Rattle.spef_nets.specs.NetElements.{NetElements, AreWhole}
 use Rattle.spef_nets.specs.declared.parts.Listed.{Listed}
 use Rattle.rc_tree.specs.NetElements.{NetElements as TreeElements}
-use Rattle.rc_tree.specs.Walk.{Reached}
 use Rattle.rc_tree.specs.RcTree.{IsUnreached, IsMesh, IsTree}
 use Rattle.rc_tree.specs.Nodes.{Node, node_of}
 use Rattle.rc_tree.specs.Pins.{Pins}
@@ -21,14 +20,15 @@ use Rattle.rc_tree.specs.ListedPins.{listed_pins, without, conn_name, no_conn, n
 use Rattle.rc_tree.specs.SectionNets.{net_elements}
 use Rattle.rc_tree.specs.Builds.{names, IsFit}
 use Rattle.rc_tree.proofs.ElmoreSums.{one_elmore}
-use Rattle.rc_tree.proofs.NetShapes.{first_without, one_shape, one_unreached}
+use Rattle.rc_tree.proofs.NetShapes.{one_shape, one_unreached}
+use Rattle.rc_tree.proofs.Spellings.{one_spelling}
 use Rattle.wire_phases.specs.AnnotationRows.{Wire, IsWireDelay, IsAnnotationRow}
 use Rattle.wire_phases.specs.SpefPhases.{DesignNets}
 use Rattle.wire_phases.specs.WireNets.{drives, wires_of, HasDriver, IsNoTree, too_large, unreached, mesh, NetGives, no_driver, many_drivers, no_tree, is_tree, NetsGive, no_net, and_net, refused, RowsOf}
 use Rattle.refusals.specs.SameAnswers.{SameRefusal, some_resistor, SameAnswer}
 use Rattle.refusals.specs.declared.refusal.Refusal.{Refusal}
 use Rattle.refusals.specs.declared.refusal.Refusal.TheVariants.{Unreached}
-use Rattle.refusals.proofs.Places.{some_is, got_below, index_is, contains_at}
+use Rattle.refusals.proofs.Places.{got_below, index_is}
 
 -- ---- rows
 
@@ -126,10 +126,6 @@ module _ (net : NetElements) (whole : AreWhole 1 net) (driver : ℕ) (has : HasD
   dropped (suc n) [] all = tt
   dropped (suc n) (conn ∷ conns) all = dropped n conns all.1
 
-  joined : (xs ys : List NodeName) → AllByRecursion IsNamed xs → AllByRecursion IsNamed ys → AllByRecursion IsNamed (xs ++ ys)
-  joined [] ys p q = q
-  joined (x ∷ xs) ys p q = (p.0, joined xs ys p.1 q)
-
   conns_joined : (xs ys : List Listed) → AllByRecursion InNet xs → AllByRecursion InNet ys → AllByRecursion InNet (xs ++ ys)
   conns_joined [] ys p q = q
   conns_joined (x ∷ xs) ys p q = (p.0, conns_joined xs ys p.1 q)
@@ -151,34 +147,6 @@ module _ (net : NetElements) (whole : AreWhole 1 net) (driver : ℕ) (has : HasD
   pub sinks_named : AllByRecursion IsNamed pins.sinks
   sinks_named = map_named (without driver net.conns) (conns_joined (take driver net.conns) (drop (suc driver) net.conns) (taken driver net.conns conns_in) (dropped (suc driver) net.conns conns_in))
 
-  nodes_named : (front : ℕ) (nodes : List NodeName) → ((k : ℕ) (name : NodeName) → slice_get nodes k ≡ Some name → slice_get net.nodes (front + k) ≡ Some name) → AllByRecursion IsNamed nodes
-  nodes_named front [] stand = tt
-  nodes_named front (name ∷ nodes) stand =
-      ((front + 0, stand 0 name refl), nodes_named (front + 1) nodes (λ k other at. ap (slice_get net.nodes) (shifted k) ∙ stand (suc k) other at))
-    where
-      shifted : (k : ℕ) → front + 1 + k ≡ front + suc k
-      shifted k = omega arith
-
-  all_named : AllByRecursion IsNamed (names net pins)
-  all_named =
-      joined (pins.driver ∷ pins.sinks) net.nodes
-      (driver_named, sinks_named)
-      (nodes_named 0 net.nodes (λ k name at. let same : 0 + k ≡ k = omega arith in ap (slice_get net.nodes) same ∙ at))
-
-  name_stands : (all : List NodeName) (k : ℕ) (name : NodeName) → AllByRecursion IsNamed all → slice_get all k ≡ Some name → IsNamed name
-  name_stands [] k name is at = cc
-  name_stands (d ∷ all) zero name is at = let same : d ≡ name = cc in subst IsNamed same is.0
-  name_stands (d ∷ all) (suc k) name is at = name_stands all k name is.1 at
-
-  one_name : (one other : NodeName) → Contains (names net pins) one → Contains (names net pins) other → node_of one ≡ node_of other → one ≡ other
-  one_name one other a b same =
-      let x = contains_at (names net pins) one a in
-      let y = contains_at (names net pins) other b in
-      let p = name_stands (names net pins) x.0 one all_named x.1 in
-      let q = name_stands (names net pins) y.0 other all_named y.1 in
-      let number : p.0 ≡ q.0 = whole.distinct p.0 q.0 one other p.1 q.1 (λ i. record { head = (same i).head; tail = (same i).tail }) in
-      some_is one other (sym p.1 ∙ ap (slice_get net.nodes) number ∙ q.1)
-
   shape : (node : Node) → IsUnreached (net_elements 1 net pins 0) node → IsMesh (net_elements 1 net pins 0) → ⊥
   shape = (one_shape (net_elements 1 net pins 0)).2
 
@@ -189,7 +157,7 @@ module _ (net : NetElements) (whole : AreWhole 1 net) (driver : ℕ) (has : HasD
   one_no_tree one other (unreached node a) (too_large b) = absurd (a.0.1 b.1)
   one_no_tree one other (mesh place a) (too_large b) = absurd (a.0.1 b.1)
   one_no_tree one other (unreached node a) (unreached more b) =
-      inl (ap (λ n. Unreached net.net n) (one_name node more a.1 b.1 (one_unreached (net_elements 1 net pins 0) (node_of node) (node_of more) (a.2 0 (omega arith)) (b.2 0 (omega arith)))))
+      inl (ap (λ n. Unreached net.net n) (one_spelling (names net pins) node more a.1 b.1 (one_unreached (net_elements 1 net pins 0) (node_of node) (node_of more) (a.2 0 (omega arith)) (b.2 0 (omega arith)))))
   one_no_tree one other (unreached node a) (mesh place b) = absurd (shape (node_of node) (a.2 0 (omega arith)) (b.2 0 (omega arith)).0)
   one_no_tree one other (mesh place b) (unreached node a) = absurd (shape (node_of node) (a.2 0 (omega arith)) (b.2 0 (omega arith)).0)
   one_no_tree one other (mesh place a) (mesh more b) = inr (some_resistor net.net place more)
