@@ -1,9 +1,8 @@
 //! What the words ask for.
 ghost use Rattle.std.specs.Prelude.{◌≡◌, IsTrue, Some, IfSome, IfNone, option_copied, option_map};
 ghost use Rattle.std.specs.List.{find};
-ghost use Rattle.gdc_words.specs.CommandLine.{same_key, needs_key, is_given, corner_key, library_keys, libraries_of, mixed_key, first_missing, value_of, value_at, pair_at, is_decimal, IsValue, HasGrains, HasNoGrains, IsPortLoad, pick_from, missing_from, wire_slew_from, beyond_from, shape_of};
+ghost use Rattle.gdc_words.specs.CommandLine.{same_key, needs_key, is_given, corner_key, libraries_of, mixed_key, first_missing, value_of, value_at, pair_at, is_decimal, IsValue, HasGrains, HasNoGrains, IsPortLoad, pick_from, missing_from, wire_slew_from, beyond_from, shape_of};
 ghost use Rattle.gdc_words.specs.declared.commands.Key.TheVariants as keys;
-ghost use Rattle.gdc_words.specs.declared.commands.Libraries.TheVariants.{EachCorner};
 ghost use Rattle.gdc_words.specs.Decimals.{IsGrains};
 ghost use Rattle.gdc_words.specs.Sizes.{IsSize};
 
@@ -44,18 +43,11 @@ fn pair_at<'a>(given: &'a [Given], word: &[u8]) -> Option<&'a Given>
     given.iter().find(|pair| pair.key.word() == word)
 }
 
-/// The keys of a library for each corner, in the order in which the first that stands is named.
-fn corner_keys() -> &'static [Key]
-    ensures { result.now ≡ library_keys EachCorner }
-{
-    &[Key::LibMin, Key::LibTyp, Key::LibMax]
-}
-
-/// The first of them that stands.
+/// The first key of a library for a corner that stands.
 fn corner_key(given: &[Given]) -> Option<Key>
     ensures { result ≡ corner_key given.now }
 {
-    corner_keys()
+    [Key::LibMin, Key::LibTyp, Key::LibMax]
         .iter()
         .copied()
         .find(|key| stands(given, *key))
