@@ -5,9 +5,9 @@ use Rattle.net_parasitics.specs.Inputs.{Inputs}
 use Rattle.net_parasitics.specs.OneAnswer.{IsSameTreeEnd}
 use Rattle.net_parasitics.specs.declared.ends.ParasiticsEnd.TheVariants.{MissingNet as NoSection, Tree}
 use Rattle.net_parasitics.proofs.OneAnswer.{one_delays, no_end, one_end}
-use Rattle.refusals.specs.SameAnswers.{SameRefusal, some_resistor, one_node}
+use Rattle.refusals.specs.SameAnswers.{SameRefusal, some_resistor}
 use Rattle.refusals.specs.declared.refusal.Refusal.{Refusal}
-use Rattle.refusals.specs.declared.refusal.Refusal.TheVariants.{MissingNet, StrangePin}
+use Rattle.refusals.specs.declared.refusal.Refusal.TheVariants.{MissingNet, StrangePin, Unreached}
 use Rattle.delay_core.specs.DelayPhase.{net_text, IsTreeRefusal, strange_pin, too_large, unreached, mesh, are_delays, missing_net, no_tree}
 use Rattle.delay_core.specs.OneTiming.{OneDelays}
 
@@ -15,7 +15,7 @@ use Rattle.delay_core.specs.OneTiming.{OneDelays}
 same_tree : (net : List ℕ) (one other : TreeEnd) (some more : Refusal) → IsTreeRefusal net one some → IsTreeRefusal net other more → IsSameTreeEnd one other → SameRefusal some more
 same_tree net _ _ _ _ (strange_pin pin) (strange_pin other) same = inl (ap (λ p. StrangePin net p) same)
 same_tree net _ _ _ _ too_large too_large same = inl refl
-same_tree net _ _ _ _ (unreached node) (unreached other) same = inr (one_node net node other same)
+same_tree net _ _ _ _ (unreached node) (unreached other) same = inl (ap (λ n. Unreached net n) same)
 same_tree net _ _ _ _ (mesh place) (mesh other) same = inr (some_resistor net place other)
 same_tree net _ _ _ _ (strange_pin pin) too_large same = absurd same
 same_tree net _ _ _ _ (strange_pin pin) (unreached other) same = absurd same

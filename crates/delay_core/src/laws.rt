@@ -8,7 +8,7 @@ use corner_set::CornerSet;
 
 /// The law of loads and Elmore sums, which its contract states: where the sections of a file are of different nets, a design has one answer
 /// of the phases of its nets. There is one table of loads and Elmore sums, or one refusal, in which one of the resistors of a mesh is
-/// named, and in which an unreached node is told in one of its spellings. It does nothing when it is called.
+/// named. It does nothing when it is called.
 #[tactic(auto, using(crate::proofs::OneDelays::one_delays_answer))]
 pub fn one_delays_answer()
     ensures law { OneDelays }
@@ -23,7 +23,7 @@ pub fn one_slews_answer()
 
 /// The law of a design's delays, which its contract states: its files and settings have one answer at each set of corners, where the files
 /// are told. It is the design with its delays, or one reason why it has none, but for which resistor of a mesh, which of the modules that
-/// contain themselves and which loop is named, and for how an unreached node is spelled. It does nothing when it is called.
+/// contain themselves and which loop is named. It does nothing when it is called.
 pub fn one_annotation<C: CornerSet>()
     ensures law { (pick : Pick) → OneAnnotation (corners_of C.COUNT C.number_of C.member_of pick) }
 {}

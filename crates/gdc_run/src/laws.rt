@@ -15,9 +15,9 @@ pub fn always_readable()
     read_back();
 }
 
-/// The law of verdicts, which its contract states: on any words, and on files that are told, there is one verdict. Four things are left
+/// The law of verdicts, which its contract states: on any words, and on files that are told, there is one verdict. Three things are left
 /// free. A net whose resistors close a loop may be refused by any resistor of it, and a design by any of its modules that contain
-/// themselves, or by any loop of its arcs. An unreached node may be told in any of its spellings, all of which are printed alike.
+/// themselves, or by any loop of its arcs.
 /// That the phases come to the reading of a file, where a fault of the outside may come or not, stands beside the verdict. It does
 /// nothing when it is called.
 #[tactic(auto, using(crate::proofs::OneVerdict::one_verdict_lem))]

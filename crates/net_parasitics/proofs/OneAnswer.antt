@@ -10,7 +10,7 @@ use Rattle.netlist_link.specs.FlatNetlist.{net_at}
 use Rattle.netlist_link.specs.declared.ends.End.{End}
 use Rattle.spef_nets.specs.NetElements.{NetElements as SectionElements, net_names}
 use Rattle.spef_nets.specs.declared.parts.Listed.{Listed}
-use Rattle.rc_tree.specs.Builds.{IsTreeEnd}
+use Rattle.rc_tree.specs.Builds.{IsTreeEnd, names}
 use Rattle.rc_tree.specs.NetElements.{NetElements}
 use Rattle.rc_tree.specs.Nodes.{Node, node_of}
 use Rattle.rc_tree.specs.Pins.{pin_nodes}
@@ -20,6 +20,7 @@ use Rattle.rc_tree.specs.declared.ends.TreeEnd.{TreeEnd}
 use Rattle.rc_tree.specs.declared.ends.TreeEnd.TheVariants as tree
 use Rattle.rc_tree.proofs.ElmoreSums.{one_elmore}
 use Rattle.rc_tree.proofs.NetShapes.{one_shape, one_unreached}
+use Rattle.rc_tree.proofs.Spellings.{one_spelling}
 use Rattle.net_delays.specs.NetTimes.{NetTimes, load_at, elmore_at}
 use Rattle.net_delays.proofs.OneTimes.{one_times}
 use Rattle.net_parasitics.specs.Inputs.{Inputs}
@@ -129,7 +130,8 @@ module _ (inputs : Inputs) (some : 0 < inputs.count) (net : ℕ) (driver : End) 
   one_tree_end tree.TooLarge (tree.Mesh b) r s p q = absurd (s.0.1 r.1)
   one_tree_end (tree.Unreached a) (tree.StrangePin b) r s p q = absurd (strange_listed section (pin_nodes (net_pins inputs net driver)) b s r.0.0)
   one_tree_end (tree.Unreached a) tree.TooLarge r s p q = absurd (r.0.1 s.1)
-  one_tree_end (tree.Unreached a) (tree.Unreached b) r s p q = one_unreached (elements_at inputs net driver section 0) (node_of a) (node_of b) (r.2 0 some) (s.2 0 some)
+  one_tree_end (tree.Unreached a) (tree.Unreached b) r s p q =
+      one_spelling (names section (net_pins inputs net driver)) a b r.1 s.1 (one_unreached (elements_at inputs net driver section 0) (node_of a) (node_of b) (r.2 0 some) (s.2 0 some))
   one_tree_end (tree.Unreached a) (tree.Mesh b) r s p q = absurd ((one_shape (elements_at inputs net driver section 0)).2 (node_of a) (r.2 0 some) (s.2 0 some).0)
   one_tree_end (tree.Mesh a) (tree.StrangePin b) r s p q = absurd (strange_listed section (pin_nodes (net_pins inputs net driver)) b s r.0.0)
   one_tree_end (tree.Mesh a) tree.TooLarge r s p q = absurd (r.0.1 s.1)

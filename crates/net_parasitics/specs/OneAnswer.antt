@@ -1,16 +1,15 @@
 -- Answers that are the same, but for what may be told freely.
 use Rattle.std.specs.Prelude.{◌≡◌, ⊤}
-use Rattle.rc_tree.specs.Nodes.{node_of}
 use Rattle.rc_tree.specs.declared.ends.TreeEnd.{TreeEnd}
 use Rattle.rc_tree.specs.declared.ends.TreeEnd.TheVariants as tree
 use Rattle.net_parasitics.specs.declared.ends.ParasiticsEnd.{ParasiticsEnd}
 use Rattle.net_parasitics.specs.declared.ends.ParasiticsEnd.TheVariants.{MissingNet, Tree, OutOfMemory}
 
--- the same end of a tree: an unreached node however it is written, and a mesh by whichever resistor
+-- the same end of a tree: a mesh by whichever resistor
 abbrev pub IsSameTreeEnd : TreeEnd → TreeEnd → Type 0
 IsSameTreeEnd (tree.StrangePin one) (tree.StrangePin other) = one ≡ other
 IsSameTreeEnd tree.TooLarge tree.TooLarge = ⊤
-IsSameTreeEnd (tree.Unreached one) (tree.Unreached other) = node_of one ≡ node_of other
+IsSameTreeEnd (tree.Unreached one) (tree.Unreached other) = one ≡ other
 IsSameTreeEnd (tree.Mesh one) (tree.Mesh other) = ⊤
 IsSameTreeEnd _ _ = ⊥
 

@@ -1,18 +1,14 @@
 -- When two refusals, or two answers, are one.
 use Rattle.std.specs.Prelude.{◌≡◌, ℕ, ◌⊎◌, List, Result, Ok, Err}
-use Rattle.name_table.specs.NodeKeys.{key_of}
-use Rattle.name_table.specs.declared.spef_names.NodeName.{NodeName}
 use Rattle.refusals.specs.declared.refusal.Refusal.{Refusal}
-use Rattle.refusals.specs.declared.refusal.Refusal.TheVariants.{Recursive, Unreached, Mesh, Loop}
+use Rattle.refusals.specs.declared.refusal.Refusal.TheVariants.{Recursive, Mesh, Loop}
 
 -- What a verdict leaves free: which of the resistors that cut no node off is told of a net's mesh, which of the modules that contain
--- themselves, which of the loops of arcs, and in which of its spellings an unreached node is told. A name of a node has several
--- spellings in SPEF. A refusal's line shows head and tail alone, so it is the same for all of them.
+-- themselves, and which of the loops of arcs.
 pub data IsFreeChoice : Refusal → Refusal → Type 0 where
   some_resistor : (net : List ℕ) (one other : ℕ) → IsFreeChoice (Mesh net one) (Mesh net other)
   some_module : (one other : List ℕ) → IsFreeChoice (Recursive one) (Recursive other)
   some_loop : (one other : List (List ℕ)) → IsFreeChoice (Loop one) (Loop other)
-  one_node : (net : List ℕ) (one other : NodeName) → key_of one ≡ key_of other → IsFreeChoice (Unreached net one) (Unreached net other)
 
 -- two refusals are one, but for what is left free
 abbrev pub SameRefusal : Refusal → Refusal → Type 0
