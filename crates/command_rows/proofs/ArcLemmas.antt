@@ -11,7 +11,6 @@ use Rattle.nldm_lookup.specs.Interpolant.{IsInterpolant}
 use Rattle.corner_set.specs.declared.choices.Beyond.{Beyond}
 use Rattle.nldm_lookup.specs.declared.faults.LookupEnd.{LookupEnd}
 use Rattle.nldm_lookup.specs.declared.faults.LookupEnd.TheVariants as lookup_end
-use Rattle.nldm_lookup.specs.declared.faults.Outside.{Outside}
 use Rattle.nldm_lookup.specs.declared.grain.Grain.TheVariants.{Atto, Femto}
 use Rattle.cell_models.specs.Cells.{TimedCell, IsCell, HasDirection}
 use Rattle.cell_models.specs.declared.cell.Arc.{Arc}
@@ -27,8 +26,9 @@ use Rattle.command_rows.specs.declared.arc_rows.Looked.{Looked}
 use Rattle.cell_models.specs.declared.edge.Edge.{Edge}
 use Rattle.cell_models.specs.declared.edge.Part.{Part}
 use Rattle.refusals.specs.declared.refusal.Refusal.{Refusal}
-use Rattle.refusals.specs.declared.refusal.Refusal.TheVariants as refusal
-use Rattle.command_rows.specs.ArcRows.{ArcEdge, IsNamed, edges_of, arc_edges, IsArcRow, HasValues, IsEdgeEnd, IsEdgeRefusal, IsFirstRefused, AddsEdges, CellGives, all_valued, some_refused, outside_at, past_time_at}
+use Rattle.refusals.specs.LookUps.{look_up_refusal}
+use Rattle.refusals.specs.declared.look_ups.ArcNames.{ArcNames}
+use Rattle.command_rows.specs.ArcRows.{ArcEdge, IsNamed, edges_of, arc_edges, IsArcRow, HasValues, IsEdgeEnd, IsEdgeRefusal, IsFirstRefused, AddsEdges, CellGives, all_valued, some_refused}
 use Rattle.refusals.specs.EarlyRefusals.{is_early}
 use Rattle.command_rows.specs.Looking.{IsLooked, IsRowOf}
 use Rattle.refusals.specs.Refused.{OnRefusal}
@@ -199,20 +199,13 @@ gives_all corner name cell slew load beyond pins arcs i rows pins_are arcs_are a
 pub rows_late : (corner : ℕ) (name : List ℕ) (cell : TimedCell) (slew load : ℕ) (beyond : Beyond) (refusal : Refusal) → CellGives corner name cell slew load beyond (Err refusal) → IsTrue (is_early refusal) → ⊥
 rows_late corner name cell slew load beyond refusal (some_refused same is) early = late name cell.pins is.here.arc is.here.edge is.part is.end refusal is.refused early
   where
+    none_early : (names : ArcNames) (edge : Edge) (part : Part) (end : LookupEnd) → IsTrue (is_early (look_up_refusal names edge corner part end)) → ⊥
+    none_early names edge part (lookup_end.Outside outside) early = cc
+    none_early names edge part lookup_end.PastTime early = cc
+
     late : (name : List ℕ) (pins : List Pin) (arc : Arc) (edge : Edge) (part : Part) (end : LookupEnd) (refusal : Refusal) → IsEdgeRefusal corner name pins arc edge part end refusal → IsTrue (is_early refusal) → ⊥
-    late name pins arc edge part end refusal (outside_at outside from to) early = cc
-    late name pins arc edge part end refusal (past_time_at from to) early = cc
+    late name pins arc edge part end refusal is early = none_early is.names edge part end (subst (λ (r : Refusal). IsTrue (is_early r)) is.is early)
 
 -- the pin at a place has its name
 pub is_named : (pins : List Pin) (place : ℕ) (pin : Pin) (name : List ℕ) → place < length pins → pin ≡ get_or pins place pin → name ≡ (get_or pins place pin).name → IsNamed pins place name
 is_named pins place pin name below is named = record { pin = pin; here = slice_get_read pins (length pins) place pin refl below is; named = named ∙ ap (λ (p : Pin). p.name) (sym is) }
-
-pub outside_so : (corner : ℕ) (cell : List ℕ) (pins : List Pin) (arc : Arc) (edge : Edge) (part : Part) (outside : Outside) (instance from to : List ℕ) → instance ≡ cell → IsNamed pins arc.from from → IsNamed pins arc.to to
-    → IsEdgeRefusal corner cell pins arc edge part (lookup_end.Outside outside) (refusal.Outside instance from to edge corner part outside.axis outside.value)
-outside_so corner cell pins arc edge part outside instance from to same from_named to_named =
-    subst (λ (i : List ℕ). IsEdgeRefusal corner cell pins arc edge part (lookup_end.Outside outside) (refusal.Outside i from to edge corner part outside.axis outside.value)) (sym same) (outside_at outside from_named to_named)
-
-pub past_time_so : (corner : ℕ) (cell : List ℕ) (pins : List Pin) (arc : Arc) (edge : Edge) (part : Part) (instance from to : List ℕ) → instance ≡ cell → IsNamed pins arc.from from → IsNamed pins arc.to to
-    → IsEdgeRefusal corner cell pins arc edge part lookup_end.PastTime (refusal.PastTime instance from to edge corner part)
-past_time_so corner cell pins arc edge part instance from to same from_named to_named =
-    subst (λ (i : List ℕ). IsEdgeRefusal corner cell pins arc edge part lookup_end.PastTime (refusal.PastTime i from to edge corner part)) (sym same) (past_time_at from_named to_named)

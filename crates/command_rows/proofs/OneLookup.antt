@@ -26,10 +26,12 @@ use Rattle.cell_models.specs.declared.edge.Edge.TheVariants.{Rise, Fall}
 use Rattle.cell_models.specs.declared.edge.Part.{Part}
 use Rattle.refusals.specs.declared.refusal.Refusal.{Refusal}
 use Rattle.refusals.specs.declared.refusal.Refusal.TheVariants as refusal
-use Rattle.command_rows.specs.ArcRows.{ArcEdge, edge_of, edges_of, arc_edges, IsNamed, IsArcRow, HasValues, IsEdgeEnd, at_delay, at_transition, IsEdgeRefusal, outside_at, past_time_at, IsFirstRefused, AddsEdges, CellGives, all_valued, some_refused}
+use Rattle.command_rows.specs.ArcRows.{ArcEdge, edge_of, edges_of, arc_edges, IsNamed, IsArcRow, HasValues, IsEdgeEnd, at_delay, at_transition, IsEdgeRefusal, IsFirstRefused, AddsEdges, CellGives, all_valued, some_refused}
 use Rattle.design_phases.specs.LibraryPhases.{ParsesLibrary, ModelsCell, has_model}
 use Rattle.design_phases.specs.LibraryReading.{library_key}
 use Rattle.command_rows.specs.CommandRows.{ReadsLib, ReadsArcs, at_library, at_cell, of_cell, LookupGives, at_library_reading, at_arcs, with_arc_rows}
+use Rattle.refusals.specs.LookUps.{look_up_refusal}
+use Rattle.refusals.specs.declared.look_ups.ArcNames.{ArcNames}
 use Rattle.refusals.specs.OneStep.{HasOneAnswer}
 use Rattle.design_phases.proofs.OneLibrary.{one_library_lem, one_cell_lem}
 use Rattle.rc_tree.proofs.NetShapes.{first_without}
@@ -99,21 +101,14 @@ ended end = Err end
 one_end : (table : TimingTable) (slew load : ℕ) (grain : Grain) (beyond : Beyond) (one other : LookupEnd) → IsTable table → IsLookupEnd table slew load grain beyond one → IsLookupEnd table slew load grain beyond other → one ≡ other
 one_end table slew load grain beyond one other whole r s = let same : ended one ≡ ended other = one_lookup_lem one_rounding_lem table slew load grain beyond (Err one) (Err other) whole r s in cc
 
-abbrev outside_refusal : ℕ → List ℕ → List ℕ → List ℕ → Edge → Part → Outside → Refusal
-outside_refusal corner cell from to edge part outside = refusal.Outside cell from to edge corner part outside.axis outside.value
-
-abbrev past_time_refusal : ℕ → List ℕ → List ℕ → List ℕ → Edge → Part → Refusal
-past_time_refusal corner cell from to edge part = refusal.PastTime cell from to edge corner part
+one_names : (one other : ArcNames) → one.instance ≡ other.instance → one.from ≡ other.from → one.to ≡ other.to → one ≡ other
+one_names one other instance from to = λ i. record { instance = instance i; from = from i; to = to i }
 
 one_refusal : (corner : ℕ) (cell : List ℕ) (pins : List Pin) (arc : Arc) (edge : Edge) (part : Part) (end : LookupEnd) (one two : Refusal) → IsEdgeRefusal corner cell pins arc edge part end one → IsEdgeRefusal corner cell pins arc edge part end two → one ≡ two
-one_refusal corner cell pins arc edge part _ _ _ (outside_at {from = f} {to = t} outside from to) (outside_at {from = g} {to = u} same start end) =
-    let first : f ≡ g = one_name pins arc.from f g from start in
-    let second : t ≡ u = one_name pins arc.to t u to end in
-    ap (λ x. outside_refusal corner cell x t edge part outside) first ∙ ap (λ x. outside_refusal corner cell g x edge part outside) second
-one_refusal corner cell pins arc edge part _ _ _ (past_time_at {from = f} {to = t} from to) (past_time_at {from = g} {to = u} start end) =
-    let first : f ≡ g = one_name pins arc.from f g from start in
-    let second : t ≡ u = one_name pins arc.to t u to end in
-    ap (λ x. past_time_refusal corner cell x t edge part) first ∙ ap (λ x. past_time_refusal corner cell g x edge part) second
+one_refusal corner cell pins arc edge part end one two r s =
+    let names : r.names ≡ s.names =
+    one_names r.names s.names (r.instance ∙ sym s.instance) (one_name pins arc.from r.names.from s.names.from r.from s.from) (one_name pins arc.to r.names.to s.names.to r.to s.to) in
+    r.is ∙ ap (λ (n : ArcNames). look_up_refusal n edge corner part end) names ∙ sym s.is
 
 same_refusal : (corner : ℕ) (cell : List ℕ) (pins : List Pin) (arc : Arc) (edge : Edge) (part : Part) (end other : LookupEnd) (one two : Refusal) → end ≡ other
     → IsEdgeRefusal corner cell pins arc edge part end one → IsEdgeRefusal corner cell pins arc edge part other two → one ≡ two

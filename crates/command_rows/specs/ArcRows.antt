@@ -6,8 +6,6 @@ use Rattle.nldm_lookup.specs.Interpolant.{IsInterpolant, IsLookupEnd}
 use Rattle.nldm_lookup.specs.Tables.{TimingTable}
 use Rattle.corner_set.specs.declared.choices.Beyond.{Beyond}
 use Rattle.nldm_lookup.specs.declared.faults.LookupEnd.{LookupEnd}
-use Rattle.nldm_lookup.specs.declared.faults.LookupEnd.TheVariants as lookup_end
-use Rattle.nldm_lookup.specs.declared.faults.Outside.{Outside}
 use Rattle.nldm_lookup.specs.declared.grain.Grain.{Grain}
 use Rattle.nldm_lookup.specs.declared.grain.Grain.TheVariants.{Atto, Femto}
 use Rattle.cell_models.specs.Cells.{TimedCell}
@@ -19,8 +17,9 @@ use Rattle.cell_models.specs.declared.edge.Edge.{Edge}
 use Rattle.cell_models.specs.declared.edge.Edge.TheVariants.{Rise, Fall}
 use Rattle.cell_models.specs.declared.edge.Part.{Part}
 use Rattle.cell_models.specs.declared.edge.Part.TheVariants.{Delay, Transition}
+use Rattle.refusals.specs.LookUps.{look_up_refusal}
+use Rattle.refusals.specs.declared.look_ups.ArcNames.{ArcNames}
 use Rattle.refusals.specs.declared.refusal.Refusal.{Refusal}
-use Rattle.refusals.specs.declared.refusal.Refusal.TheVariants as refusal
 
 -- an edge that an arc has, with its tables
 pub record ArcEdge : Type 0 where
@@ -70,14 +69,14 @@ pub data IsEdgeEnd (slew load : ℕ) (beyond : Beyond) (tables : EdgeTables) : P
   at_transition : {end : LookupEnd} → HasValue tables.delay slew load Femto beyond → IsLookupEnd tables.slew slew load Atto beyond end
       → IsEdgeEnd slew load beyond tables Transition end
 
--- the refusal of an edge whose table has no value at a corner, with the name of its cell
-pub data IsEdgeRefusal (corner : ℕ) (cell : List ℕ) (pins : List Pin) (arc : Arc) (edge : Edge) (part : Part)
-    : LookupEnd → Refusal → Type 0 where
-  outside_at : {from to : List ℕ} (outside : Outside) → IsNamed pins arc.from from → IsNamed pins arc.to to
-      → IsEdgeRefusal corner cell pins arc edge part (lookup_end.Outside outside)
-      (refusal.Outside cell from to edge corner part outside.axis outside.value)
-  past_time_at : {from to : List ℕ} → IsNamed pins arc.from from → IsNamed pins arc.to to
-      → IsEdgeRefusal corner cell pins arc edge part lookup_end.PastTime (refusal.PastTime cell from to edge corner part)
+-- the refusal of an edge whose table has no value at a corner, with the name of its cell and those of its pins
+pub record IsEdgeRefusal (corner : ℕ) (cell : List ℕ) (pins : List Pin) (arc : Arc) (edge : Edge) (part : Part) (end : LookupEnd)
+    (refusal : Refusal) : Type 0 where
+  pub names : ArcNames
+  pub instance : names.instance ≡ cell
+  pub from : IsNamed pins arc.from names.from
+  pub to : IsNamed pins arc.to names.to
+  pub is : refusal ≡ look_up_refusal names edge corner part end
 
 -- the first of some edges with a table that has no value at a corner is refused
 pub record IsFirstRefused (corner : ℕ) (cell : List ℕ) (pins : List Pin) (slew load : ℕ) (beyond : Beyond) (edges : List ArcEdge)

@@ -11,7 +11,7 @@ use corner_set::Beyond;
 use delay_units::{Atto, Farads};
 use edge_io::{OutOfMemory, Steps, Text};
 use nldm_lookup::{Grain, LookupEnd};
-use refusals::Refusal;
+use refusals::{ArcNames, Refusal, refused_look_up};
 use std::alloc::Global;
 use std::marker::Model;
 use std::sync::ledger::Ledger;
@@ -165,26 +165,8 @@ fn refusal_of(
     let instance = Text::from_bytes(alloc, cell.bytes())?;
     let from = Text::from_bytes(alloc, pins[arc.from].name.bytes())?;
     let to = Text::from_bytes(alloc, pins[arc.to].name.bytes())?;
-    match end.end {
-        LookupEnd::Outside(outside) => Ok(Refusal::Outside {
-            instance,
-            from,
-            to,
-            edge,
-            corner,
-            part: end.part,
-            axis: outside.axis,
-            value: outside.value,
-        }),
-        LookupEnd::PastTime => Ok(Refusal::PastTime {
-            instance,
-            from,
-            to,
-            edge,
-            corner,
-            part: end.part,
-        }),
-    }
+    let names = ArcNames { instance, from, to };
+    Ok(refused_look_up(names, edge, corner, end.part, end.end))
 }
 
 // The row of an edge.

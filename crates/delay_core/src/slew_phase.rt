@@ -17,7 +17,8 @@ use corner_set::{CornerSet, first_corner};
 use delay_units::Atto;
 use edge_io::{OutOfMemory, Steps, Text, TextList};
 use netlist_link::{End, LinkedNetlist};
-use refusals::Refusal;
+use nldm_lookup::LookupEnd;
+use refusals::{ArcNames, Refusal, refused_look_up};
 use slew_order::{ArcAt, ArcList, LoadedNetlist, SlewEnd, Slews, cell_arc, propagate};
 use std::alloc::Global;
 use std::sync::ledger::Ledger;
@@ -36,14 +37,6 @@ fn pin_name<C: CornerSet>(
     let models = linked.cells.set(linked.netlist.cell_of(instance));
     let pin = models.pin(pin, first_corner::<C>());
     Text::from_bytes(alloc, pin.name.bytes())
-}
-
-// The names of an arc of an instance: that of the instance, and those of the pins that it leads from and to.
-#[derive(Drop)]
-struct ArcNames {
-    instance: Text,
-    from: Text,
-    to: Text,
 }
 
 // The names of an arc.
@@ -150,16 +143,8 @@ fn slew_refusal<C: CornerSet>(
             outside,
         } => {
             let names = arc_names(alloc, linked, at)?;
-            Ok(Refusal::Outside {
-                instance: names.instance,
-                from: names.from,
-                to: names.to,
-                edge,
-                corner,
-                part,
-                axis: outside.axis,
-                value: outside.value,
-            })
+            let end = LookupEnd::Outside(outside);
+            Ok(refused_look_up(names, edge, corner, part, end))
         }
         SlewEnd::PastTime {
             at,
@@ -168,14 +153,8 @@ fn slew_refusal<C: CornerSet>(
             part,
         } => {
             let names = arc_names(alloc, linked, at)?;
-            Ok(Refusal::PastTime {
-                instance: names.instance,
-                from: names.from,
-                to: names.to,
-                edge,
-                corner,
-                part,
-            })
+            let end = LookupEnd::PastTime;
+            Ok(refused_look_up(names, edge, corner, part, end))
         }
         SlewEnd::SlewLimit {
             net,

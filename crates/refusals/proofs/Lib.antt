@@ -1,4 +1,3 @@
-pub mod LineLemmas
 pub mod OneChain
 pub mod OneText
 pub mod Places

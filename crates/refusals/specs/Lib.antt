@@ -1,5 +1,6 @@
 pub mod EarlyRefusals
 pub mod InputFiles
+pub mod LookUps
 pub mod OneStep
 pub mod RefusalLine
 pub mod Refused

@@ -96,82 +96,56 @@ axis_text Load = codes "load"
 
 -- the words of a limit that is passed
 abbrev pub limit_words : LimitKind → List (List ℕ)
-limit_words (limit.File key) = codes "E50 limit file" ∷ key_text key ∷ []
-limit_words limit.Depth = codes "E50 limit depth" ∷ []
-limit_words limit.Instances = codes "E50 limit instances" ∷ []
-limit_words limit.Names = codes "E50 limit names" ∷ []
-limit_words limit.Pins = codes "E50 limit pins" ∷ []
-limit_words (limit.Net net) = codes "E50 limit net" ∷ net ∷ []
+limit_words (limit.File key) = codes "E50 limit" ∷ codes "file" ∷ key_text key ∷ []
+limit_words limit.Depth = codes "E50 limit" ∷ codes "depth" ∷ []
+limit_words limit.Instances = codes "E50 limit" ∷ codes "instances" ∷ []
+limit_words limit.Names = codes "E50 limit" ∷ codes "names" ∷ []
+limit_words limit.Pins = codes "E50 limit" ∷ codes "pins" ∷ []
+limit_words (limit.Net net) = codes "E50 limit" ∷ codes "net" ∷ net ∷ []
 
--- The words of a refusal are its number and its name, and then what it is about. They are given here in parts: those of a limit, of the
--- connections of a net and of SDF come last.
-abbrev pub last_words : Refusal → List (List ℕ)
-last_words (refusal.Limit kind) = limit_words kind
-last_words (refusal.NoDriver net) = codes "E60 no driver" ∷ net ∷ []
-last_words (refusal.ManyDrivers net) = codes "E61 several drivers" ∷ net ∷ []
-last_words (refusal.SdfSyntax token) = codes "E62 sdf syntax" ∷ codes "token" ∷ decimal token ∷ []
-last_words _ = []
-
--- the words of a refusal of arcs and slews
-abbrev pub timing_words : ℕ → Refusal → List (List ℕ)
-timing_words corners (refusal.Loop nets) = codes "E40 loop" ∷ []
-timing_words corners (refusal.Outside instance from to edge corner part axis value) = codes "E41 outside" ∷ instance ∷ from ∷ to
-    ∷ edge_text edge ∷ corner_text corners corner ∷ part_text part ∷ axis_text axis ∷ decimal value ∷ []
-timing_words corners (refusal.SlewLimit net instance pin edge corner slew elmore) = codes "E42 slew limit" ∷ net ∷ pin_text instance pin
-    ∷ edge_text edge ∷ corner_text corners corner ∷ signed_decimal slew.0 ∷ decimal elmore ∷ []
-timing_words corners (refusal.PastTime instance from to edge corner part) = codes "E43 past time" ∷ instance ∷ from ∷ to
-    ∷ edge_text edge ∷ corner_text corners corner ∷ part_text part ∷ []
-timing_words corners other = last_words other
-
--- the words of a refusal of SPEF
-abbrev pub spef_words : ℕ → Refusal → List (List ℕ)
-spef_words corners (refusal.SpefSyntax token) = codes "E04 spef syntax" ∷ codes "token" ∷ decimal token ∷ []
-spef_words corners (refusal.SpefForm word token) = codes "E05 spef form" ∷ word ∷ codes "token" ∷ decimal token ∷ []
-spef_words corners (refusal.SpefNumber kind token) = codes "E30 spef number" ∷ number_text kind ∷ codes "token" ∷ decimal token ∷ []
-spef_words corners (refusal.NameIndex kind token) = codes "E31 name index" ∷ index_text kind ∷ codes "token" ∷ decimal token ∷ []
-spef_words corners (refusal.RepeatedNet net) = codes "E32 repeated net" ∷ net ∷ []
-spef_words corners (refusal.MissingNet net) = codes "E33 missing net" ∷ net ∷ []
-spef_words corners (refusal.StrangePin net pin) = codes "E34 strange pin" ∷ net ∷ node_text pin.head pin.tail ∷ []
-spef_words corners (refusal.Unreached net node) = codes "E35 unreached node" ∷ net ∷ node_text node.head node.tail ∷ []
-spef_words corners (refusal.Mesh net resistor) = codes "E36 mesh" ∷ net ∷ []
-spef_words corners (refusal.ForeignCoupling net token) = codes "E37 foreign coupling" ∷ net ∷ codes "token" ∷ decimal token ∷ []
-spef_words corners other = timing_words corners other
-
--- the words of a refusal of libraries
-abbrev pub library_words : ℕ → Refusal → List (List ℕ)
-library_words corners (refusal.LibrarySyntax corner token line cause) = codes "E03 library syntax" ∷ corner_text corners corner
-    ∷ codes "token" ∷ decimal token ∷ codes "line" ∷ decimal line ∷ cause_text cause ∷ []
-library_words corners (refusal.UnknownCell cell corner) = codes "E11 unknown cell" ∷ cell ∷ corner_text corners corner ∷ []
-library_words corners (refusal.CellFault cell corner fault) = codes "E20 cell" ∷ cell ∷ corner_text corners corner ∷ fault_text fault ∷ []
-library_words corners (refusal.CornerShape cell fault) = codes "E21 corner shape" ∷ cell ∷ corner_text corners fault.corner
-    ∷ codes "entry" ∷ decimal fault.place ∷ []
-library_words corners other = spef_words corners other
-
--- the words of a refusal of a netlist whose modules are put together
-abbrev pub link_words : ℕ → Refusal → List (List ℕ)
-link_words corners (refusal.NoTop name) = codes "E10 no top module" ∷ name ∷ []
-link_words corners (refusal.UnknownPort instance port) = codes "E12 unknown port" ∷ instance ∷ port ∷ []
-link_words corners (refusal.Width instance port want got) = codes "E13 width" ∷ instance ∷ port
-    ∷ codes "want" ∷ decimal want ∷ codes "got" ∷ decimal got ∷ []
-link_words corners (refusal.Recursive name) = codes "E14 recursive module" ∷ name ∷ []
-link_words corners (refusal.NameClash name) = codes "E15 name clash" ∷ name ∷ []
-link_words corners (refusal.InoutPin instance pin) = codes "E16 inout pin" ∷ instance ∷ pin ∷ []
-link_words corners (refusal.SeveralDrivers net) = codes "E17 several drivers" ∷ net ∷ []
-link_words corners other = library_words corners other
-
--- the words of a refusal, in a run with so many corners
+-- The words of a refusal in a run with so many corners: its number and its name, and then what it is about. Those of a loop are its nets,
+-- one for each of its arcs.
 abbrev pub words_of : ℕ → Refusal → List (List ℕ)
 words_of corners (refusal.NetlistSyntax token) = codes "E01 netlist syntax" ∷ codes "token" ∷ decimal token ∷ []
 words_of corners (refusal.NotStructural word token) = codes "E02 not structural" ∷ word ∷ codes "token" ∷ decimal token ∷ []
+words_of corners (refusal.LibrarySyntax corner token line cause) = codes "E03 library syntax" ∷ corner_text corners corner
+    ∷ codes "token" ∷ decimal token ∷ codes "line" ∷ decimal line ∷ cause_text cause ∷ []
+words_of corners (refusal.SpefSyntax token) = codes "E04 spef syntax" ∷ codes "token" ∷ decimal token ∷ []
+words_of corners (refusal.SpefForm word token) = codes "E05 spef form" ∷ word ∷ codes "token" ∷ decimal token ∷ []
 words_of corners (refusal.RepeatedName name) = codes "E06 repeated name" ∷ name ∷ []
 words_of corners (refusal.BadRange name) = codes "E07 bad range" ∷ name ∷ []
 words_of corners (refusal.PortDirection name) = codes "E08 port direction" ∷ name ∷ []
-words_of corners other = link_words corners other
-
--- the nets of a loop, one for each of its arcs, which stand behind its words
-abbrev pub nets_of : Refusal → List (List ℕ)
-nets_of (refusal.Loop nets) = nets
-nets_of _ = []
+words_of corners (refusal.NoTop name) = codes "E10 no top module" ∷ name ∷ []
+words_of corners (refusal.UnknownCell cell corner) = codes "E11 unknown cell" ∷ cell ∷ corner_text corners corner ∷ []
+words_of corners (refusal.UnknownPort instance port) = codes "E12 unknown port" ∷ instance ∷ port ∷ []
+words_of corners (refusal.Width instance port want got) = codes "E13 width" ∷ instance ∷ port
+    ∷ codes "want" ∷ decimal want ∷ codes "got" ∷ decimal got ∷ []
+words_of corners (refusal.Recursive name) = codes "E14 recursive module" ∷ name ∷ []
+words_of corners (refusal.NameClash name) = codes "E15 name clash" ∷ name ∷ []
+words_of corners (refusal.InoutPin instance pin) = codes "E16 inout pin" ∷ instance ∷ pin ∷ []
+words_of corners (refusal.SeveralDrivers net) = codes "E17 several drivers" ∷ net ∷ []
+words_of corners (refusal.CellFault cell corner fault) = codes "E20 cell" ∷ cell ∷ corner_text corners corner ∷ fault_text fault ∷ []
+words_of corners (refusal.CornerShape cell fault) = codes "E21 corner shape" ∷ cell ∷ corner_text corners fault.corner
+    ∷ codes "entry" ∷ decimal fault.place ∷ []
+words_of corners (refusal.SpefNumber kind token) = codes "E30 spef number" ∷ number_text kind ∷ codes "token" ∷ decimal token ∷ []
+words_of corners (refusal.NameIndex kind token) = codes "E31 name index" ∷ index_text kind ∷ codes "token" ∷ decimal token ∷ []
+words_of corners (refusal.RepeatedNet net) = codes "E32 repeated net" ∷ net ∷ []
+words_of corners (refusal.MissingNet net) = codes "E33 missing net" ∷ net ∷ []
+words_of corners (refusal.StrangePin net pin) = codes "E34 strange pin" ∷ net ∷ node_text pin.head pin.tail ∷ []
+words_of corners (refusal.Unreached net node) = codes "E35 unreached node" ∷ net ∷ node_text node.head node.tail ∷ []
+words_of corners (refusal.Mesh net resistor) = codes "E36 mesh" ∷ net ∷ []
+words_of corners (refusal.ForeignCoupling net token) = codes "E37 foreign coupling" ∷ net ∷ codes "token" ∷ decimal token ∷ []
+words_of corners (refusal.Loop nets) = codes "E40 loop" ∷ nets
+words_of corners (refusal.Outside instance from to edge corner part axis value) = codes "E41 outside" ∷ instance ∷ from ∷ to
+    ∷ edge_text edge ∷ corner_text corners corner ∷ part_text part ∷ axis_text axis ∷ decimal value ∷ []
+words_of corners (refusal.SlewLimit net instance pin edge corner slew elmore) = codes "E42 slew limit" ∷ net ∷ pin_text instance pin
+    ∷ edge_text edge ∷ corner_text corners corner ∷ signed_decimal slew.0 ∷ decimal elmore ∷ []
+words_of corners (refusal.PastTime instance from to edge corner part) = codes "E43 past time" ∷ instance ∷ from ∷ to
+    ∷ edge_text edge ∷ corner_text corners corner ∷ part_text part ∷ []
+words_of corners (refusal.Limit kind) = limit_words kind
+words_of corners (refusal.NoDriver net) = codes "E60 no driver" ∷ net ∷ []
+words_of corners (refusal.ManyDrivers net) = codes "E61 several drivers" ∷ net ∷ []
+words_of corners (refusal.SdfSyntax token) = codes "E62 sdf syntax" ∷ codes "token" ∷ decimal token ∷ []
 
 -- a word behind a space
 abbrev pub spaced : List ℕ → List ℕ
@@ -184,4 +158,4 @@ words_text words = flat_map spaced words
 -- the line of a refusal, in a run with so many corners
 abbrev pub refusal_line : ℕ → Refusal → List ℕ
 refusal_line corners refusal =
-    codes "gdc:" ++ (words_text (words_of corners refusal) ++ (words_text (nets_of refusal) ++ 10 ∷ []))
+    codes "gdc:" ++ (words_text (words_of corners refusal) ++ 10 ∷ [])

@@ -1,7 +1,7 @@
 //! The words of the line that a refusal is printed as.
-ghost use Rattle.std.specs.Prelude.{◌≡◌, ◌∷◌, [], codes, decimal, slice_get, option_map};
-ghost use Rattle.refusals.specs.RefusalLine.{words_of, link_words, library_words, spef_words, timing_words, last_words, limit_words, nets_of, node_text, cause_text};
-ghost use Rattle.refusals.specs.Words.{word_text};
+ghost use Rattle.std.specs.Prelude.{◌≡◌, ◌∷◌, [], codes, decimal};
+ghost use Rattle.refusals.specs.RefusalLine.{words_of, words_text, limit_words, node_text};
+ghost use Rattle.refusals.specs.Words.{word_line, line_of_words};
 
 use crate::kinds::{
     axis_word, cause_words, corner_word, edge_word, fault_words, index_words, number_words,
@@ -9,137 +9,199 @@ use crate::kinds::{
 };
 use crate::refusal::{LimitKind, Refusal};
 use edge_io::Text;
-use liberty_groups::Cause;
 use name_table::NodeName;
 
-/// A word of a line: a text, a number, a slew in attoseconds, a node, or a pin of an instance.
+/// A word of a line: a text, a number, a slew in attoseconds, a node, or a pin of an instance; or nothing, or the nets of a loop.
 #[derive(Clone, Copy)]
 pub enum Word<'a> {
+    Nothing,
     Text(&'a [u8]),
     Number(u128),
     Grains(i64),
     Node(&'a NodeName),
     Pin(&'a [u8], &'a [u8]),
+    Nets(&'a [Text]),
 }
 
-// The name of a refusal alone.
-fn sole_word<'a>(head: &'a [u8], place: usize) -> Option<Word<'a>>
-    ensures { option_map word_text result ≡ slice_get (head.now ∷ []) place }
+// At most four words, as a line has them: with nothing behind the last.
+fn few<'a>(first: Word<'a>, second: Word<'a>, third: Word<'a>, fourth: Word<'a>) -> [Word<'a>; 9]
+    ensures { line_of_words result ≡ line_of_words (first.entry ∷ second.entry ∷ third.entry ∷ fourth.entry ∷ []) }
 {
-    [Word::Text(head)].get(place).copied()
+    let none = Word::Nothing;
+    [first, second, third, fourth, none, none, none, none, none]
 }
 
 // The name of a refusal, and a token.
-fn token_word<'a>(head: &'a [u8], token: u64, place: usize) -> Option<Word<'a>>
-    ensures { option_map word_text result ≡ slice_get (head.now ∷ codes "token" ∷ decimal token ∷ []) place }
+fn token_words<'a>(head: &'a [u8], token: u64) -> [Word<'a>; 9]
+    ensures { line_of_words result ≡ words_text (head.now ∷ codes "token" ∷ decimal token ∷ []) }
 {
-    let words = [
-        Word::Text(head),
-        Word::Text(b"token"),
-        Word::Number(token as u128),
-    ];
-    words.get(place).copied()
+    let token = Word::Number(token as u128);
+    few(Word::Text(head), Word::Text(b"token"), token, Word::Nothing)
 }
 
 // The name of a refusal, what it is about, and a token.
-fn token_of_word<'a>(head: &'a [u8], word: &'a [u8], token: u64, place: usize) -> Option<Word<'a>>
-    ensures { option_map word_text result ≡ slice_get (head.now ∷ word.now ∷ codes "token" ∷ decimal token ∷ []) place }
+fn token_words_of<'a>(head: &'a [u8], word: &'a [u8], token: u64) -> [Word<'a>; 9]
+    ensures { line_of_words result ≡ words_text (head.now ∷ word.now ∷ codes "token" ∷ decimal token ∷ []) }
 {
-    let words = [
+    let token = Word::Number(token as u128);
+    few(
         Word::Text(head),
         Word::Text(word),
         Word::Text(b"token"),
-        Word::Number(token as u128),
-    ];
-    words.get(place).copied()
+        token,
+    )
 }
 
 // The name of a refusal, and what it is about.
-fn name_word<'a>(head: &'a [u8], name: &'a [u8], place: usize) -> Option<Word<'a>>
-    ensures { option_map word_text result ≡ slice_get (head.now ∷ name.now ∷ []) place }
+fn name_words<'a>(head: &'a [u8], name: &'a [u8]) -> [Word<'a>; 9]
+    ensures { line_of_words result ≡ words_text (head.now ∷ name.now ∷ []) }
 {
-    [Word::Text(head), Word::Text(name)].get(place).copied()
+    few(
+        Word::Text(head),
+        Word::Text(name),
+        Word::Nothing,
+        Word::Nothing,
+    )
 }
 
 // The name of a refusal, and two names that it is about.
-fn names_word<'a>(head: &'a [u8], name: &'a [u8], other: &'a [u8], place: usize) -> Option<Word<'a>>
-    ensures { option_map word_text result ≡ slice_get (head.now ∷ name.now ∷ other.now ∷ []) place }
+fn names_words<'a>(head: &'a [u8], name: &'a [u8], other: &'a [u8]) -> [Word<'a>; 9]
+    ensures { line_of_words result ≡ words_text (head.now ∷ name.now ∷ other.now ∷ []) }
 {
-    let words = [Word::Text(head), Word::Text(name), Word::Text(other)];
-    words.get(place).copied()
+    few(
+        Word::Text(head),
+        Word::Text(name),
+        Word::Text(other),
+        Word::Nothing,
+    )
 }
 
 // The name of a refusal, a net and a node of it.
-fn node_word<'a>(
-    head: &'a [u8],
-    net: &'a Text,
-    node: &'a NodeName,
-    place: usize,
-) -> Option<Word<'a>>
-    ensures { option_map word_text result
-        ≡ slice_get (head.now ∷ net.now ∷ node_text node.now.head node.now.tail ∷ []) place }
+fn node_words<'a>(head: &'a [u8], net: &'a Text, node: &'a NodeName) -> [Word<'a>; 9]
+    ensures { line_of_words result ≡ words_text (head.now ∷ net.now ∷ node_text node.now.head node.now.tail ∷ []) }
 {
-    let words = [Word::Text(head), Word::Text(net.bytes()), Word::Node(node)];
-    words.get(place).copied()
-}
-
-// A refusal of the grammar of a library: its corner, a token with its line, and the cause.
-fn library_place<'a>(
-    corner: &'a [u8],
-    token: u64,
-    line: u64,
-    cause: &'a Cause,
-    place: usize,
-) -> Option<Word<'a>>
-    ensures { option_map word_text result
-        ≡ slice_get (codes "E03 library syntax" ∷ corner.now ∷ codes "token" ∷ decimal token ∷ codes "line" ∷ decimal line
-        ∷ cause_text cause.now ∷ []) place }
-{
-    let words = [
-        Word::Text(b"E03 library syntax"),
-        Word::Text(corner),
-        Word::Text(b"token"),
-        Word::Number(token as u128),
-        Word::Text(b"line"),
-        Word::Number(line as u128),
-        Word::Text(cause_words(cause)),
-    ];
-    words.get(place).copied()
+    let net = Word::Text(net.bytes());
+    few(Word::Text(head), net, Word::Node(node), Word::Nothing)
 }
 
 impl LimitKind {
-    fn word(&self, place: usize) -> Option<Word<'_>>
-        ensures { option_map word_text result ≡ slice_get (limit_words self.now) place }
+    fn words(&self) -> [Word<'_>; 9]
+        ensures { line_of_words result ≡ words_text (limit_words self.now) }
     {
         match self {
-            LimitKind::File(key) => name_word(b"E50 limit file", key.word(), place),
-            LimitKind::Depth => sole_word(b"E50 limit depth", place),
-            LimitKind::Instances => sole_word(b"E50 limit instances", place),
-            LimitKind::Names => sole_word(b"E50 limit names", place),
-            LimitKind::Pins => sole_word(b"E50 limit pins", place),
-            LimitKind::Net(net) => name_word(b"E50 limit net", net.bytes(), place),
+            LimitKind::File(key) => names_words(b"E50 limit", b"file", key.word()),
+            LimitKind::Depth => name_words(b"E50 limit", b"depth"),
+            LimitKind::Instances => name_words(b"E50 limit", b"instances"),
+            LimitKind::Names => name_words(b"E50 limit", b"names"),
+            LimitKind::Pins => name_words(b"E50 limit", b"pins"),
+            LimitKind::Net(net) => names_words(b"E50 limit", b"net", net.bytes()),
         }
     }
 }
 
 impl Refusal {
-    fn last_word(&self, place: usize) -> Option<Word<'_>>
-        ensures { option_map word_text result ≡ slice_get (last_words self.now) place }
+    /// The words of the line of a run with so many corners.
+    pub fn words(&self, corners: usize) -> [Word<'_>; 9]
+        ensures { line_of_words result ≡ words_text (words_of corners self.now) }
     {
+        let none = Word::Nothing;
         match self {
-            Refusal::Limit(kind) => kind.word(place),
-            Refusal::NoDriver { net } => name_word(b"E60 no driver", net.bytes(), place),
-            Refusal::ManyDrivers { net } => name_word(b"E61 several drivers", net.bytes(), place),
-            Refusal::SdfSyntax { token } => token_word(b"E62 sdf syntax", *token, place),
-            _ => None,
-        }
-    }
-
-    fn timing_word(&self, corners: usize, place: usize) -> Option<Word<'_>>
-        ensures { option_map word_text result ≡ slice_get (timing_words corners self.now) place }
-    {
-        match self {
-            Refusal::Loop { .. } => sole_word(b"E40 loop", place),
+            Refusal::NetlistSyntax { token } => token_words(b"E01 netlist syntax", *token),
+            Refusal::NotStructural { word, token } => {
+                token_words_of(b"E02 not structural", word.bytes(), *token)
+            }
+            Refusal::LibrarySyntax {
+                corner,
+                token,
+                line,
+                cause,
+            } => [
+                Word::Text(b"E03 library syntax"),
+                Word::Text(corner_word(corners, corner)),
+                Word::Text(b"token"),
+                Word::Number(*token as u128),
+                Word::Text(b"line"),
+                Word::Number(*line as u128),
+                Word::Text(cause_words(cause)),
+                none,
+                none,
+            ],
+            Refusal::SpefSyntax { token } => token_words(b"E04 spef syntax", *token),
+            Refusal::SpefForm { word, token } => {
+                token_words_of(b"E05 spef form", word.bytes(), *token)
+            }
+            Refusal::RepeatedName { name } => name_words(b"E06 repeated name", name.bytes()),
+            Refusal::BadRange { name } => name_words(b"E07 bad range", name.bytes()),
+            Refusal::PortDirection { name } => name_words(b"E08 port direction", name.bytes()),
+            Refusal::NoTop { name } => name_words(b"E10 no top module", name.bytes()),
+            Refusal::UnknownCell { cell, corner } => {
+                let corner = corner_word(corners, corner);
+                names_words(b"E11 unknown cell", cell.bytes(), corner)
+            }
+            Refusal::UnknownPort { instance, port } => {
+                names_words(b"E12 unknown port", instance.bytes(), port.bytes())
+            }
+            Refusal::Width {
+                instance,
+                port,
+                want,
+                got,
+            } => [
+                Word::Text(b"E13 width"),
+                Word::Text(instance.bytes()),
+                Word::Text(port.bytes()),
+                Word::Text(b"want"),
+                Word::Number(*want as u128),
+                Word::Text(b"got"),
+                Word::Number(*got as u128),
+                none,
+                none,
+            ],
+            Refusal::Recursive { module } => name_words(b"E14 recursive module", module.bytes()),
+            Refusal::NameClash(name) => name_words(b"E15 name clash", name.bytes()),
+            Refusal::InoutPin { instance, pin } => {
+                names_words(b"E16 inout pin", instance.bytes(), pin.bytes())
+            }
+            Refusal::SeveralDrivers(net) => name_words(b"E17 several drivers", net.bytes()),
+            Refusal::CellFault {
+                cell,
+                corner,
+                fault,
+            } => few(
+                Word::Text(b"E20 cell"),
+                Word::Text(cell.bytes()),
+                Word::Text(corner_word(corners, corner)),
+                Word::Text(fault_words(fault)),
+            ),
+            Refusal::CornerShape { cell, fault } => [
+                Word::Text(b"E21 corner shape"),
+                Word::Text(cell.bytes()),
+                Word::Text(corner_word(corners, &fault.corner)),
+                Word::Text(b"entry"),
+                Word::Number(fault.place as u128),
+                none,
+                none,
+                none,
+                none,
+            ],
+            Refusal::SpefNumber { kind, token } => {
+                token_words_of(b"E30 spef number", number_words(kind), *token)
+            }
+            Refusal::NameIndex { kind, token } => {
+                token_words_of(b"E31 name index", index_words(kind), *token)
+            }
+            Refusal::RepeatedNet { net } => name_words(b"E32 repeated net", net.bytes()),
+            Refusal::MissingNet { net } => name_words(b"E33 missing net", net.bytes()),
+            Refusal::StrangePin { net, pin } => node_words(b"E34 strange pin", net, pin),
+            Refusal::Unreached { net, node } => node_words(b"E35 unreached node", net, node),
+            Refusal::Mesh { net, resistor: _ } => name_words(b"E36 mesh", net.bytes()),
+            Refusal::ForeignCoupling { net, token } => {
+                token_words_of(b"E37 foreign coupling", net.bytes(), *token)
+            }
+            Refusal::Loop { nets } => {
+                let nets = Word::Nets(nets.as_slice());
+                few(Word::Text(b"E40 loop"), nets, none, none)
+            }
             Refusal::Outside {
                 instance,
                 from,
@@ -149,20 +211,17 @@ impl Refusal {
                 part,
                 axis,
                 value,
-            } => {
-                let words = [
-                    Word::Text(b"E41 outside"),
-                    Word::Text(instance.bytes()),
-                    Word::Text(from.bytes()),
-                    Word::Text(to.bytes()),
-                    Word::Text(edge_word(edge)),
-                    Word::Text(corner_word(corners, corner)),
-                    Word::Text(part_word(part)),
-                    Word::Text(axis_word(axis)),
-                    Word::Number(*value as u128),
-                ];
-                words.get(place).copied()
-            }
+            } => [
+                Word::Text(b"E41 outside"),
+                Word::Text(instance.bytes()),
+                Word::Text(from.bytes()),
+                Word::Text(to.bytes()),
+                Word::Text(edge_word(edge)),
+                Word::Text(corner_word(corners, corner)),
+                Word::Text(part_word(part)),
+                Word::Text(axis_word(axis)),
+                Word::Number(*value as u128),
+            ],
             Refusal::SlewLimit {
                 net,
                 instance,
@@ -171,18 +230,17 @@ impl Refusal {
                 corner,
                 slew,
                 elmore,
-            } => {
-                let words = [
-                    Word::Text(b"E42 slew limit"),
-                    Word::Text(net.bytes()),
-                    Word::Pin(instance.bytes(), pin.bytes()),
-                    Word::Text(edge_word(edge)),
-                    Word::Text(corner_word(corners, corner)),
-                    Word::Grains(slew.0),
-                    Word::Number(*elmore),
-                ];
-                words.get(place).copied()
-            }
+            } => [
+                Word::Text(b"E42 slew limit"),
+                Word::Text(net.bytes()),
+                Word::Pin(instance.bytes(), pin.bytes()),
+                Word::Text(edge_word(edge)),
+                Word::Text(corner_word(corners, corner)),
+                Word::Grains(slew.0),
+                Word::Number(*elmore),
+                none,
+                none,
+            ],
             Refusal::PastTime {
                 instance,
                 from,
@@ -190,151 +248,21 @@ impl Refusal {
                 edge,
                 corner,
                 part,
-            } => {
-                let words = [
-                    Word::Text(b"E43 past time"),
-                    Word::Text(instance.bytes()),
-                    Word::Text(from.bytes()),
-                    Word::Text(to.bytes()),
-                    Word::Text(edge_word(edge)),
-                    Word::Text(corner_word(corners, corner)),
-                    Word::Text(part_word(part)),
-                ];
-                words.get(place).copied()
-            }
-            _ => self.last_word(place),
-        }
-    }
-
-    fn spef_word(&self, corners: usize, place: usize) -> Option<Word<'_>>
-        ensures { option_map word_text result ≡ slice_get (spef_words corners self.now) place }
-    {
-        match self {
-            Refusal::SpefSyntax { token } => token_word(b"E04 spef syntax", *token, place),
-            Refusal::SpefForm { word, token } => {
-                token_of_word(b"E05 spef form", word.bytes(), *token, place)
-            }
-            Refusal::SpefNumber { kind, token } => {
-                token_of_word(b"E30 spef number", number_words(kind), *token, place)
-            }
-            Refusal::NameIndex { kind, token } => {
-                token_of_word(b"E31 name index", index_words(kind), *token, place)
-            }
-            Refusal::RepeatedNet { net } => name_word(b"E32 repeated net", net.bytes(), place),
-            Refusal::MissingNet { net } => name_word(b"E33 missing net", net.bytes(), place),
-            Refusal::StrangePin { net, pin } => node_word(b"E34 strange pin", net, pin, place),
-            Refusal::Unreached { net, node } => node_word(b"E35 unreached node", net, node, place),
-            Refusal::Mesh { net, .. } => name_word(b"E36 mesh", net.bytes(), place),
-            Refusal::ForeignCoupling { net, token } => {
-                token_of_word(b"E37 foreign coupling", net.bytes(), *token, place)
-            }
-            _ => self.timing_word(corners, place),
-        }
-    }
-
-    fn library_word(&self, corners: usize, place: usize) -> Option<Word<'_>>
-        ensures { option_map word_text result ≡ slice_get (library_words corners self.now) place }
-    {
-        match self {
-            Refusal::LibrarySyntax {
-                corner,
-                token,
-                line,
-                cause,
-            } => library_place(corner_word(corners, corner), *token, *line, cause, place),
-            Refusal::UnknownCell { cell, corner } => {
-                let corner = corner_word(corners, corner);
-                names_word(b"E11 unknown cell", cell.bytes(), corner, place)
-            }
-            Refusal::CellFault {
-                cell,
-                corner,
-                fault,
-            } => {
-                let words = [
-                    Word::Text(b"E20 cell"),
-                    Word::Text(cell.bytes()),
-                    Word::Text(corner_word(corners, corner)),
-                    Word::Text(fault_words(fault)),
-                ];
-                words.get(place).copied()
-            }
-            Refusal::CornerShape { cell, fault } => {
-                let words = [
-                    Word::Text(b"E21 corner shape"),
-                    Word::Text(cell.bytes()),
-                    Word::Text(corner_word(corners, &fault.corner)),
-                    Word::Text(b"entry"),
-                    Word::Number(fault.place as u128),
-                ];
-                words.get(place).copied()
-            }
-            _ => self.spef_word(corners, place),
-        }
-    }
-
-    fn link_word(&self, corners: usize, place: usize) -> Option<Word<'_>>
-        ensures { option_map word_text result ≡ slice_get (link_words corners self.now) place }
-    {
-        match self {
-            Refusal::NoTop { name } => name_word(b"E10 no top module", name.bytes(), place),
-            Refusal::UnknownPort { instance, port } => {
-                names_word(b"E12 unknown port", instance.bytes(), port.bytes(), place)
-            }
-            Refusal::Width {
-                instance,
-                port,
-                want,
-                got,
-            } => {
-                let words = [
-                    Word::Text(b"E13 width"),
-                    Word::Text(instance.bytes()),
-                    Word::Text(port.bytes()),
-                    Word::Text(b"want"),
-                    Word::Number(*want as u128),
-                    Word::Text(b"got"),
-                    Word::Number(*got as u128),
-                ];
-                words.get(place).copied()
-            }
-            Refusal::Recursive { module } => {
-                name_word(b"E14 recursive module", module.bytes(), place)
-            }
-            Refusal::NameClash(name) => name_word(b"E15 name clash", name.bytes(), place),
-            Refusal::InoutPin { instance, pin } => {
-                names_word(b"E16 inout pin", instance.bytes(), pin.bytes(), place)
-            }
-            Refusal::SeveralDrivers(net) => name_word(b"E17 several drivers", net.bytes(), place),
-            _ => self.library_word(corners, place),
-        }
-    }
-
-    /// The word at a place, from 0, of the line of a run with so many corners, or none behind the last. The nets of a loop follow them.
-    pub fn word(&self, corners: usize, place: usize) -> Option<Word<'_>>
-        ensures { option_map word_text result ≡ slice_get (words_of corners self.now) place }
-    {
-        match self {
-            Refusal::NetlistSyntax { token } => token_word(b"E01 netlist syntax", *token, place),
-            Refusal::NotStructural { word, token } => {
-                token_of_word(b"E02 not structural", word.bytes(), *token, place)
-            }
-            Refusal::RepeatedName { name } => name_word(b"E06 repeated name", name.bytes(), place),
-            Refusal::BadRange { name } => name_word(b"E07 bad range", name.bytes(), place),
-            Refusal::PortDirection { name } => {
-                name_word(b"E08 port direction", name.bytes(), place)
-            }
-            _ => self.link_word(corners, place),
-        }
-    }
-
-    /// The nets of a loop, which stand behind the words of its line; none of another refusal.
-    pub fn nets(&self) -> &[Text]
-        ensures { result.now ≡ nets_of self.now }
-    {
-        match self {
-            Refusal::Loop { nets } => nets.as_slice(),
-            _ => &[],
+            } => [
+                Word::Text(b"E43 past time"),
+                Word::Text(instance.bytes()),
+                Word::Text(from.bytes()),
+                Word::Text(to.bytes()),
+                Word::Text(edge_word(edge)),
+                Word::Text(corner_word(corners, corner)),
+                Word::Text(part_word(part)),
+                none,
+                none,
+            ],
+            Refusal::Limit(kind) => kind.words(),
+            Refusal::NoDriver { net } => name_words(b"E60 no driver", net.bytes()),
+            Refusal::ManyDrivers { net } => name_words(b"E61 several drivers", net.bytes()),
+            Refusal::SdfSyntax { token } => token_words(b"E62 sdf syntax", *token),
         }
     }
 }

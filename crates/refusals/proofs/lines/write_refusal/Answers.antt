@@ -11,11 +11,11 @@ returns-in_err-write_all g c =
 pub returns-in_err-write_words : goal.returns-in_err-write_words
 returns-in_err-write_words g c =
     let p = err_from_is_err_and c.from_residual-in_err-write_words.result c.from_residual-in_err-write_words.ensures.1 in
-    rw (p.1) record { writes = writes_then _ _ c.in_ok-write_all.ensures.writes (writes_cut _ _ c.in_err-write_words.ensures.writes) }
+    rw (p.1) record { writes = writes_then _ _ c.in_ok-write_all.ensures.writes (writes_cut _ _ (rw (c.words-words.ensures) at c.in_err-write_words.ensures.writes)) }
 
-pub returns-in_err-write_end : goal.returns-in_err-write_end
-returns-in_err-write_end g c =
-    let p = err_from_is_err_and c.from_residual-in_err-write_end.result c.from_residual-in_err-write_end.ensures.1 in
+pub returns-in_err-write_all-2 : goal.returns-in_err-write_all-2
+returns-in_err-write_all-2 g c =
+    let p = err_from_is_err_and c.from_residual-in_err-write_all-2.result c.from_residual-in_err-write_all-2.ensures.1 in
     rw (p.1) record {
-      writes = writes_then _ _ c.in_ok-write_all.ensures.writes (writes_then _ _ c.in_ok-write_words.ensures.writes c.in_err-write_end.ensures.writes);
+      writes = writes_then _ _ c.in_ok-write_all.ensures.writes (writes_then _ _ (rw (c.words-words.ensures) at c.in_ok-write_words.ensures.writes) c.in_err-write_all-2.ensures.writes);
     }
