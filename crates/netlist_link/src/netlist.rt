@@ -146,13 +146,6 @@ impl Netlist {
         end_at(self.sinks.on(n), k)
     }
 
-    /// How many bits the ports of the design have.
-    pub fn port_count(&self) -> usize
-        ensures { result ≡ length self.now.ports }
-    {
-        self.ports.nets.len()
-    }
-
     /// The name of a bit of a port of the design, in header order and from the left.
     pub fn port_text(&self, p: usize) -> &Text
         requires { p < length self.now.ports }
