@@ -1,13 +1,13 @@
 -- What is known of a net once it is numbered and searched.
-use Rattle.std.proofs.Common.{◌≡◌, ◌≢◌, ℕ, suc, ◌+◌, ◌-◌, ◌<◌, List, [], ◌∷◌, ◌++◌, map, length, get_or, slice_get, slice_index, slice_index_or, Some, All, option_map, refl, sym, ◌∙◌, ap, subst, arith, inl, inr}
+use Rattle.std.proofs.Common.{◌≡◌, ◌≢◌, ℕ, zero, suc, ◌+◌, ◌-◌, ◌<◌, ◌⊎◌, List, [], ◌∷◌, ◌++◌, map, length, get_or, slice_get, slice_index, slice_index_or, Some, All, option_map, refl, sym, ◌∙◌, ap, subst, arith, inl, inr}
 use Rattle.std.proofs.lemmas.Bool.{cases_eq}
 use Rattle.std.proofs.lemmas.List.{get_or_default, get_or_push, get_or_append_left}
-use Rattle.std.proofs.lemmas.Option.{slice_get-map, slice_get-get_or, get_or_from_slice_get, slice_get_within}
+use Rattle.std.proofs.lemmas.Option.{slice_get-map, slice_get-get_or, get_or_from_slice_get, slice_get_within, same_Some}
 use Rattle.name_table.specs.declared.spef_names.NodeName.{NodeName}
 use Rattle.spef_nets.specs.NetElements.{NetElements as SectionElements}
 use Rattle.spef_nets.specs.Nodes.{AreDistinctNodes}
 use Rattle.rc_tree.specs.RcTree.{IsUnreached}
-use Rattle.rc_tree.specs.Nodes.{Node, node_of, with_nodes}
+use Rattle.rc_tree.specs.Nodes.{Node, node_of, with_node, with_nodes}
 use Rattle.rc_tree.specs.Pins.{Pins, pin_nodes}
 use Rattle.rc_tree.specs.SectionNets.{joint_at, net_elements, sink_node}
 use Rattle.rc_tree.specs.Numbering.{AreSpots, AreEnds}
@@ -16,7 +16,7 @@ use Rattle.rc_tree.specs.Searched.{Searched, IsNumbered, IsExplored, IsNameAt, a
 use Rattle.rc_tree.specs.Builds.{IsFit, IsTreeEnd, names}
 use Rattle.rc_tree.specs.declared.node_ids.NodeId.{NodeId}
 use Rattle.rc_tree.specs.declared.ends.TreeEnd.TheVariants.{Unreached, Mesh}
-use Rattle.rc_tree.proofs.Numbers.{all_keep}
+use Rattle.rc_tree.proofs.Numbers.{all_keep, with_held, with_new, among_cases}
 use Rattle.rc_tree.proofs.Nets.{Apart, first_all, first_apart, one_place}
 use Rattle.rc_tree.proofs.Answering.{unreached, mesh, all_without}
 use Rattle.rc_tree.proofs.Spellings.{first_spelling, behind, before, in_front, parted, same_in_section}
@@ -143,6 +143,75 @@ no_pin section pins spots count number name numbered apart more at k other pin s
     (get_or_from_slice_get nodes k (node_of other) (node_of name) there ∙ same ∙ sym (get_or_from_slice_get nodes number (node_of name) (node_of name) at)) in
     let inside = slice_get_within (pins.driver ∷ pins.sinks) k other pin in
     absurd (omega (arith, more, place, inside))
+
+-- where a node stands that is one of the first places of two lists
+stands : (nodes later : List Node) (v : Node) (k : ℕ) → slice_get (with_nodes nodes later) k ≡ Some v → (slice_get nodes k ≡ Some v) ⊎ ((j : ℕ) × (slice_get later j ≡ Some v))
+stands nodes [] v k at = inl at
+stands nodes (node ∷ later) v k at = elim (stands (with_node nodes node) later v k at) [
+  | inr more ↦ inr (suc more.0, more.1)
+  | inl here ↦ elim (among_cases node nodes) [
+    | inl held ↦ inl (ap (λ l. slice_get l k) (sym (with_held nodes node held)) ∙ here)
+    | inr new ↦ elim (parted nodes (node ∷ []) k v (ap (λ l. slice_get l k) (sym (with_new nodes node new)) ∙ here)) [
+      | inl front ↦ inl front
+      | inr last ↦ inr (0, the_one last.0 last.1)
+    ]
+  ]
+]
+  where
+    the_one : (j : ℕ) → slice_get (node ∷ []) j ≡ Some v → Some node ≡ Some v
+    the_one zero at = at
+    the_one (suc j) at = absurd (let no = at in cc)
+
+name_of_node : (names : List NodeName) (j : ℕ) (v : Node) → slice_get (map node_of names) j ≡ Some v → (name : NodeName) × (slice_get names j ≡ Some name) × (node_of name ≡ v)
+name_of_node [] j v at = absurd (let no = at in cc)
+name_of_node (name ∷ names) zero v at = (name, refl, same_Some (node_of name) v at)
+name_of_node (name ∷ names) (suc j) v at = name_of_node names j v at
+
+-- a place of the section whose node has this number
+abbrev pub HasSpot : SectionElements → List ℕ → ℕ → Type 0
+HasSpot section spots number = (place : ℕ) × (place < length section.nodes) × (slice_index spots place ≡ number)
+
+-- the node of a name of the section has the number that it has among all nodes
+pub spot_is : (section : SectionElements) (pins : Pins) (spots : List ℕ) (count number place : ℕ) (name : NodeName) → IsNumbered section pins spots count → slice_get section.nodes place ≡ Some name
+    → slice_get (all_nodes section pins) number ≡ Some (node_of name) → HasSpot section spots number
+spot_is section pins spots count number place name numbered here at =
+    let nodes = all_nodes section pins in
+    let below = slice_get_within section.nodes place name here in
+    let spot : slice_get nodes (slice_index spots place) ≡ Some (node_of name) = numbered.are_spots.each place name below ∙ ap (λ n. Some (node_of n)) (get_or_from_slice_get section.nodes place name name here) in (
+      place,
+      below,
+      one_place nodes numbered.apart (node_of name) (slice_index spots place) number (slice_get_within nodes (slice_index spots place) (node_of name) spot) (slice_get_within nodes number (node_of name) at)
+          (get_or_from_slice_get nodes (slice_index spots place) (node_of name) (node_of name) spot ∙ sym (get_or_from_slice_get nodes number (node_of name) (node_of name) at)),
+    )
+
+-- each number is that of a pin or of a node of the section
+pub has_spot : (section : SectionElements) (pins : Pins) (spots : List ℕ) (count number : ℕ) → IsNumbered section pins spots count → number < count
+    → ((k : ℕ) (name : NodeName) → slice_get (pins.driver ∷ pins.sinks) k ≡ Some name → slice_get (all_nodes section pins) number ≡ Some (node_of name) → HasSpot section spots number) → HasSpot section spots number
+has_spot section pins spots count number numbered below of_pin =
+    let nodes = all_nodes section pins in
+    let counted = numbered.counted in
+    let v = get_or nodes number (node_of pins.driver) in
+    let at : slice_get nodes number ≡ Some v = slice_get-get_or nodes number (node_of pins.driver) (omega (arith, below, counted)) in
+    elim (stands [] (pin_nodes pins ++ map node_of section.nodes) v number (ap (λ l. slice_get l number) (first_all [] (pin_nodes pins ++ map node_of section.nodes)) ∙ at)) [
+      | inl none ↦ absurd (let no = none in cc)
+      | inr there ↦ elim (parted (pin_nodes pins) (map node_of section.nodes) there.0 v there.1) [
+        | inl pin ↦ (let named = name_of_node (pins.driver ∷ pins.sinks) there.0 v pin in of_pin there.0 named.0 named.1 (at ∙ ap Some (sym named.2)))
+        | inr listed ↦ (let named = name_of_node section.nodes listed.0 v listed.1 in spot_is section pins spots count number listed.0 named.0 numbered named.1 (at ∙ ap Some (sym named.2)))
+      ]
+    ]
+
+-- no number behind the pins is that of a pin
+pub behind_pins : (section : SectionElements) (pins : Pins) (spots : List ℕ) (count number : ℕ) → IsNumbered section pins spots count → Apart (pin_nodes pins) → length pins.sinks < number → number < count → HasSpot section spots number
+behind_pins section pins spots count number numbered apart more below = has_spot section pins spots count number numbered below of_pin
+  where
+    of_pin : (k : ℕ) (name : NodeName) → slice_get (pins.driver ∷ pins.sinks) k ≡ Some name → slice_get (all_nodes section pins) number ≡ Some (node_of name) → HasSpot section spots number
+    of_pin k name pin at =
+        let nodes = all_nodes section pins in
+        let there : slice_get nodes k ≡ Some (node_of name) = pin_there section pins apart k (node_of name) (slice_get-map node_of (pins.driver ∷ pins.sinks) k ∙ ap (option_map node_of) pin) in
+        let place : k ≡ number = one_place nodes numbered.apart (node_of name) k number (slice_get_within nodes k (node_of name) there) (slice_get_within nodes number (node_of name) at)
+        (get_or_from_slice_get nodes k (node_of name) (node_of name) there ∙ sym (get_or_from_slice_get nodes number (node_of name) (node_of name) at)) in
+        let inside = slice_get_within (pins.driver ∷ pins.sinks) k name pin in
+        absurd (omega (arith, more, place, inside))
 
 -- the driver's name, and a sink's
 pub driver_named : (section : SectionElements) (pins : Pins) → IsNameAt section pins 0 pins.driver

@@ -1,5 +1,5 @@
 //! Names of nodes.
-ghost use Rattle.std.specs.Prelude.{◌≡◌, ℕ, length, slice_get, slice_index, Some, IfOk};
+ghost use Rattle.std.specs.Prelude.{◌≡◌, ◌<◌, ℕ, length, slice_get, slice_index, Some, IfOk};
 
 use crate::numbered::Numbered;
 use corner_set::CornerSet;
@@ -15,7 +15,8 @@ pub fn section_name<C: CornerSet>(
     numbered: &Numbered,
     number: usize,
 ) -> Result<NodeName, OutOfMemory>
-    requires { length numbered.now.spots.items ≡ length section.now.nodes }
+    requires size { length numbered.now.spots.items ≡ length section.now.nodes }
+    requires there { (place : ℕ) × (place < length section.now.nodes) × (slice_index numbered.now.spots.items place ≡ number) }
     ensures { IfOk result (λ name. (place : ℕ) × (slice_index numbered.now.spots.items place ≡ number)
         × (slice_get section.now.nodes place ≡ Some name)) }
 {
@@ -24,6 +25,5 @@ pub fn section_name<C: CornerSet>(
             return section.node_name(alloc, place);
         }
     }
-    // no other number is that of a node
-    Err(OutOfMemory)
+    unreachable!()
 }

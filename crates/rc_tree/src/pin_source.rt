@@ -73,6 +73,8 @@ pub trait PinSource<C: CornerSet> {
     ) -> Result<NodeName, OutOfMemory>
         requires numbered { IsNumbered section.now (pins self.now section.now) numbered.now.spots.items numbered.now.count }
         requires listed { AreListed section.now (pin_nodes (pins self.now section.now)) }
+        requires below { number < numbered.now.count }
+        requires some { 0 < length section.now.nodes }
         ensures { IfOk result (λ name. IsNameAt section.now (pins self.now section.now) number name) };
 }
 

@@ -1,10 +1,14 @@
 use Rattle.std.proofs.Common.{◌<◌, length, Some, sym, ◌∙◌, ap, arith}
-use Rattle.rc_tree.proofs.Judging.{section_named, sink_named, spot_named, no_pin}
+use Rattle.rc_tree.proofs.Judging.{section_named, sink_named, spot_named, no_pin, behind_pins}
 use Rattle.rc_tree.proofs.pin_source.PinLoadsPinSource.name_at.Goals as goal
 
 -- src/pin_source.rt
 pub sink-requires : goal.sink-requires
 sink-requires g c = omega (arith, c.len.ensures.len, c.if-number-len.true, c.if-number-eq0.false)
+
+pub section_name-requires-clause-there : goal.section_name-requires-clause-there
+section_name-requires-clause-there g c =
+    behind_pins c.args.section.now c.args.self.now c.args.numbered.now.spots.items c.args.numbered.now.count c.args.number c.requires.numbered c.len.ensures.apart (omega (arith, c.len.ensures.len, c.if-number-len.false)) c.requires.below
 
 pub returns-then-number-len : goal.returns-then-number-len
 returns-then-number-len g c =
