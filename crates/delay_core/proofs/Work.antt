@@ -1,19 +1,23 @@
 -- The work of the delays of a design.
-use Rattle.std.proofs.Common.{◌≡◌, ℕ, ◌+◌, ◌≤◌, List, length, Option, Result, Ok, Err, OnOk, subst, arith}
+use Rattle.std.proofs.Common.{◌≡◌, ℕ, ◌+◌, ◌≤◌, ◌⊎◌, inl, inr, List, length, Option, Result, Ok, Err, OnOk, subst, arith}
 use Rattle.edge_io.specs.Holding.{Held}
 use Rattle.spef_nets.specs.NetElements.{NetElements}
 use Rattle.spef_nets.specs.Sections.{Corners}
 use Rattle.spef_text.specs.Heads.{HeadText}
 use Rattle.spef_text.specs.SpefFiles.{SpefText}
+use Rattle.corner_set.specs.declared.choices.Missing.{Missing}
+use Rattle.net_parasitics.specs.Inputs.{Inputs}
+use Rattle.net_parasitics.specs.NetTrees.{NoneMissing}
 use Rattle.net_parasitics.specs.WorkCounts.{IsWithin as NetsWithin}
-use Rattle.verdict_phases.specs.Phases.{Go}
+use Rattle.verdict_phases.specs.Phases.{Go, FollowsNoFile}
 use Rattle.verdict_phases.specs.declared.ends.NoFileEnd.{NoFileEnd}
 use Rattle.net_delays.specs.NetTimes.{NetTimes}
 use Rattle.design_phases.specs.DesignReading.{ReadInputs, LinkedDesign, LinksInputs, ReadsDesign, with_design}
 use Rattle.wire_phases.specs.SpefPhases.{ParsesSpef, HeadsSpef, NetsSpef, through, ReadsSpefFile}
 use Rattle.wire_phases.specs.SpefWork.{IsWithin}
 use Rattle.refusals.specs.declared.refusal.Refusal.{Refusal}
-use Rattle.delay_core.specs.AnnotationWork.{of_nets, BytesWork, no_sections, of_sections, InputsWork, no_design, of_design, FilesWork, no_inputs, of_inputs}
+use Rattle.delay_core.specs.AnnotationWork.{no_trees, of_nets, BytesWork, no_sections, of_sections, InputsWork, no_design, of_design, FilesWork, no_inputs, of_inputs}
+use Rattle.delay_core.specs.DelayPhase.{FindsDelays, are_delays}
 use Rattle.delay_core.specs.DesignTiming.{net_inputs}
 use Rattle.delay_core.specs.TimingHalves.{slews_work, FileWork, DesignWork}
 use Rattle.delay_core.specs.declared.settings.Files.{Files}
@@ -25,10 +29,11 @@ no_sections_work corners design file head settings steps = record { work = 0; gi
 
 -- the work of the trees of its sections, before so many steps that are left to the slews and the rows
 pub sections_ahead : {I : Type 0} (corners : Corners I) (design : LinkedDesign) (file : SpefText) (head : HeadText) (settings : Settings) (nets : List NetElements) (before after : ℕ) → NetsSpef corners file head (Ok nets)
-    → NetsWithin (net_inputs corners.count design nets settings) (length design.netlist.nets) before after → IsWithin (λ work. FileWork corners design file head settings (work + slews_work corners.count design)) before after
-sections_ahead corners design file head settings nets before after says trees = record {
+    → NoneMissing (net_inputs corners.count design nets settings) settings.missing → NetsWithin (net_inputs corners.count design nets settings) (length design.netlist.nets) before after
+    → IsWithin (λ work. FileWork corners design file head settings (work + slews_work corners.count design)) before after
+sections_ahead corners design file head settings nets before after says none trees = record {
   work = trees.work;
-  given = λ bytes parses heads. of_sections (record { design = head.design; nets = nets }) (through file head nets parses heads says) (of_nets trees.given);
+  given = λ bytes parses heads. of_sections (record { design = head.design; nets = nets }) (through file head nets parses heads says) (of_nets none trees.given);
   bound = trees.bound;
 }
 
@@ -36,18 +41,30 @@ sections_ahead corners design file head settings nets before after says trees = 
 pub with_rest : (Work : ℕ → Type 0) (rest before mid after : ℕ) → IsWithin (λ work. Work (work + rest)) before mid → after ≤ mid + rest → IsWithin Work before after
 with_rest Work rest before mid after within more = record { work = within.work + rest; given = within.given; bound = let bound = within.bound in omega (arith, bound, more) }
 
+-- the work of its sections: none where no tree is built
 pub sections_work : {I : Type 0} (corners : Corners I) (design : LinkedDesign) (file : SpefText) (head : HeadText) (settings : Settings) (nets : List NetElements) (before after : ℕ) → NetsSpef corners file head (Ok nets)
-    → NetsWithin (net_inputs corners.count design nets settings) (length design.netlist.nets) before after → IsWithin (FileWork corners design file head settings) before after
-sections_work corners design file head settings nets before after says trees =
+    → NetsWithin (net_inputs corners.count design nets settings) (length design.netlist.nets) before after → (after ≡ before) ⊎ NoneMissing (net_inputs corners.count design nets settings) settings.missing
+    → IsWithin (FileWork corners design file head settings) before after
+sections_work corners design file head settings nets before after says trees (inl same) = record {
+  work = 0;
+  given = λ bytes parses heads. of_sections (record { design = head.design; nets = nets }) (through file head nets parses heads says) no_trees;
+  bound = omega (arith, same);
+}
+sections_work corners design file head settings nets before after says trees (inr none) =
     with_rest (FileWork corners design file head settings) (slews_work corners.count design) before after after
-    (sections_ahead corners design file head settings nets before after says trees) (omega arith)
+    (sections_ahead corners design file head settings nets before after says none trees) (omega arith)
+
+-- what delays tell: no net is missing
+delays_tell : (inputs : Inputs) (missing : Missing) (times : NetTimes) → FindsDelays inputs missing (Ok times) → NoneMissing inputs missing
+delays_tell inputs missing _ (are_delays times are) = are.none_missing
 
 -- the same of the answer, whatever it is
 pub sections_leave : {I : Type 0} (corners : Corners I) (design : LinkedDesign) (file : SpefText) (head : HeadText) (settings : Settings) (nets : List NetElements) (before after : ℕ) (result : Result NetTimes (NoFileEnd Refusal)) → NetsSpef corners file head (Ok nets)
-    → NetsWithin (net_inputs corners.count design nets settings) (length design.netlist.nets) before after
+    → NetsWithin (net_inputs corners.count design nets settings) (length design.netlist.nets) before after → FollowsNoFile (FindsDelays (net_inputs corners.count design nets settings) settings.missing) result
     → OnOk result (IsWithin (λ work. FileWork corners design file head settings (work + slews_work corners.count design)) before after)
-sections_leave corners design file head settings nets before after (Ok times) says trees = sections_ahead corners design file head settings nets before after says trees
-sections_leave corners design file head settings nets before after (Err end) says trees = tt
+sections_leave corners design file head settings nets before after (Ok times) says trees follows =
+    sections_ahead corners design file head settings nets before after says (delays_tell (net_inputs corners.count design nets settings) settings.missing times follows) trees
+sections_leave corners design file head settings nets before after (Err end) says trees follows = tt
 
 -- the work of the file is that of its bytes
 pub no_bytes_work : {I : Type 0} (corners : Corners I) (design : LinkedDesign) (bytes : List ℕ) (settings : Settings) (steps : ℕ) → IsWithin (BytesWork corners design bytes settings) steps steps

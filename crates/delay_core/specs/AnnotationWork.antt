@@ -5,6 +5,7 @@ use Rattle.spef_nets.specs.NetElements.{NetElements}
 use Rattle.spef_nets.specs.Sections.{Corners}
 use Rattle.slew_states.specs.Settled.{arc_edges}
 use Rattle.slew_order.specs.FlatArcs.{flat_arcs}
+use Rattle.net_parasitics.specs.NetTrees.{NoneMissing}
 use Rattle.net_parasitics.specs.WorkCounts.{NetsWork}
 use Rattle.verdict_phases.specs.Phases.{Go}
 use Rattle.design_phases.specs.DesignReading.{ReadsNetlistFile, ReadInputs, LinkedDesign, ReadsInputs, LinksInputs}
@@ -17,10 +18,12 @@ use Rattle.delay_core.specs.declared.settings.Settings.{Settings}
 abbrev pub edges_of : LinkedDesign → ℕ
 edges_of design = arc_edges (flat_arcs design.netlist design.cells)
 
--- The work of a design with these sections, at so many corners: 16 steps for each resistor, each capacitance to ground and each pin of a
--- net with a driver and a sink, and 160 for each edge of an arc.
+-- The work of a design with these sections, at so many corners: none where a net is missing that is refused; else 16 steps for each
+-- resistor, each capacitance to ground and each pin of a net with a driver and a sink, and 160 for each edge of an arc.
 pub data TimingWork (count : ℕ) (design : LinkedDesign) (sections : List NetElements) (settings : Settings) : ℕ → Type 0 where
-  of_nets : {trees : ℕ} → NetsWork (net_inputs count design sections settings) (length design.netlist.nets) trees
+  no_trees : TimingWork count design sections settings 0
+  of_nets : {trees : ℕ} → NoneMissing (net_inputs count design sections settings) settings.missing
+      → NetsWork (net_inputs count design sections settings) (length design.netlist.nets) trees
       → TimingWork count design sections settings (trees + 160 * (count * edges_of design))
 
 -- the work of a SPEF file's bytes: none before its sections are read, and then that of the design

@@ -1,7 +1,8 @@
 //! The phases that find the loads and the Elmore sums of a design's nets.
-ghost use Rattle.std.specs.Prelude.{◌≡◌, ◌<◌, ◌≤◌, length, IfOk, IsTrue};
+ghost use Rattle.std.specs.Prelude.{◌≡◌, ◌<◌, ◌≤◌, ◌⊎◌, length, IfOk, IsTrue};
 ghost use Rattle.delay_units.specs.Bounds.{most_farads};
 ghost use Rattle.net_parasitics.specs.Inputs.{AreNamedApart, HaveSmallPins, inputs_of};
+ghost use Rattle.net_parasitics.specs.NetTrees.{NoneMissing};
 ghost use Rattle.net_parasitics.specs.WorkCounts.{IsWithin};
 ghost use Rattle.verdict_phases.specs.Phases.{FollowsNoFile};
 ghost use Rattle.refusals.specs.Refused.{OnRefusal};
@@ -54,6 +55,9 @@ pub fn find_delays<C: CornerSet, L: Ledger>(
         (length linked.now.netlist.nets)
         steps.old steps.new }
     ensures no_steps { OnRefusal result (λ refusal. IsTrue (is_early refusal) → steps.new ≡ steps.old) }
+    // no tree is built where a net is missing, whatever is answered
+    ensures none_missing { (steps.new ≡ steps.old)
+        ⊎ NoneMissing (inputs_of C.COUNT linked.now.netlist linked.now.cells sections.now settings.now.port_load) settings.now.missing }
 {
     match net_delays(
         alloc,

@@ -1,7 +1,8 @@
 //! The delays of a linked design, from a SPEF file.
-ghost use Rattle.std.specs.Prelude.{◌≡◌, ◌^◌, ◌<◌, ◌≤◌, ◌+◌, length, IfOk, OnOk, IsTrue};
+ghost use Rattle.std.specs.Prelude.{◌≡◌, ◌^◌, ◌<◌, ◌≤◌, ◌+◌, ◌⊎◌, length, IfOk, OnOk, IsTrue};
 ghost use Rattle.net_delays.specs.NetTimes.{Fits};
 ghost use Rattle.net_parasitics.specs.Inputs.{AreNamedApart, HaveSmallPins};
+ghost use Rattle.net_parasitics.specs.NetTrees.{NoneMissing};
 ghost use Rattle.net_parasitics.specs.WorkCounts.{IsWithin as IsNetsWithin};
 ghost use Rattle.spef_nets.specs.Drafts.{corners_of};
 ghost use Rattle.spef_text.specs.Heads.{IsHeadOf};
@@ -66,6 +67,8 @@ fn find_design_delays<C: CornerSet, L: Ledger>(
     ensures work { IsNetsWithin (net_inputs C.COUNT design.now sections.now settings.now) (length design.now.netlist.nets)
         steps.old steps.new }
     ensures no_steps { OnRefusal result (λ refusal. IsTrue (is_early refusal) → steps.new ≡ steps.old) }
+    ensures none_missing { (steps.new ≡ steps.old)
+        ⊎ NoneMissing (net_inputs C.COUNT design.now sections.now settings.now) settings.now.missing }
 {
     find_delays(alloc, design.linked(), sections, settings, steps)
 }

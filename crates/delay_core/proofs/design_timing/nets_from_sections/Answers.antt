@@ -26,10 +26,10 @@ returns-clause-follows g c =
 pub returns-clause-steps : goal.returns-clause-steps
 returns-clause-steps g c =
     sections_work (corners_of g.C.CornerSet.COUNT g.C.CornerSet.number_of g.C.CornerSet.member_of c.args.settings.now.pick) c.args.design.now c.args.file.now c.args.head.now
-    c.args.settings.now c.in_ok-sections.sections c.args.steps.now c.find_design_delays.new.steps c.in_ok-sections.ensures.follows c.find_design_delays.ensures.work
+    c.args.settings.now c.in_ok-sections.sections c.args.steps.now c.find_design_delays.new.steps c.in_ok-sections.ensures.follows c.find_design_delays.ensures.work c.find_design_delays.ensures.none_missing
 
 pub returns-clause-ahead : goal.returns-clause-ahead
 returns-clause-ahead g c =
     sections_leave (corners_of g.C.CornerSet.COUNT g.C.CornerSet.number_of g.C.CornerSet.member_of c.args.settings.now.pick) c.args.design.now c.args.file.now c.args.head.now
     c.args.settings.now c.in_ok-sections.sections c.args.steps.now c.find_design_delays.new.steps c.find_design_delays.result c.in_ok-sections.ensures.follows
-    c.find_design_delays.ensures.work
+    c.find_design_delays.ensures.work c.find_design_delays.ensures.follows
