@@ -10,6 +10,7 @@ use Rattle.name_table.specs.WellSpelled.{IsWellSpelled}
 use Rattle.netlist_link.specs.FlatDesigns.{IsFlatDesign}
 use Rattle.netlist_link.specs.FlatNetlist.{FlatInstance, FlatNetlist, instance_at, no_instance}
 use Rattle.netlist_link.specs.FlatPins.{pins_of}
+use Rattle.verilog_netlist.proofs.NamedModules.{modules_named}
 use Rattle.netlist_spelling.proofs.SpelledPaths.{netlist_spelled}
 use Rattle.netlist_spelling.proofs.SpelledPins.{pins_named}
 use Rattle.sdf_read_back.specs.ReadBack.{AreFit}
@@ -70,7 +71,7 @@ module _ (bytes : List ℕ) (modules : List NetModule) (name : List ℕ) (cells 
   own_pin : (k pin net : ℕ) (has : HasNet netlist.instances k pin net)
       → option_map_or (λ (p : Pin). p.name) (slice_get (pins_of cells has.instance.cell) pin) [] ≢ []
   own_pin k pin net has = elim (slice_get_cases (pins_of cells has.instance.cell) pin).1 [
-    | inl found ↦ (λ empty. pins_named bytes modules name cells netlist are design k pin has.instance found.0 net has.stands found.2 has.on
+    | inl found ↦ (λ empty. pins_named modules name cells netlist (modules_named bytes modules are) design k pin has.instance found.0 net has.stands found.2 has.on
         (sym (ap (λ (o : Option Pin). option_map_or (λ (p : Pin). p.name) o []) found.2) ∙ empty))
     | inr past ↦ (λ empty.
         let same = design.is.linked.pins k has.instance has.stands in
@@ -87,7 +88,7 @@ module _ (bytes : List ℕ) (modules : List NetModule) (name : List ℕ) (cells 
 
   names_spelled : AreNamesSpelled cells netlist
   names_spelled =
-      let spelled = netlist_spelled bytes modules name cells netlist are design in
+      let spelled = netlist_spelled modules name cells netlist (modules_named bytes modules are) design in
       record { instances = spelled.instances; ports = spelled.ports; pins = pin_has }
 
 -- ---- the design that is annotated

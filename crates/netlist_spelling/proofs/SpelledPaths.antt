@@ -10,7 +10,7 @@ use Rattle.name_table.specs.WellSpelled.{IsWellSpelled, one_part, parts}
 use Rattle.cell_models.specs.NamedSets.{NamedCells}
 use Rattle.verilog_netlist.specs.ModuleNames.{NetName}
 use Rattle.verilog_netlist.specs.NetModules.{NetModule, instance_at}
-use Rattle.verilog_netlist.specs.Parsed.{AreModulesOf}
+use Rattle.verilog_netlist.specs.SoundModules.{HasNames}
 use Rattle.verilog_netlist.specs.Ranges.{whole_width}
 use Rattle.hierarchy.specs.Hierarchy.{module_on, IsPath}
 use Rattle.hierarchy.specs.Walks.{Met, met_instance, is_module, whole_walk, cells_met, visits}
@@ -24,7 +24,7 @@ use Rattle.netlist_link.specs.Links.{AreInstances, ArePorts}
 use Rattle.netlist_spelling.specs.SpelledNetlists.{AreWellSpelled, AreNetsWellSpelled}
 use Rattle.name_table.proofs.Spelling.{part_is_part}
 use Rattle.netlist_spelling.proofs.SpelledParts.{name_is_part}
-use Rattle.netlist_spelling.proofs.NamedModules.{HasNames, modules_named, instance_named, name_named}
+use Rattle.netlist_spelling.proofs.NamedModules.{instance_named, name_named}
 
 -- what holds of each item of lists that are joined
 all_of_lists : {X Y : Type 0} (P : Y → Type 0) (Q : X → Type 0) (lists : X → List Y) → ((x : X) → Q x → All P (lists x)) → (xs : List X)
@@ -128,13 +128,13 @@ module _ (modules : List NetModule) (top : ℕ) (named : All HasNames modules) w
         all_along IsSpelled (λ port. IsWellSpelled port.sdf) no_bit (top_ports modules top) ports are.count
         (λ p bit port at own spelled. subst IsWellSpelled (sym (are.each p bit port at own).sdf) spelled) ports_spelled
 
-pub netlist_spelled : (bytes : List ℕ) (modules : List NetModule) (name : List ℕ) (cells : List NamedCells) (netlist : FlatNetlist)
-    → AreModulesOf bytes modules → IsFlatDesign modules name cells netlist → AreWellSpelled netlist
-netlist_spelled bytes modules name cells netlist are design = record {
-  instances = instances_spelled modules design.top (modules_named bytes modules are) cells netlist.instances design.is.instances;
-  ports = bits_of_ports_spelled modules design.top (modules_named bytes modules are) cells netlist.ports design.is.ports;
+pub netlist_spelled : (modules : List NetModule) (name : List ℕ) (cells : List NamedCells) (netlist : FlatNetlist)
+    → All HasNames modules → IsFlatDesign modules name cells netlist → AreWellSpelled netlist
+netlist_spelled modules name cells netlist named design = record {
+  instances = instances_spelled modules design.top named cells netlist.instances design.is.instances;
+  ports = bits_of_ports_spelled modules design.top named cells netlist.ports design.is.ports;
 }
 
-pub design_nets_spelled : (bytes : List ℕ) (modules : List NetModule) (top : ℕ) → AreModulesOf bytes modules
+pub design_nets_spelled : (modules : List NetModule) (top : ℕ) → All HasNames modules
     → AreNetsWellSpelled modules top
-design_nets_spelled bytes modules top are = nets_spelled modules top (modules_named bytes modules are)
+design_nets_spelled modules top named = nets_spelled modules top named

@@ -10,7 +10,7 @@ use Rattle.std.proofs.lemmas.Slice.Eq.{bytes_eq-Decides}
 use Rattle.cell_models.specs.NamedSets.{NamedCells}
 use Rattle.cell_models.specs.declared.cell.Pin.{Pin}
 use Rattle.verilog_netlist.specs.NetModules.{NetModule, NetConnection, bits_in, instance_at}
-use Rattle.verilog_netlist.specs.Parsed.{AreModulesOf}
+use Rattle.verilog_netlist.specs.SoundModules.{HasNames, IsPortNamed}
 use Rattle.verilog_netlist.specs.declared.runs.Bit.{Bit}
 use Rattle.hierarchy.specs.Hierarchy.{module_on}
 use Rattle.hierarchy.specs.Walks.{Met, met_instance, is_module, whole_walk, cells_met}
@@ -21,7 +21,7 @@ use Rattle.netlist_link.specs.FlatDesigns.{IsFlatDesign}
 use Rattle.netlist_link.specs.FlatNetlist.{FlatInstance, FlatNetlist}
 use Rattle.netlist_link.specs.FlatPins.{pins_of, wired, net_on_pin, IsNumbered}
 use Rattle.netlist_spelling.specs.SpelledNetlists.{ArePinsNamed}
-use Rattle.netlist_spelling.proofs.NamedModules.{HasNames, IsPortNamed, modules_named, connections_named}
+use Rattle.netlist_spelling.proofs.NamedModules.{connections_named}
 use Rattle.netlist_spelling.proofs.SpelledPaths.{cells_stand}
 
 -- a connection that is found names a port that has a byte
@@ -64,13 +64,13 @@ module _ (modules : List NetModule) (top : ℕ) (named : All HasNames modules) w
       by None is none = absurd none
       by (Some net) is some = pin_named met port net stands is
 
-pub pins_named : (bytes : List ℕ) (modules : List NetModule) (name : List ℕ) (cells : List NamedCells) (netlist : FlatNetlist)
-    → AreModulesOf bytes modules → IsFlatDesign modules name cells netlist → ArePinsNamed cells netlist
-pins_named bytes modules name cells netlist are design i j instance pin net at pin_at net_at =
+pub pins_named : (modules : List NetModule) (name : List ℕ) (cells : List NamedCells) (netlist : FlatNetlist)
+    → All HasNames modules → IsFlatDesign modules name cells netlist → ArePinsNamed cells netlist
+pins_named modules name cells netlist named design i j instance pin net at pin_at net_at =
     let count = design.is.instances.count in
     let within : i < length netlist.instances = slice_get_within netlist.instances i instance at in
     let below : i < length (cells_met modules design.top) = omega arith in
     let met : Met = get_or (cells_met modules design.top) i no_met in
     let own = design.is.instances.each i met instance (slice_get-get_or (cells_met modules design.top) i no_met below) at in
-    numbered_named modules design.top (modules_named bytes modules are) met pin.name net
+    numbered_named modules design.top named met pin.name net
     (All-get_or (StandsIn modules design.top) (cells_met modules design.top) i no_met below (cells_stand modules design.top)) (own.on j pin (Some net) pin_at net_at)

@@ -23,6 +23,7 @@ use Rattle.verilog_netlist.specs.declared.entries.Range.{Range}
 use Rattle.verilog_netlist.specs.declared.entries.Entry.{Entry}
 use Rattle.verilog_netlist.specs.declared.entries.Entry.TheVariants.{Module, Header, Declared, Instance, Port, Whole, Bit, Part, Constant}
 use Rattle.verilog_netlist.specs.declared.faults.NameFault.TheVariants as fault
+use Rattle.verilog_netlist.specs.declared.net_names.Group.{Group}
 use Rattle.verilog_netlist.specs.declared.net_names.Group.TheVariants as group
 use Rattle.verilog_netlist.specs.declared.runs.Run.{Run}
 use Rattle.verilog_netlist.specs.declared.tables.Tables.{Tables}
@@ -44,7 +45,7 @@ false_later : (a b : Bool) → (a || b) ≡ false → b ≡ false
 false_later true b is = absurd (true≢false is)
 false_later false b is = is
 
-kept : (p : List ℕ → Bool) (texts : List (List ℕ)) (other : List ℕ) → list_any p texts ≡ true → list_any p (insert_key bytes_eq texts other) ≡ true
+pub kept : (p : List ℕ → Bool) (texts : List (List ℕ)) (other : List ℕ) → list_any p texts ≡ true → list_any p (insert_key bytes_eq texts other) ≡ true
 kept p texts other is = by (list_any (bytes_eq other) texts) refl
   where
     by : (held : Bool) → list_any (bytes_eq other) texts ≡ held → list_any p (if list_any (bytes_eq other) texts then texts else texts ++ other ∷ []) ≡ true
@@ -63,7 +64,7 @@ put_in texts text = by (list_any (bytes_eq text) texts) refl
     by false h = ap (λ (b : Bool). list_any (bytes_eq text) (if b then texts else texts ++ text ∷ [])) h ∙ list_any-append (bytes_eq text) texts (text ∷ [])
         ∙ or_later (list_any (bytes_eq text) texts) (list_any (bytes_eq text) (text ∷ [])) (either (bytes_eq text text) false ((bytes_eq-Decides text text).1 refl))
 
-put_in_all : (texts more : List (List ℕ)) (text : List ℕ) → list_any (bytes_eq text) more ≡ true → list_any (bytes_eq text) (insert_all bytes_eq texts more) ≡ true
+pub put_in_all : (texts more : List (List ℕ)) (text : List ℕ) → list_any (bytes_eq text) more ≡ true → list_any (bytes_eq text) (insert_all bytes_eq texts more) ≡ true
 put_in_all texts [] text is = absurd (true≢false (sym is))
 put_in_all texts (other ∷ more) text is = by (bytes_eq text other) refl (put_in_all (insert_key bytes_eq texts other) more text)
   where
@@ -89,23 +90,23 @@ first_found p (text ∷ texts) is = by (p text) refl (first_found p texts)
         let a : position_or_len p (text ∷ texts) ≡ suc (position_or_len p texts) = at false h ∙ omega arith in
         ((let b = m.0 in omega arith), ap (λ (n : ℕ). p (get_or (text ∷ texts) n [])) a ∙ m.1)
 
--- the name of an entry that joins it
-joined_there : (bytes : List ℕ) (l : List Entry) (j : ℕ) → j < length l → is_in group.Joined (entry_at l j) ≡ true
-    → list_any (bytes_eq (text_at bytes (name_of (entry_at l j)))) (texts_of bytes group.Joined l) ≡ true
-joined_there bytes [] j below is = absurd (omega arith)
-joined_there bytes (e ∷ l) zero below is =
-    ap (λ (b : Bool). list_any (bytes_eq (text_at bytes (name_of e))) (map (λ (x : Entry). text_at bytes (name_of x)) (if b then e ∷ filter (is_in group.Joined) l else filter (is_in group.Joined) l))) is
-    ∙ either (bytes_eq (text_at bytes (name_of e)) (text_at bytes (name_of e))) (list_any (bytes_eq (text_at bytes (name_of e))) (texts_of bytes group.Joined l)) ((bytes_eq-Decides (text_at bytes (name_of e)) (text_at bytes (name_of e))).1 refl)
-joined_there bytes (e ∷ l) (suc j) below is = by (is_in group.Joined e) refl (joined_there bytes l j (omega arith) is)
+-- the name of an entry of a group
+pub named_there : (of : Group) (bytes : List ℕ) (l : List Entry) (j : ℕ) → j < length l → is_in of (entry_at l j) ≡ true
+    → list_any (bytes_eq (text_at bytes (name_of (entry_at l j)))) (texts_of bytes of l) ≡ true
+named_there of bytes [] j below is = absurd (omega arith)
+named_there of bytes (e ∷ l) zero below is =
+    ap (λ (b : Bool). list_any (bytes_eq (text_at bytes (name_of e))) (map (λ (x : Entry). text_at bytes (name_of x)) (if b then e ∷ filter (is_in of) l else filter (is_in of) l))) is
+    ∙ either (bytes_eq (text_at bytes (name_of e)) (text_at bytes (name_of e))) (list_any (bytes_eq (text_at bytes (name_of e))) (texts_of bytes of l)) ((bytes_eq-Decides (text_at bytes (name_of e)) (text_at bytes (name_of e))).1 refl)
+named_there of bytes (e ∷ l) (suc j) below is = by (is_in of e) refl (named_there of bytes l j (omega arith) is)
   where
     text : List ℕ
     text = text_at bytes (name_of (entry_at l j))
 
-    all : (b : Bool) → is_in group.Joined e ≡ b → list_any (bytes_eq text) (texts_of bytes group.Joined (e ∷ l)) ≡ list_any (bytes_eq text) (map (λ (x : Entry). text_at bytes (name_of x)) (if b then e ∷ filter (is_in group.Joined) l else filter (is_in group.Joined) l))
-    all b h = ap (λ (t : Bool). list_any (bytes_eq text) (map (λ (x : Entry). text_at bytes (name_of x)) (if t then e ∷ filter (is_in group.Joined) l else filter (is_in group.Joined) l))) h
+    all : (b : Bool) → is_in of e ≡ b → list_any (bytes_eq text) (texts_of bytes of (e ∷ l)) ≡ list_any (bytes_eq text) (map (λ (x : Entry). text_at bytes (name_of x)) (if b then e ∷ filter (is_in of) l else filter (is_in of) l))
+    all b h = ap (λ (t : Bool). list_any (bytes_eq text) (map (λ (x : Entry). text_at bytes (name_of x)) (if t then e ∷ filter (is_in of) l else filter (is_in of) l))) h
 
-    by : (b : Bool) → is_in group.Joined e ≡ b → list_any (bytes_eq text) (texts_of bytes group.Joined l) ≡ true → list_any (bytes_eq text) (texts_of bytes group.Joined (e ∷ l)) ≡ true
-    by true h more = all true h ∙ or_later (bytes_eq text (text_at bytes (name_of e))) (list_any (bytes_eq text) (texts_of bytes group.Joined l)) more
+    by : (b : Bool) → is_in of e ≡ b → list_any (bytes_eq text) (texts_of bytes of l) ≡ true → list_any (bytes_eq text) (texts_of bytes of (e ∷ l)) ≡ true
+    by true h more = all true h ∙ or_later (bytes_eq text (text_at bytes (name_of e))) (list_any (bytes_eq text) (texts_of bytes of l)) more
     by false h more = all false h ∙ more
 
 -- the first declaration of a name in a module is the first among the module's entries
@@ -317,7 +318,7 @@ module _ (t : Tables) (h : AreTables t) (m : ℕ) (below : m < length (modules_i
 
       joined : list_any (bytes_eq text) (texts_of bytes group.Joined own) ≡ true
       joined = subst (λ (x : Entry). list_any (bytes_eq (text_at bytes (name_of x))) (texts_of bytes group.Joined own) ≡ true) at_own
-          (joined_there bytes own (place - (s + 1)) (let l = length_own in omega arith) (ap (is_in group.Joined) at_own ∙ joins))
+          (named_there group.Joined bytes own (place - (s + 1)) (let l = length_own in omega arith) (ap (is_in group.Joined) at_own ∙ joins))
 
       held : list_any (bytes_eq text) texts ≡ true
       held = put_in_all [] (texts_of bytes group.Headers own ++ (texts_of bytes group.Wires own ++ texts_of bytes group.Joined own)) text

@@ -24,3 +24,7 @@ pub mod Joining
 pub mod BitsWithin
 pub mod Faulting
 pub mod Refusing
+pub mod TokenTexts
+pub mod EntryNames
+pub mod NamedModules
+pub mod Directing

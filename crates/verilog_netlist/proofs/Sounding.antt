@@ -34,7 +34,7 @@ pub or_later : (b later : Bool) → later ≡ true → (b || later) ≡ true
 or_later true later is = refl
 or_later false later is = is
 
-any_at : (p : List ℕ → Bool) (texts : List (List ℕ)) (j : ℕ) → j < length texts → p (get_or texts j []) ≡ true → list_any p texts ≡ true
+pub any_at : (p : List ℕ → Bool) (texts : List (List ℕ)) (j : ℕ) → j < length texts → p (get_or texts j []) ≡ true → list_any p texts ≡ true
 any_at p [] j below is = absurd (omega arith)
 any_at p (text ∷ texts) zero below is = ap (λ (b : Bool). b || list_any p texts) is
 any_at p (text ∷ texts) (suc j) below is = or_later (p text) (list_any p texts) (any_at p texts j (omega arith) is)

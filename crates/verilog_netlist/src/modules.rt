@@ -1,11 +1,11 @@
 //! The modules of a netlist.
-ghost use Rattle.std.specs.Prelude.{◌≡◌, ℕ, ◌<◌, ◌≤◌, ◌^◌, List, length, slice_get, Some, IfOk, IfSome, IfNone};
+ghost use Rattle.std.specs.Prelude.{◌≡◌, ℕ, ◌<◌, ◌≤◌, ◌^◌, List, length, slice_get, Some, All, IfOk, IfSome, IfNone};
 ghost use Rattle.verilog_netlist.specs.NetModules.{module_at, name_at, instance_at, connection_at, runs_at, bits_at, HasFewBits};
 ghost use Rattle.verilog_netlist.specs.ModuleTables.{modules_in, AreTables};
 ghost use Rattle.verilog_netlist.specs.ModuleNumbers.{AreNumbers};
 ghost use Rattle.verilog_netlist.specs.Netlist.{SaysSound};
 ghost use Rattle.verilog_netlist.specs.Ranges.{whole_width};
-ghost use Rattle.verilog_netlist.specs.SoundModules.{Differ, AreWithin};
+ghost use Rattle.verilog_netlist.specs.SoundModules.{Differ, AreWithin, HasNames, HasFewBitsEach, HasPortsFirst};
 ghost use Rattle.verilog_netlist.specs.declared.runs.Bit.{Bit};
 ghost use Rattle.verilog_netlist.specs.declared.runs.Run.{Run};
 
@@ -56,7 +56,8 @@ impl<'a> Modules<'a> {
 
     /// The law of modules, which its contract states: names differ, those of the modules of a file, those of a module, those of the
     /// instances of a module, and those of the ports of an instance. What is joined to a port are bits of names of the module, within
-    /// their ranges. It does nothing when it is called.
+    /// their ranges. Each name has a byte, each range is within the limits, and names with a direction come first. It does nothing when
+    /// it is called.
     pub fn sound(&self)
         ensures modules { Differ (length self.now) (λ m. (module_at self.now m).name) }
         ensures names { (m : ℕ) → m < length self.now → Differ (length (module_at self.now m).names) (λ i. (name_at self.now m i).text) }
@@ -70,6 +71,9 @@ impl<'a> Modules<'a> {
         ensures bits { (m k c b : ℕ) (bit : Bit) → m < length self.now → k < length (module_at self.now m).instances
             → c < length (instance_at self.now m k).connections → slice_get (bits_at self.now m k c) b ≡ Some bit
             → AreWithin (module_at self.now m).names bit 1 }
+        ensures named { All HasNames self.now }
+        ensures ranges { All HasFewBitsEach self.now }
+        ensures ways { (m : ℕ) → m < length self.now → HasPortsFirst (module_at self.now m) }
     {
         let _ = &self.numbers;
     }

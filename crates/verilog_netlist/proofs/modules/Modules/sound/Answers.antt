@@ -1,11 +1,13 @@
 -- Where names are the same, one is repeated.
-use Rattle.std.proofs.Common.{◌≡◌, ◌<◌, ℕ, List, length, slice_get, Some, subst}
-use Rattle.verilog_netlist.specs.SoundModules.{Differ, AreWithin}
+use Rattle.std.proofs.Common.{◌≡◌, ◌<◌, ℕ, List, length, slice_get, Some, All, refl, subst}
+use Rattle.verilog_netlist.specs.SoundModules.{Differ, AreWithin, HasNames, HasFewBitsEach, HasPortsFirst}
 use Rattle.verilog_netlist.specs.NetModules.{NetModule, module_at, name_at, instance_at, connection_at, runs_at, bits_at}
 use Rattle.verilog_netlist.specs.ModuleTables.{modules_in}
 use Rattle.verilog_netlist.proofs.Sounding.{modules_differ, names_differ, instances_differ, ports_differ}
 use Rattle.verilog_netlist.proofs.Joining.{runs_within}
+use Rattle.verilog_netlist.proofs.Directing.{ports_first}
 use Rattle.verilog_netlist.proofs.BitsWithin.{bit_within}
+use Rattle.verilog_netlist.proofs.NamedModules.{modules_named, modules_have_few}
 use Rattle.verilog_netlist.specs.declared.runs.Bit.{Bit}
 use Rattle.verilog_netlist.specs.declared.runs.Run.{Run}
 use Rattle.verilog_netlist.proofs.modules.Modules.sound.Goals as goal
@@ -42,3 +44,20 @@ returns-clause-bits c =
     → slice_get (bits_at l m k c) b ≡ Some bit → AreWithin (module_at l m).names bit 1) c.self.view_is
     (λ m k d b bit below few within. bit_within (module_at (modules_in c.self.inside.tables) m).names (runs_at (modules_in c.self.inside.tables) m k d)
     (λ r run. runs_within c.self.inside.tables c.self.invariant.0 m below c.self.invariant.2.1 k d r run few within) b bit)
+
+pub returns-clause-named : goal.returns-clause-named
+returns-clause-named c =
+    let tables = c.self.inside.tables in
+    subst (All HasNames) c.self.view_is
+    (modules_named tables.bytes.now (modules_in tables) (record { entries = tables.entries.items; says = c.self.invariant.2; are = refl }))
+
+pub returns-clause-ranges : goal.returns-clause-ranges
+returns-clause-ranges c =
+    let tables = c.self.inside.tables in
+    subst (All HasFewBitsEach) c.self.view_is
+    (modules_have_few tables.bytes.now (modules_in tables) (record { entries = tables.entries.items; says = c.self.invariant.2; are = refl }))
+
+pub returns-clause-ways : goal.returns-clause-ways
+returns-clause-ways c =
+    subst (λ (l : List NetModule). (m : ℕ) → m < length l → HasPortsFirst (module_at l m)) c.self.view_is
+    (ports_first c.self.inside.tables c.self.invariant.0 c.self.invariant.2.1)

@@ -15,7 +15,7 @@ use Rattle.verilog_netlist.specs.declared.entries.Decl.TheVariants as decl
 use Rattle.verilog_netlist.specs.declared.entries.Range.{Range}
 use Rattle.verilog_netlist.specs.declared.entries.Entry.{Entry}
 use Rattle.verilog_netlist.specs.declared.entries.Entry.TheVariants as entry
-use Rattle.netlist_spelling.proofs.TokenTexts.{HasByte, tokens_have_bytes}
+use Rattle.verilog_netlist.proofs.TokenTexts.{HasByte, tokens_have_bytes}
 
 module _ (bytes : List ℕ) where
   -- the name of an entry has a byte
