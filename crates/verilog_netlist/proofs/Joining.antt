@@ -29,7 +29,7 @@ use Rattle.verilog_netlist.specs.declared.runs.Run.{Run}
 use Rattle.verilog_netlist.specs.declared.tables.Tables.{Tables}
 use Rattle.verilog_netlist.proofs.PartsFound.{begun_on, begun_yes}
 use Rattle.verilog_netlist.proofs.Naming.{said_push}
-use Rattle.verilog_netlist.proofs.TableReading.{extent_of, module_there, module_counts, names_are, position_named, stretch_more, stretch_none, runs_counted, run_found}
+use Rattle.verilog_netlist.proofs.TableReading.{extent_of, module_there, module_counts, names_are, position_named, stretch_more, stretch_none, runs_counted, run_found, joined_extent, ends_within, is_joined}
 use Rattle.verilog_netlist.proofs.Sounding.{or_later, same_module, instance_there, connection_there}
 
 -- what is in is found
@@ -393,7 +393,10 @@ module _ (t : Tables) (h : AreTables t) (m : ℕ) (below : m < length (modules_i
       let y = instance_there t h m below k few in
       let z = connection_there t h m below k y c within in
       let few = slice_get_within (runs_at (modules_in t) m k c) r run is in
-      let n = runs_counted t m k c z.extent z.at in
-      let same : run ≡ run_at t m (z.extent.place + 1 + r) = same_Some run (run_at t m (z.extent.place + 1 + r)) (sym is ∙ run_found t m k c z.extent z.at r few) in
+      let x = joined_extent t m k c z.extent z.at in
+      let joined = is_joined t m k c z.extent z.at in
+      let n = runs_counted t m k c x joined in
+      let near = ends_within t m k c z.extent z.at in
+      let same : run ≡ run_at t m (z.extent.place + 1 + r) = same_Some run (run_at t m (z.extent.place + 1 + r)) (sym is ∙ run_found t m k c x joined r few) in
       subst (λ (x : Run). AreWithin (names_at t m) x.first x.count) (sym same)
       (run_within (z.extent.place + 1 + r) (let a = y.low in let b = z.low in omega arith) (let a = y.high in let b = z.high in omega arith) faultless)

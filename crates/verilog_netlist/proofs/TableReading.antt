@@ -1,20 +1,22 @@
 -- The tables of a netlist's modules, read.
 use Rattle.std.proofs.Common.{◌≡◌, ℕ, zero, suc, ◌+◌, ◌-◌, ◌<◌, ◌≤◌, Bool, true, List, [], ◌∷◌, ◌++◌, length, take, drop, get_or, slice_get, map, Some, refl, sym, ap, ap₂, ◌∙◌, arith, not, cond, if◌then◌else◌, add-one, drop-cons, append-nil}
-use Rattle.std.specs.List.{flat_map, position_or_len}
+use Rattle.std.specs.List.{flat_map, position_or_len, prefix_len}
 use Rattle.std.specs.Option.{option_map}
 use Rattle.std.specs.Str.{bytes_eq}
 use Rattle.std.specs.Prelude.{count_by}
 use Rattle.std.proofs.lemmas.List.{length-map, take_all, get_or_default, get_or-drop, take_more, drop-take, get_or-take, length-append, length-drop, length-take}
+use Rattle.std.proofs.lemmas.List.{take-take}
 use Rattle.std.proofs.lemmas.List.Concat.{flat_map-append}
+use Rattle.std.proofs.lemmas.List.Sums.{prefix_len-le-length}
 use Rattle.std.proofs.lemmas.Option.{slice_get-map, slice_get-get_or, get_or_from_slice_get}
 use Rattle.token_texts.specs.Spans.{text_at}
 use Rattle.verilog_netlist.specs.Namespaces.{name_of, begins_module, begins_instance}
-use Rattle.verilog_netlist.specs.Parts.{Part, parts, begins_connection}
+use Rattle.verilog_netlist.specs.Parts.{Part, parts, begins_connection, is_expression}
 use Rattle.verilog_netlist.specs.PartPlaces.{no_entry, entry_at, begun, places_below, instance_row, stretch, IsPartAt, IsModuleExtent, IsInstanceExtent}
 use Rattle.verilog_netlist.specs.ModuleNames.{NetName, name_in, names_in, texts_in, number_of}
 use Rattle.verilog_netlist.specs.NameRows.{view_row, name_from, facts_in, rows_of, start_at, own_at, no_row}
 use Rattle.verilog_netlist.specs.NetModules.{NetModule, NetInstance, NetConnection, no_module, no_instance, no_connection, bit_after, bits_from, bits_in, run_of, joined_bits, runs_at, module_of, instance_of, connection_of, module_at, instance_at, connection_at}
-use Rattle.verilog_netlist.specs.ModuleTables.{modules_in, name_row, part_at, names_at, run_at, bits_between, AreTables, IsModuleAt, IsInstanceAt, IsConnectionAt, IsNumberAt}
+use Rattle.verilog_netlist.specs.ModuleTables.{modules_in, name_row, part_at, names_at, run_at, bits_between, AreTables, IsModuleAt, IsInstanceAt, IsConnectionAt, IsJoinedAt, IsNumberAt}
 use Rattle.verilog_netlist.specs.declared.entries.Entry.{Entry}
 use Rattle.verilog_netlist.specs.declared.net_names.NameRow.{NameRow}
 use Rattle.verilog_netlist.specs.declared.places.ModuleExtent.{ModuleExtent}
@@ -161,7 +163,6 @@ module _ (t : Tables) (h : AreTables t) where
     pub is_connection : IsConnectionAt t m k c z
     is_connection = record {
       value = connection_value;
-      bits = ap (λ (o : NetConnection). bits_in o.runs) connection_value ∙ bits_joined bytes (names_at t m) (stretch entries (z.place + 1) z.end);
       head = part.head;
       within = part.within;
       start = (let a = inside.0 in let s = at.start in omega arith);
@@ -295,21 +296,51 @@ module _ (t : Tables) (m : ℕ) where
         sym (slice_get_behind (joined_bits t.bytes.now (names_at t m) (entry_at t.entries.items place)) (bits_between t m (place + 1) end) rest (rest - run.count) (let l = run_length in omega arith))
         ∙ ap (λ (l : List Bit). slice_get l rest) (sym (split end order below))
 
--- the runs of a connection
+-- what is joined to the port of a connection stands in front of the declarations behind its instance
 module _ (t : Tables) (m k c : ℕ) (z : ConnectionExtent) (at : IsConnectionAt t m k c z) where
-  runs_are : runs_at (modules_in t) m k c ≡ map (run_of t.bytes.now (names_at t m)) (stretch t.entries.items (z.place + 1) z.end)
-  runs_are = ap (λ (o : NetConnection). o.runs) at.value
+  abbrev behind : List Entry
+  behind = stretch t.entries.items (z.place + 1) z.end
 
+  abbrev pub joined_extent : ConnectionExtent
+  joined_extent = record { place = z.place; end = z.place + 1 + prefix_len is_expression behind }
+
+  pub ends_within : joined_extent.end ≤ z.end
+  ends_within =
+      let some = prefix_len-le-length is_expression behind in
+      let few = length-take (z.end - (z.place + 1)) (drop (z.place + 1) t.entries.items) in
+      let head = at.head in
+      omega arith
+
+  in_front : take (prefix_len is_expression behind) behind ≡ stretch t.entries.items (z.place + 1) joined_extent.end
+  in_front =
+      take-take (prefix_len is_expression behind) (z.end - (z.place + 1)) (drop (z.place + 1) t.entries.items) (let e = ends_within in omega arith)
+      ∙ ap (λ (n : ℕ). take n (drop (z.place + 1) t.entries.items)) (let e : prefix_len is_expression behind ≡ joined_extent.end - (z.place + 1) = omega arith in e)
+
+  runs_in_front : runs_at (modules_in t) m k c ≡ map (run_of t.bytes.now (names_at t m)) (stretch t.entries.items (z.place + 1) joined_extent.end)
+  runs_in_front = ap (λ (o : NetConnection). o.runs) at.value ∙ ap (map (run_of t.bytes.now (names_at t m))) in_front
+
+  pub is_joined : IsJoinedAt t m k c joined_extent
+  is_joined = record {
+    runs = runs_in_front;
+    bits = ap bits_in runs_in_front ∙ bits_joined t.bytes.now (names_at t m) (stretch t.entries.items (z.place + 1) joined_extent.end);
+    head = omega arith;
+    within = (let e = ends_within in let w = at.within in omega arith);
+    start = at.start;
+    end = (let e = ends_within in let w = at.end in omega arith);
+  }
+
+-- the runs of a connection
+module _ (t : Tables) (m k c : ℕ) (z : ConnectionExtent) (at : IsJoinedAt t m k c z) where
   length_joined : length (stretch t.entries.items (z.place + 1) z.end) ≡ z.end - (z.place + 1)
   length_joined = length-take (z.end - (z.place + 1)) (drop (z.place + 1) t.entries.items) ∙ (let d = length-drop (z.place + 1) t.entries.items in let w = at.within in omega arith)
 
   pub runs_counted : length (runs_at (modules_in t) m k c) ≡ z.end - (z.place + 1)
-  runs_counted = ap length runs_are ∙ length-map (stretch t.entries.items (z.place + 1) z.end) (run_of t.bytes.now (names_at t m)) ∙ length_joined
+  runs_counted = ap length at.runs ∙ length-map (stretch t.entries.items (z.place + 1) z.end) (run_of t.bytes.now (names_at t m)) ∙ length_joined
 
   pub run_found : (r : ℕ) → r < length (runs_at (modules_in t) m k c) → slice_get (runs_at (modules_in t) m k c) r ≡ Some (run_at t m (z.place + 1 + r))
   run_found r below =
       let few : r < z.end - (z.place + 1) = let n = runs_counted in omega arith in
-      ap (λ (l : List Run). slice_get l r) runs_are
+      ap (λ (l : List Run). slice_get l r) at.runs
       ∙ slice_get-map (run_of t.bytes.now (names_at t m)) (stretch t.entries.items (z.place + 1) z.end) r
       ∙ ap (option_map (run_of t.bytes.now (names_at t m)))
       (slice_get-get_or (stretch t.entries.items (z.place + 1) z.end) r no_entry (let l = length_joined in omega arith)

@@ -1,5 +1,5 @@
 -- What the tables of a netlist's modules stand for.
-use Rattle.std.specs.Prelude.{◌≡◌, ℕ, true, ◌+◌, ◌^◌, ◌<◌, ◌≤◌, List, length}
+use Rattle.std.specs.Prelude.{◌≡◌, ℕ, true, ◌+◌, ◌^◌, ◌<◌, ◌≤◌, List, length, map}
 use Rattle.std.specs.List.{flat_map}
 use Rattle.token_texts.specs.Spans.{text_at}
 use Rattle.verilog_netlist.specs.Namespaces.{name_of}
@@ -7,7 +7,7 @@ use Rattle.verilog_netlist.specs.Parts.{Part}
 use Rattle.verilog_netlist.specs.PartPlaces.{entry_at, stretch, ArePlaces, IsModuleExtent, IsInstanceExtent}
 use Rattle.verilog_netlist.specs.ModuleNames.{NetName, is_in, number_of}
 use Rattle.verilog_netlist.specs.NameRows.{view_row, name_from, start_at, AreNetNames}
-use Rattle.verilog_netlist.specs.NetModules.{NetModule, modules_of, module_of, instance_of, connection_of, run_of, joined_bits, module_at, instance_at, connection_at, bits_at}
+use Rattle.verilog_netlist.specs.NetModules.{NetModule, modules_of, module_of, instance_of, connection_of, run_of, joined_bits, module_at, instance_at, connection_at, runs_at, bits_at}
 use Rattle.verilog_netlist.specs.declared.net_names.Group.TheVariants as group
 use Rattle.verilog_netlist.specs.declared.net_names.NameRow.{NameRow}
 use Rattle.verilog_netlist.specs.declared.runs.Bit.{Bit}
@@ -60,6 +60,14 @@ module _ (t : Tables) where
 
   pub record IsConnectionAt (m k c : ℕ) (x : ConnectionExtent) : Type 0 where
     pub value : connection_at (modules_in t) m k c ≡ connection_of t.bytes.now (names_at m) (part_at x.place x.end)
+    pub head : x.place < x.end
+    pub within : x.end ≤ length t.entries.items
+    pub start : start_at t.places m < x.place
+    pub end : x.end ≤ start_at t.places (m + 1)
+
+  -- all that is joined to the port of a connection stands between its place and this end
+  pub record IsJoinedAt (m k c : ℕ) (x : ConnectionExtent) : Type 0 where
+    pub runs : runs_at (modules_in t) m k c ≡ map (run_of t.bytes.now (names_at m)) (stretch t.entries.items (x.place + 1) x.end)
     pub bits : bits_at (modules_in t) m k c ≡ bits_between m (x.place + 1) x.end
     pub head : x.place < x.end
     pub within : x.end ≤ length t.entries.items

@@ -1,10 +1,10 @@
 -- The modules of a netlist.
-use Rattle.std.specs.Prelude.{ℕ, zero, suc, ◌+◌, ◌-◌, ◌^◌, ◌≤◌, nat_lt, if◌then◌else◌, List, [], ◌∷◌, map, get_or, Option, Some, None, ⊤}
+use Rattle.std.specs.Prelude.{ℕ, zero, suc, ◌+◌, ◌-◌, ◌^◌, ◌≤◌, nat_lt, if◌then◌else◌, List, [], ◌∷◌, map, take_while, get_or, Option, Some, None, ⊤}
 use Rattle.std.specs.List.{flat_map}
 use Rattle.token_texts.specs.Spans.{text_at}
 use Rattle.verilog_netlist.specs.Namespaces.{name_of, begins_module, begins_instance}
 use Rattle.verilog_netlist.specs.Ranges.{constant_width, width_of, whole_width}
-use Rattle.verilog_netlist.specs.Parts.{Part, parts, begins_connection}
+use Rattle.verilog_netlist.specs.Parts.{Part, parts, begins_connection, is_expression}
 use Rattle.verilog_netlist.specs.ModuleNames.{NetName, no_name, names_in, number_of, range_of}
 use Rattle.token_texts.specs.declared.spans.Span.{Span}
 use Rattle.verilog_netlist.specs.declared.entries.Range.{Range}
@@ -81,7 +81,7 @@ module _ (bytes : List ℕ) (names : List NetName) where
   joined_bits expression = bits_of_run (run_of expression)
 
   abbrev pub connection_of : Part → NetConnection
-  connection_of part = record { port = text_at bytes (name_of part.head); runs = map run_of part.behind }
+  connection_of part = record { port = text_at bytes (name_of part.head); runs = map run_of (take_while is_expression part.behind) }
 
   abbrev pub instance_of : Part → NetInstance
   instance_of part = record {

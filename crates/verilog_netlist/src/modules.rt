@@ -193,15 +193,15 @@ impl<'a> Modules<'a> {
         self.tables.name_at(self.tables.connection(m, k, c).place)
     }
 
-    /// How many runs of bits are joined to the port of a connection: one for each name, select and constant that is written there. A
-    /// declaration behind the instance counts as a run of no bits.
+    /// How many runs of bits are joined to the port of a connection: one for each name, select and constant that is written there. It
+    /// takes one pass over them.
     pub fn run_count(&self, m: usize, k: usize, c: usize) -> usize
         requires within { m < length self.now }
         requires instance { k < length (module_at self.now m).instances }
         requires place { c < length (instance_at self.now m k).connections }
         ensures { result ≡ length (runs_at self.now m k c) }
     {
-        let extent = self.tables.connection(m, k, c);
+        let extent = self.tables.joined(m, k, c);
         extent.end - extent.place - 1
     }
 
@@ -225,7 +225,7 @@ impl<'a> Modules<'a> {
         requires place { c < length (instance_at self.now m k).connections }
         ensures { result ≡ length (bits_at self.now m k c) }
     {
-        self.tables.bit_count(m, self.tables.connection(m, k, c))
+        self.tables.bit_count(m, self.tables.joined(m, k, c))
     }
 
     /// A bit of a connection, from the left, if it has so many. It takes one pass over what is joined before it.
@@ -235,7 +235,7 @@ impl<'a> Modules<'a> {
         requires place { c < length (instance_at self.now m k).connections }
         ensures { result ≡ slice_get (bits_at self.now m k c) b }
     {
-        self.tables.bit(m, self.tables.connection(m, k, c), b)
+        self.tables.bit(m, self.tables.joined(m, k, c), b)
     }
 }
 

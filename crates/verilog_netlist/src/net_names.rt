@@ -11,7 +11,7 @@ ghost use Rattle.verilog_netlist.specs.NameRows.{AreNetNames, keys_of, noted, vi
 use crate::declared::Declaration;
 use crate::entries::{Decl, Direction, Entry, Range};
 use crate::name_text::NameText;
-use crate::places::Places;
+use crate::places::{Places, between};
 use edge_io::lists::{push, refill, to_u32};
 use edge_io::{OutOfMemory, are_equal};
 use indexmap::IndexSet;
@@ -423,7 +423,8 @@ pub(crate) fn collect_net_names<'a>(
     let first = places.first_place();
     let mut names = NetNames::new(alloc, first, entries.len())?;
     for m in 0..places.module_count() {
-        let own = places.module(m).own(entries);
+        let extent = places.module(m);
+        let own = between(entries, extent.place + 1, extent.end);
         names.add_module(alloc, bytes, own)?;
     }
     Ok(names)

@@ -61,16 +61,14 @@ pub struct ConnectionExtent {
     pub end: usize,
 }
 
-impl ModuleExtent {
-    /// What stands in the module behind its name.
-    #[inline]
-    pub(crate) fn own(self, entries: &[Entry]) -> &[Entry]
-        requires head { self.place < self.end }
-        requires within { self.end ≤ length entries.now }
-        ensures { result.now ≡ stretch entries.now (self.place + 1) self.end }
-    {
-        entries.split_at(self.end).0.split_at(self.place + 1).1
-    }
+/// The entries from one place up to another.
+#[inline]
+pub(crate) fn between(entries: &[Entry], from: usize, end: usize) -> &[Entry]
+    requires order { from ≤ end }
+    requires within { end ≤ length entries.now }
+    ensures { result.now ≡ stretch entries.now from end }
+{
+    entries.split_at(end).0.split_at(from).1
 }
 
 impl Places {

@@ -1,18 +1,32 @@
 //! What is kept of the modules of a netlist.
 ghost use Rattle.std.specs.Prelude.{◌≡◌, ◌+◌, ◌<◌, ◌≤◌, length, map, slice_get};
+ghost use Rattle.std.specs.List.{prefix_len};
 ghost use Rattle.token_texts.specs.Spans.{text_at};
 ghost use Rattle.verilog_netlist.specs.Namespaces.{name_of};
+ghost use Rattle.verilog_netlist.specs.Parts.{is_expression};
 ghost use Rattle.verilog_netlist.specs.PartPlaces.{entry_at};
 ghost use Rattle.verilog_netlist.specs.NameRows.{start_at};
 ghost use Rattle.verilog_netlist.specs.NetModules.{cell_of, module_at, instance_at, HasFewBits};
-ghost use Rattle.verilog_netlist.specs.ModuleTables.{modules_in, name_row, names_at, run_at, bits_between, AreTables, IsModuleAt, IsInstanceAt, IsConnectionAt, IsNumberAt};
+ghost use Rattle.verilog_netlist.specs.ModuleTables.{modules_in, name_row, names_at, run_at, bits_between, AreTables, IsModuleAt, IsInstanceAt, IsConnectionAt, IsJoinedAt, IsNumberAt};
 
 use crate::entries::Entry;
 use crate::net_names::{NameRow, NetNames};
-use crate::places::{ConnectionExtent, InstanceExtent, ModuleExtent, Places};
+use crate::places::{ConnectionExtent, InstanceExtent, ModuleExtent, Places, between};
 use crate::runs::{Bit, Run, bit_run, part_run, whole_run};
 use crate::scan::constant_width;
 use token_texts::Span;
+
+/// How many expressions stand in front of the first entry that is none.
+fn expressions_in_front(entries: &[Entry]) -> usize
+    ensures value { result ≡ prefix_len is_expression entries.now }
+    ensures within { result ≤ length entries.now }
+{
+    let mut count = 0;
+    while count < entries.len() && entries[count].is_expression() {
+        count += 1;
+    }
+    count
+}
 
 /// The bytes of a netlist and what they say, the places of its parts, and the names of its modules.
 #[derive(Drop)]
@@ -32,6 +46,17 @@ impl Entry {
         match self {
             Entry::Instance(cell, _) => cell,
             _ => self.name(),
+        }
+    }
+
+    /// Whether it can be joined to a port.
+    #[inline]
+    fn is_expression(self) -> bool
+        ensures { result ≡ is_expression self }
+    {
+        match self {
+            Entry::Whole(_) | Entry::Bit(_, _) | Entry::Part(_, _) | Entry::Constant(_) => true,
+            _ => false,
         }
     }
 }
@@ -99,6 +124,24 @@ impl<'a> Tables<'a> {
     {
         self.places.connection(self.instance(m, k), c)
     }
+
+    /// Where a connection of an instance is with all that is joined to its port. It takes one pass over that.
+    pub(crate) fn joined(&self, m: usize, k: usize, c: usize) -> ConnectionExtent
+        requires sound { AreTables self.now }
+        requires within { m < length (modules_in self.now) }
+        requires instance { k < length (module_at (modules_in self.now) m).instances }
+        requires place { c < length (instance_at (modules_in self.now) m k).connections }
+        ensures { IsJoinedAt self.now m k c result }
+    {
+        let extent = self.connection(m, k, c);
+        let from = extent.place + 1;
+        let behind = between(&self.entries, from, extent.end);
+        ConnectionExtent {
+            place: extent.place,
+            end: from + expressions_in_front(behind),
+        }
+    }
+
     /// The number of the name that is joined at this place of a module.
     #[inline]
     fn number(&self, m: usize, place: usize) -> usize

@@ -16,11 +16,11 @@ pub loop-m-preserved : goal.loop-m-preserved
 loop-m-preserved c =
     let entries : List Entry = c.args.entries.now in
     let m : ℕ = c.loop-m.m in
-    let part = c.module.ensures.part entries c.requires in
-    let own : c.own-own.result.now ≡ own_at entries c.args.places.now m =
-    c.own-own.ensures ∙ ap₂ (λ (a b : ℕ). stretch entries (a + 1) b) c.module.ensures.start c.module.ensures.end in
-    let head : start_at c.args.places.now m < start_at c.args.places.now (m + 1) = let h = part.head in let s = c.module.ensures.start in let e = c.module.ensures.end in omega arith in
-    let within : start_at c.args.places.now (m + 1) ≤ length entries = let h = part.within in let e = c.module.ensures.end in omega arith in
+    let part = c.module-extent.ensures.part entries c.requires in
+    let own : c.between-own.result.now ≡ own_at entries c.args.places.now m =
+    c.between-own.ensures ∙ ap₂ (λ (a b : ℕ). stretch entries (a + 1) b) c.module-extent.ensures.start c.module-extent.ensures.end in
+    let head : start_at c.args.places.now m < start_at c.args.places.now (m + 1) = let h = part.head in let s = c.module-extent.ensures.start in let e = c.module-extent.ensures.end in omega arith in
+    let within : start_at c.args.places.now (m + 1) ≤ length entries = let h = part.within in let e = c.module-extent.ensures.end in omega arith in
     names_next c.args.bytes.now entries c.args.places.now m c.loop-m.names c.add_module.new.self c.loop-m.invariant
     (subst (λ (l : List Entry). AddsNames c.args.bytes.now l c.loop-m.names c.add_module.new.self) own c.in_ok-add_module.ensures) head within
 
