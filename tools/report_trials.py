@@ -1,5 +1,5 @@
 #!/usr/bin/env python3
-"""Tries desk/gdc-diff over small SDF files, whose values were worked by hand. tools/check_program runs it.
+"""Tries desk/gdc-diff and desk/gdc-report over small SDF files, whose values were worked by hand. tools/check_program runs it.
 
   tools/report_trials.py [--program PROGRAM]
 
@@ -11,12 +11,13 @@ import sys
 sys.dont_write_bytecode = True
 
 import diff_trials
+import statistics_trials
 from desk_checks import parser, run_all
 
 
 def main():
     asked = parser("Tries the tools of desk/ that compare and report delays.", 1).parse_args()
-    return run_all(asked, [(trial,) for trial in diff_trials.TRIALS])
+    return run_all(asked, [(trial,) for trial in (*diff_trials.TRIALS, *statistics_trials.TRIALS)])
 
 
 if __name__ == "__main__":
