@@ -1,5 +1,5 @@
 #!/usr/bin/env python3
-"""Tries desk/gdc-diff and desk/gdc-report over small SDF files, whose values were worked by hand. tools/check_program runs it.
+"""Tries desk/gdc-diff, gdc-report and gdc-cover over small files, whose values were worked by hand. tools/check_program runs it.
 
   tools/report_trials.py [--program PROGRAM]
 
@@ -10,14 +10,17 @@ import sys
 
 sys.dont_write_bytecode = True
 
+import cover_trials
 import diff_trials
 import statistics_trials
 from desk_checks import parser, run_all
 
+MODULES = (diff_trials, statistics_trials, cover_trials)
+
 
 def main():
     asked = parser("Tries the tools of desk/ that compare and report delays.", 1).parse_args()
-    return run_all(asked, [(trial,) for trial in (*diff_trials.TRIALS, *statistics_trials.TRIALS)])
+    return run_all(asked, [(trial,) for module in MODULES for trial in module.TRIALS])
 
 
 if __name__ == "__main__":
