@@ -25,6 +25,8 @@ LONGEST_NAME = 52
 # Where the largest delay is so many medians the axis is logarithmic.
 WIDE = 50
 SETTINGS = {
+    "figure.constrained_layout.h_pad": 0.08,
+    "figure.constrained_layout.w_pad": 0.08,
     "svg.fonttype": "none",
     "svg.hashsalt": "gdc",
     "font.sans-serif": ["DejaVu Sans", "sans-serif"],
@@ -192,7 +194,6 @@ def figure(report, most):
     heights = [2.3, 2.3, 0.34 * most + 0.6][: 3 if most else 2]
     kinds = {kind: corners for kind, corners in report.kinds.items() if any(statistics.numbers for statistics in corners)}
     made = Figure(figsize=(11, sum(heights) + 0.9), layout="constrained")
-    made.get_layout_engine().set(w_pad=0.08, h_pad=0.08)
     title = "Delays of " if kinds else "No delays in "
     made.suptitle(title + label(os.fsencode(os.path.basename(report.path))), fontsize=13, fontweight="bold")
     grid = made.subplots(len(heights), len(kinds), squeeze=False, gridspec_kw={"height_ratios": heights}) if kinds else []

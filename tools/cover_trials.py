@@ -19,6 +19,22 @@ INSIDE = "paths 18: 0 rest on look-ups outside the tables, 0.0%"
 CHANGED = "slews behind wires: none; with rss 8 of 36 delays of paths change, by at most 10.567 ps"
 
 
+STRANGE_NETLIST = r"""module top (a, z); input a; output [3:2] z; wire \n.1 , \$x$ , \back\slash ;
+INVX1 u0 (.A(a), .Y(\n.1 ));
+INVX1 u1 (.A(\n.1 ), .Y(\$x$ ));
+INVX1 u2 (.A(\$x$ ), .Y(\back\slash ));
+INVX1 u3 (.A(\back\slash ), .Y(z[3]));
+endmodule
+"""
+STRANGE_SPEF = r"""*SPEF "x" *DESIGN "top" *DIVIDER . *DELIMITER : *BUS_DELIMITER < > *C_UNIT 1 FF *R_UNIT 1 OHM
+*NAME_MAP *1 n\.1 *2 z<3>
+*D_NET *1 1 *CONN *CAP 1 u0:Y 1 *END
+*D_NET \$x\$ 1 *CONN *CAP 1 u1:Y 1 *END
+*D_NET *2 1 *END
+*D_NET a 1 *END
+"""
+
+
 def example():
     with open(FILES["--spef"], encoding="ascii") as file:
         return file.read()
@@ -60,6 +76,18 @@ def missing(program):
     yield "three nets", lines == wanted and found[1].startswith("nets 20: with parasitics 17, without 3\n"), found[1]
     refused = "gdc-cover: the run is refused: gdc: E33 missing net s3/n2\n"
     yield cover.refuses("a run that is refused", 1, refused, *calc(spef="one.spef"))
+
+
+def spellings(program):
+    """Names that a netlist and a SPEF file write in ways of their own."""
+    cover = Tool("gdc-cover", program)
+    put("names.v", STRANGE_NETLIST)
+    put("names.spef", STRANGE_SPEF)
+    words = calc(netlist="names.v", top="top", lib=os.path.join(EXAMPLES, "inverter.lib"), missing="zero", outside="extend", spef=None)
+    wanted = ("nets 5: with parasitics 4, without 1", r"  without: back\slash driven by u2/Y", "paths 4: ")
+    yield begins("strange names", cover, [*words, "--spef", "names.spef"], 0, *wanted)
+    put("names.spef", STRANGE_SPEF + "*D_NET back\\\\slash 1 *CONN *CAP 1 u2:Y 1 *END\n")
+    yield begins("all strange names", cover, [*words, "--spef", "names.spef"], 0, "nets 5: with parasitics 5, without 0", "paths 4: ")
 
 
 def long_wires():
@@ -156,4 +184,4 @@ def bad_inputs(program):
     yield "help", (status, said) == (0, "") and text.startswith("usage: gdc-cover") and "--most-missing N" in text and "P%" in text
 
 
-TRIALS = (missing, outside, limits, objects, bad_inputs)
+TRIALS = (missing, spellings, outside, limits, objects, bad_inputs)

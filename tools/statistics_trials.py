@@ -87,6 +87,10 @@ def quantities(program):
     found = figures(report, "hundred.sdf", "--worst", "0")["wires"]["only"]
     wanted = {"sum": 5050.0, "least": 1.0, "50%": 50.0, "90%": 90.0, "99%": 99.0, "largest": 100.0}
     yield "the quantiles of 1 to 100", {title: found[title] for title in wanted} == wanted and found["worst"] == [], str(found)
+    put_sdf("equal.sdf", "(INTERCONNECT a u/A (5) (5))", ("u", "(IOPATH A Z (7) (7))"))
+    found = figures(report, "equal.sdf")
+    counts = [(found[kind]["only"]["delays"], found[kind]["only"]["sum"]) for kind in ("wires", "paths")]
+    yield "an equal rise and fall count once of a wire and twice of a path", counts == [(1, 5.0), (2, 14.0)], str(found)
     put_sdf("three.sdf", "(INTERCONNECT a u/A (1:2:4)) (INTERCONNECT a v/A (3::1)) (INTERCONNECT a w/A (2))")
     found = figures(report, "three.sdf")["wires"]
     sums = {corner: (found[corner]["delays"], found[corner]["without"], found[corner]["sum"]) for corner in ("min", "typ", "max")}
@@ -132,7 +136,8 @@ def pictures(program):
         return
     yield "a picture beside the text", (status, text.rstrip("\n"), said) == (0, TEXT, ""), said
     found = "".join(xml.etree.ElementTree.parse("one.svg").getroot().itertext())
-    wanted = ("Delays of small.sdf", "3 wires", "2 paths through cells", "delay in ps", "number of delays", "a u/A: 10.000 ps", "u A Z: 30.000 ps")
+    axes = ("3 wires", "2 paths through cells", "delay in ps", "number of delays", "delays up to here in %")
+    wanted = ("Delays of small.sdf", *axes, "a u/A: 10.000 ps", "u A Z: 30.000 ps")
     yield "what an SVG says", [part for part in wanted if part not in found] == [], found
     report.run("small.sdf", "--worst", "2", "--picture", "two.svg")
     with open("one.svg", "rb") as one, open("two.svg", "rb") as two:
