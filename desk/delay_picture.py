@@ -45,6 +45,8 @@ SETTINGS = {
 
 
 def has_matplotlib():
+    # Where no folder of its own can be written it says so in a long line, and draws all the same.
+    logging.getLogger("matplotlib").setLevel(logging.ERROR)
     try:
         import matplotlib
     except ImportError:
@@ -209,12 +211,11 @@ def short(svg):
 
 
 def picture(report, most, kind):
-    """The bytes of the picture, as `svg` or `png`. The same report gives the same picture."""
-    import matplotlib
+    """The bytes of the picture, as `svg` or `png`. The same report gives the same picture, whatever a user has set for others."""
+    import matplotlib.style
 
-    logging.getLogger("matplotlib").setLevel(logging.ERROR)
     made = io.BytesIO()
     metadata = {"Date": None, "Creator": "gdc-report"} if kind == "svg" else {"Software": None}
-    with matplotlib.rc_context(SETTINGS):
+    with matplotlib.style.context(["default", SETTINGS]):
         figure(report, most).savefig(made, format=kind, dpi=110, transparent=True, metadata=metadata)
     return short(made.getvalue()) if kind == "svg" else made.getvalue()
