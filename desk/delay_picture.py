@@ -195,7 +195,7 @@ def figure(report, most):
 
     heights = [2.3, 2.3, 0.34 * most + 0.6][: 3 if most else 2]
     kinds = {kind: corners for kind, corners in report.kinds.items() if any(statistics.numbers for statistics in corners)}
-    made = Figure(figsize=(11, sum(heights) + 0.9), layout="constrained")
+    made = Figure(figsize=(11, sum(heights) + 0.9), constrained_layout=True)
     title = "Delays of " if kinds else "No delays in "
     made.suptitle(title + label(os.fsencode(os.path.basename(report.path))), fontsize=13, fontweight="bold")
     grid = made.subplots(len(heights), len(kinds), squeeze=False, gridspec_kw={"height_ratios": heights}) if kinds else []
