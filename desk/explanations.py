@@ -4,6 +4,7 @@ import textwrap
 
 from files import line_at, place_of, told
 from places import finding_of
+from refusals import read_rows, refusal_of
 
 WIDTH = 100
 # So much of a long line is shown on each side of the token.
@@ -55,3 +56,14 @@ def explanation(refusal, words, program=None):
     for place in others:
         lines += headed(place, place.remark)
     return lines + wrapped("cause", refusal.cause) + wrapped("remedy", refusal.remedy)
+
+
+def explained(line, words, program=None):
+    """The lines that explain a line of gdc, and whether it could be explained."""
+    try:
+        refusal = refusal_of(line, read_rows())
+    except OSError as fault:
+        return [line, f"  {fault.filename} cannot be read: {fault.strerror}"], False
+    if refusal is None:
+        return [line, "  docs/REFUSALS.md has no such line."], False
+    return explanation(refusal, words, program), True
