@@ -1,7 +1,9 @@
 """The program beside these tools: where it is, and what it answers."""
+import hashlib
 import os
 import subprocess
 import tempfile
+import time
 
 import files
 
@@ -48,6 +50,21 @@ class Program:
             raise CannotRun(f"the program ends with status {ran.returncode}: {ran.stderr.decode(errors='replace').strip()}")
         return ran.stdout, ran.stderr.rstrip(b"\n").removeprefix(b"gdc: ")
 
+    def checksum(self):
+        """The sha256 of the file that runs when the program is started, which may be by a script."""
+        with tempfile.TemporaryDirectory(dir=self.folder) as folder:
+            pipe = os.path.join(folder, "pipe")
+            os.mkfifo(pipe)
+            nothing = subprocess.DEVNULL
+            with subprocess.Popen([self.path, "show", "--sdf", pipe], stdin=nothing, stdout=nothing, stderr=nothing) as started:
+                opened = opened_to_write(pipe, started)
+                try:
+                    # The program has opened its file and reads, so no script is in its place any more.
+                    with open(f"/proc/{started.pid}/exe", "rb") as image:
+                        return hashlib.file_digest(image, "sha256").hexdigest()
+                finally:
+                    os.close(opened)
+
     def file(self, path):
         """The path at which the program can read a file."""
         if path not in self.files:
@@ -69,3 +86,13 @@ class Program:
         with os.fdopen(handle, "wb") as file:
             file.write(data)
         return path
+
+
+def opened_to_write(pipe, reader):
+    """Opens a pipe once a program that was started reads it."""
+    while reader.poll() is None:
+        try:
+            return os.open(pipe, os.O_WRONLY | os.O_NONBLOCK)
+        except OSError:
+            time.sleep(0.002)
+    raise CannotRun(f"the program at {reader.args[0]} reads no file of --sdf, so it is no gdc")
