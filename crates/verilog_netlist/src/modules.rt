@@ -228,7 +228,7 @@ impl<'a> Modules<'a> {
         self.tables.bit_count(m, self.tables.joined(m, k, c))
     }
 
-    /// A bit of a connection, from the left, if it has so many. It takes one pass over what is joined before it.
+    /// A bit of a connection, from the left, if it has so many. It takes one pass over what is joined.
     pub fn get_bit(&self, m: usize, k: usize, c: usize, b: usize) -> Option<Bit>
         requires within { m < length self.now }
         requires instance { k < length (module_at self.now m).instances }
