@@ -103,6 +103,12 @@ or_else false step other = other
 abbrev pub go_if : Bool → Mode → Step
 go_if test mode = or_else test (Go mode) Refuse
 
+-- the bus marks: both in one token, or the left one
+abbrev pub bus_step : List ℕ → Step
+bus_step text =
+    or_else (is_two_marks text) (Put Items (BusDelimiter (slice_index text 0) (slice_index text 1)))
+    (go_if (is_mark text) (BusRight (slice_index text 0)))
+
 -- what the token of this number and text does, where `mark` is the delimiter
 abbrev pub next_mode : Mode → ℕ → ℕ → List ℕ → Step
 next_mode Start mark number text = start_step (word_of text)
@@ -111,9 +117,7 @@ next_mode DesignName mark number text = or_else (is_other text) (Put Others (Des
 next_mode Items mark number text = top_step (word_of text)
 next_mode DividerMark mark number text = or_else (is_mark text) (Put Items (Divider (slice_index text 0))) Refuse
 next_mode DelimiterMark mark number text = or_else (is_mark text) (Put Items (Delimiter (slice_index text 0))) Refuse
-next_mode BusLeft mark number text =
-    or_else (is_two_marks text) (Put Items (BusDelimiter (slice_index text 0) (slice_index text 1)))
-    (go_if (is_mark text) (BusRight (slice_index text 0)))
+next_mode BusLeft mark number text = bus_step text
 next_mode (BusRight left) mark number text = or_else (is_mark text) (Put Items (BusDelimiter left (slice_index text 0))) Refuse
 next_mode CapNumber mark number text = go_if (is_literal text) (CapWord number)
 next_mode (CapWord at) mark number text = or_else (is_other text) (Put Items (CapUnit at)) Refuse

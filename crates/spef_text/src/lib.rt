@@ -21,6 +21,7 @@ mod references;
 mod scan;
 mod sections;
 mod starts;
+mod steps;
 mod units;
 mod words;
 

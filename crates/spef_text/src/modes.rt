@@ -1,14 +1,11 @@
 //! What the reader waits for, and what each token does.
-ghost use Rattle.std.specs.Prelude.{◌≡◌, ℕ, true, false, if◌then◌else◌, slice_index, IfSome};
+ghost use Rattle.std.specs.Prelude.{◌≡◌, true, false, slice_index, IfSome};
 ghost use Rattle.spef_text.specs.Classes.{is_tight, holds_of};
-ghost use Rattle.spef_text.specs.Modes.{start_step, top_step, sections_step, total_step, confident_step, conns_step, left_step, tail_step, next_mode, may_end};
+ghost use Rattle.spef_text.specs.Modes.{top_step, bus_step, conns_step, tail_step, may_end};
 
-use crate::classes::{
-    is_direction, is_id, is_index, is_loose, is_mark, is_name, is_other, is_ref, is_two_marks,
-    is_value,
-};
-use crate::entries::{CapAt, ConnAt, HeadItem, MapEntry, ResAt};
-use crate::words::{Word, word_of};
+use crate::classes::{is_mark, is_two_marks};
+use crate::entries::{CapAt, ConnAt, HeadItem, ResAt};
+use crate::words::Word;
 
 /// What is waited for, with what has been read of the entry that has begun.
 #[derive(Clone, Copy)]
@@ -106,34 +103,6 @@ pub enum Step {
     Close(Option<ConnAt>),
 }
 
-#[inline(always)]
-pub(crate) fn go_if(test: bool, mode: Mode) -> Step
-    ensures { result ≡ (if test then Step.Go mode else Step.Refuse) }
-{
-    if test { Step::Go(mode) } else { Step::Refuse }
-}
-
-#[inline(always)]
-pub(crate) fn put_if(test: bool, mode: Mode, item: HeadItem) -> Step
-    ensures { result ≡ (if test then Step.Put mode item else Step.Refuse) }
-{
-    if test {
-        Step::Put(mode, item)
-    } else {
-        Step::Refuse
-    }
-}
-
-/// What the file's first token does.
-pub(crate) fn start_step(word: Option<Word>) -> Step
-    ensures { result ≡ start_step word }
-{
-    match word {
-        Some(Word::Spef) => Step::Go(Mode::Others),
-        _ => Step::Refuse,
-    }
-}
-
 /// What a keyword does where an item may begin.
 pub(crate) fn top_step(word: Option<Word>) -> Step
     ensures { result ≡ top_step word }
@@ -152,43 +121,6 @@ pub(crate) fn top_step(word: Option<Word>) -> Step
     }
 }
 
-/// What a keyword does where only a net may begin.
-pub(crate) fn sections_step(word: Option<Word>) -> Step
-    ensures { result ≡ sections_step word }
-{
-    match word {
-        Some(Word::Net) => Step::Go(Mode::NetName),
-        _ => Step::Refuse,
-    }
-}
-
-/// What a keyword does behind a net's total.
-pub(crate) fn total_step(word: Option<Word>) -> Step
-    ensures { result ≡ total_step word }
-{
-    match word {
-        Some(Word::Confidence) => Step::Go(Mode::Confidence),
-        Some(Word::Conn) => Step::Go(Mode::Conns),
-        Some(Word::Cap) => Step::Go(Mode::Caps),
-        Some(Word::Res) => Step::Go(Mode::Ress),
-        Some(Word::End) => Step::Close(None),
-        _ => Step::Refuse,
-    }
-}
-
-/// What a keyword does behind a net's confidence.
-pub(crate) fn confident_step(word: Option<Word>) -> Step
-    ensures { result ≡ confident_step word }
-{
-    match word {
-        Some(Word::Conn) => Step::Go(Mode::Conns),
-        Some(Word::Cap) => Step::Go(Mode::Caps),
-        Some(Word::Res) => Step::Go(Mode::Ress),
-        Some(Word::End) => Step::Close(None),
-        _ => Step::Refuse,
-    }
-}
-
 /// What a keyword does where a connection may begin.
 pub(crate) fn conns_step(word: Option<Word>) -> Step
     ensures { result ≡ conns_step word }
@@ -200,21 +132,6 @@ pub(crate) fn conns_step(word: Option<Word>) -> Step
         Some(Word::Cap) => Step::Go(Mode::Caps),
         Some(Word::Res) => Step::Go(Mode::Ress),
         Some(Word::End) => Step::Close(None),
-        _ => Step::Refuse,
-    }
-}
-
-/// What a keyword does that ends a connection.
-fn left_step(conn: ConnAt, word: Option<Word>) -> Step
-    ensures { result ≡ left_step conn word }
-{
-    match word {
-        Some(Word::Port) => Step::Join(Mode::ConnNode(true), conn),
-        Some(Word::Internal) => Step::Join(Mode::ConnNode(false), conn),
-        Some(Word::Node) => Step::Join(Mode::NodeLine, conn),
-        Some(Word::Cap) => Step::Join(Mode::Caps, conn),
-        Some(Word::Res) => Step::Join(Mode::Ress, conn),
-        Some(Word::End) => Step::Close(Some(conn)),
         _ => Step::Refuse,
     }
 }
@@ -244,12 +161,18 @@ pub(crate) fn tail_step(conn: ConnAt, word: Option<Word>, loose: bool) -> Step
     }
     match word {
         Some(Word::Load) => Step::Go(Mode::ConnLoad(conn)),
-        _ => left_step(conn, word),
+        Some(Word::Port) => Step::Join(Mode::ConnNode(true), conn),
+        Some(Word::Internal) => Step::Join(Mode::ConnNode(false), conn),
+        Some(Word::Node) => Step::Join(Mode::NodeLine, conn),
+        Some(Word::Cap) => Step::Join(Mode::Caps, conn),
+        Some(Word::Res) => Step::Join(Mode::Ress, conn),
+        Some(Word::End) => Step::Close(Some(conn)),
+        _ => Step::Refuse,
     }
 }
 
 /// The first byte of a text, or 0.
-fn first_byte(text: &[u8]) -> u8
+pub(crate) fn first_byte(text: &[u8]) -> u8
     ensures { result ≡ slice_index text.now 0 }
 {
     match text {
@@ -258,212 +181,16 @@ fn first_byte(text: &[u8]) -> u8
     }
 }
 
-/// What the mark behind `*DIVIDER` does, and the one behind `*DELIMITER`.
-pub(crate) fn divider_step(text: &[u8]) -> Step
-    ensures { (mark number : ℕ) → result ≡ next_mode Mode.DividerMark mark number text.now }
-{
-    let item = HeadItem::Divider(first_byte(text));
-    put_if(is_mark(text), Mode::Items, item)
-}
-
-pub(crate) fn delimiter_step(text: &[u8]) -> Step
-    ensures { (mark number : ℕ) → result ≡ next_mode Mode.DelimiterMark mark number text.now }
-{
-    let item = HeadItem::Delimiter(first_byte(text));
-    put_if(is_mark(text), Mode::Items, item)
-}
-
 /// What the bus marks do: both in one token, or the left one.
 #[tactic(auto, unfolding(crate::specs::Classes::is_two_marks, crate::specs::Classes::is_mark))]
 pub(crate) fn bus_step(text: &[u8]) -> Step
-    ensures { (mark number : ℕ) → result ≡ next_mode Mode.BusLeft mark number text.now }
+    ensures { result ≡ bus_step text.now }
 {
     match text {
-        [left, right] => {
-            let item = HeadItem::BusDelimiter(*left, *right);
-            put_if(is_two_marks(text), Mode::Items, item)
+        [left, right] if is_two_marks(text) => {
+            Step::Put(Mode::Items, HeadItem::BusDelimiter(*left, *right))
         }
-        _ => go_if(is_mark(text), Mode::BusRight(first_byte(text))),
-    }
-}
-
-/// What the right bus mark does.
-pub(crate) fn right_step(left: u8, text: &[u8]) -> Step
-    ensures { (mark number : ℕ) → result ≡ next_mode (Mode.BusRight left) mark number text.now }
-{
-    let item = HeadItem::BusDelimiter(left, first_byte(text));
-    put_if(is_mark(text), Mode::Items, item)
-}
-
-/// What a token does behind a connection's node.
-#[inline(always)]
-pub(crate) fn direction_step(port: bool, node: u32, text: &[u8]) -> Step
-    ensures { (mark number : ℕ) → result ≡ next_mode (Mode.ConnDirection port node) mark number text.now }
-{
-    let conn = ConnAt {
-        port,
-        node,
-        direction: first_byte(text),
-        load: None,
-    };
-    go_if(is_direction(text), Mode::ConnTail(conn))
-}
-
-/// What a token does behind `*L`.
-pub(crate) fn load_step(conn: ConnAt, number: u32, text: &[u8]) -> Step
-    ensures { (mark : ℕ) → result ≡ next_mode (Mode.ConnLoad conn) mark number text.now }
-{
-    let conn = ConnAt {
-        port: conn.port,
-        node: conn.node,
-        direction: conn.direction,
-        load: Some(number),
-    };
-    go_if(is_value(text), Mode::ConnTail(conn))
-}
-
-/// What a token does behind a capacitance's first node.
-#[inline(always)]
-pub(crate) fn second_step(first: u32, mark: u8, number: u32, text: &[u8]) -> Step
-    ensures { result ≡ next_mode (Mode.CapSecond first) mark number text.now }
-{
-    if is_value(text) {
-        Step::AddCap(CapAt {
-            first,
-            second: None,
-            value: number,
-        })
-    } else {
-        go_if(is_ref(mark, text), Mode::CapValue(first, number))
-    }
-}
-
-/// What a token does behind a capacitance's second node.
-pub(crate) fn cap_value_step(first: u32, second: u32, number: u32, text: &[u8]) -> Step
-    ensures { (mark : ℕ) → result ≡ next_mode (Mode.CapValue first second) mark number text.now }
-{
-    if is_value(text) {
-        Step::AddCap(CapAt {
-            first,
-            second: Some(second),
-            value: number,
-        })
-    } else {
-        Step::Refuse
-    }
-}
-
-/// What a token does behind a resistance's second node.
-#[inline(always)]
-pub(crate) fn res_value_step(first: u32, second: u32, number: u32, text: &[u8]) -> Step
-    ensures { (mark : ℕ) → result ≡ next_mode (Mode.ResValue first second) mark number text.now }
-{
-    if is_value(text) {
-        Step::AddRes(ResAt {
-            first,
-            second,
-            value: number,
-        })
-    } else {
-        Step::Refuse
-    }
-}
-
-/// What a token does where others may stand.
-pub(crate) fn others_step(text: &[u8]) -> Step
-    ensures { (mark number : ℕ) → result ≡ next_mode Mode.Others mark number text.now }
-{
-    if is_other(text) {
-        Step::Go(Mode::Others)
-    } else {
-        top_step(word_of(text))
-    }
-}
-
-/// What a token does behind `*DESIGN`.
-pub(crate) fn design_step(number: u32, text: &[u8]) -> Step
-    ensures { (mark : ℕ) → result ≡ next_mode Mode.DesignName mark number text.now }
-{
-    if is_other(text) {
-        Step::Put(Mode::Others, HeadItem::Design(Some(number)))
-    } else {
-        top_step(word_of(text))
-    }
-}
-
-/// What a token does in the name map.
-#[inline(always)]
-pub(crate) fn map_step(number: u32, text: &[u8]) -> Step
-    ensures { (mark : ℕ) → result ≡ next_mode Mode.NameMap mark number text.now }
-{
-    if is_index(text) {
-        Step::Go(Mode::MapName(number))
-    } else {
-        top_step(word_of(text))
-    }
-}
-
-/// What the name of an index does.
-#[inline(always)]
-#[tactic(auto, unfolding(crate::specs::Classes::is_map_name))]
-pub(crate) fn map_name_step(index: u32, number: u32, text: &[u8]) -> Step
-    ensures { (mark : ℕ) → result ≡ next_mode (Mode.MapName index) mark number text.now }
-{
-    let entry = MapEntry {
-        index,
-        name: number,
-    };
-    put_if(is_name(text), Mode::NameMap, HeadItem::Mapped(entry))
-}
-
-/// What a token does behind `*D_NET`.
-#[inline(always)]
-pub(crate) fn net_step(mark: u8, number: u32, text: &[u8]) -> Step
-    ensures { result ≡ next_mode Mode.NetName mark number text.now }
-{
-    if is_ref(mark, text) {
-        Step::Open(number)
-    } else {
-        Step::Refuse
-    }
-}
-
-/// What a token does in a `*N` line.
-pub(crate) fn node_line_step(text: &[u8]) -> Step
-    ensures { (mark number : ℕ) → result ≡ next_mode Mode.NodeLine mark number text.now }
-{
-    let word = word_of(text);
-    if is_loose(text, word) {
-        Step::Go(Mode::NodeLine)
-    } else {
-        conns_step(word)
-    }
-}
-
-/// What a token does among the capacitances, and among the resistances.
-#[inline(always)]
-pub(crate) fn cap_id_step(text: &[u8]) -> Step
-    ensures { (mark number : ℕ) → result ≡ next_mode Mode.Caps mark number text.now }
-{
-    if is_id(text) {
-        return Step::Go(Mode::CapFirst);
-    }
-    match word_of(text) {
-        Some(Word::Res) => Step::Go(Mode::Ress),
-        Some(Word::End) => Step::Close(None),
-        _ => Step::Refuse,
-    }
-}
-
-#[inline(always)]
-pub(crate) fn res_id_step(text: &[u8]) -> Step
-    ensures { (mark number : ℕ) → result ≡ next_mode Mode.Ress mark number text.now }
-{
-    if is_id(text) {
-        return Step::Go(Mode::ResFirst);
-    }
-    match word_of(text) {
-        Some(Word::End) => Step::Close(None),
+        _ if is_mark(text) => Step::Go(Mode::BusRight(first_byte(text))),
         _ => Step::Refuse,
     }
 }
