@@ -7,8 +7,8 @@ use Rattle.liberty_groups.specs.declared.scan.Kind.{Kind}
 use Rattle.liberty_groups.specs.declared.scan.Kind.TheVariants as kind
 use Rattle.liberty_groups.specs.declared.modes.Mode.{Mode}
 use Rattle.liberty_groups.specs.declared.modes.Mode.TheVariants.{Start, LibraryName, LibraryArgs, LibraryBody, Body, Name, Colon, Value, Args, ArgsEnd, End}
-use Rattle.liberty_groups.specs.declared.modes.Step.{Step}
-use Rattle.liberty_groups.specs.declared.modes.Step.TheVariants.{Refuse, Go, Begin, Part, Piece, OpenLibrary, Open, Close}
+use Rattle.liberty_groups.specs.declared.modes.Action.{Action}
+use Rattle.liberty_groups.specs.declared.modes.Action.TheVariants.{Refuse, Go, Begin, Part, Piece, OpenLibrary, Open, Close}
 use Rattle.liberty_groups.specs.declared.faults.Cause.{Cause}
 use Rattle.liberty_groups.specs.declared.faults.Cause.TheVariants.{Unexpected, TooDeep, NotLibrary}
 
@@ -18,60 +18,60 @@ names_library k bytes = is_word k && bytes_eq bytes (codes "library")
 abbrev pub names_statement : Kind → List ℕ → Bool
 names_statement k bytes = is_word k && not (bytes_eq bytes (codes "include_file"))
 
-abbrev pub refuses : Kind → Step
+abbrev pub refuses : Kind → Action
 refuses k = Refuse (cause_of k Unexpected)
 
-abbrev pub start_does : Kind → Bool → Step
+abbrev pub start_does : Kind → Bool → Action
 start_does k true = Begin LibraryName
 start_does k false = Refuse (cause_of k NotLibrary)
 
-abbrev pub library_does : Kind → Step
+abbrev pub library_does : Kind → Action
 library_does kind.LeftParen = Go LibraryArgs
 library_does k = refuses k
 
-abbrev pub args_does : Kind → Mode → Mode → Step
+abbrev pub args_does : Kind → Mode → Mode → Action
 args_does kind.Word here behind = Part here
 args_does kind.Quoted here behind = Part here
 args_does kind.Comma here behind = Go here
 args_does kind.RightParen here behind = Go behind
 args_does k here behind = refuses k
 
-abbrev pub opening_does : Kind → Step
+abbrev pub opening_does : Kind → Action
 opening_does kind.LeftBrace = OpenLibrary
 opening_does k = refuses k
 
-abbrev pub begin_if : Kind → Bool → Step
+abbrev pub begin_if : Kind → Bool → Action
 begin_if k true = Begin Name
 begin_if k false = refuses k
 
-abbrev pub body_does : Kind → Bool → Step
+abbrev pub body_does : Kind → Bool → Action
 body_does kind.Semicolon names = Go Body
 body_does kind.RightBrace names = Close
 body_does k names = begin_if k names
 
-abbrev pub name_does : Kind → Step
+abbrev pub name_does : Kind → Action
 name_does kind.Colon = Go Colon
 name_does kind.LeftParen = Go Args
 name_does k = refuses k
 
-abbrev pub value_does : Kind → Bool → Step
+abbrev pub value_does : Kind → Bool → Action
 value_does k true = Piece
 value_does k false = refuses k
 
-abbrev pub open_unless : Bool → Step
+abbrev pub open_unless : Bool → Action
 open_unless true = Refuse TooDeep
 open_unless false = Open
 
-abbrev pub behind_args_does : Kind → Bool → Step
+abbrev pub behind_args_does : Kind → Bool → Action
 behind_args_does kind.LeftBrace deep = open_unless deep
 behind_args_does k deep = refuses k
 
-abbrev pub end_does : Kind → Step
+abbrev pub end_does : Kind → Action
 end_does kind.Semicolon = Go End
 end_does k = refuses k
 
 -- what a token of this kind and of these bytes does, where no attribute has ended
-abbrev pub does : Mode → Bool → Kind → List ℕ → Step
+abbrev pub does : Mode → Bool → Kind → List ℕ → Action
 does Start deep k bytes = start_does k (names_library k bytes)
 does LibraryName deep k bytes = library_does k
 does LibraryArgs deep k bytes = args_does k LibraryArgs LibraryBody
@@ -95,7 +95,7 @@ settles ArgsEnd k fresh = not (is_left_brace k)
 settles _ k fresh = false
 
 -- the state behind a step of a token that says this
-abbrev pub applied : Step → State → List ℕ → Result State Cause
+abbrev pub applied : Action → State → List ℕ → Result State Cause
 applied (Refuse cause) s bytes = Err cause
 applied (Go mode) s bytes = Ok (to_mode mode s)
 applied (Begin mode) s bytes = Ok (begun mode bytes s)

@@ -41,7 +41,7 @@ pub enum Mode {
 
 /// What a token does.
 #[derive(Clone, Copy)]
-pub enum Step {
+pub enum Action {
     /// It cannot stand here.
     Refuse(Cause),
 
@@ -65,14 +65,14 @@ pub enum Step {
     Close,
 }
 
-fn refuse(kind: Kind, other: Cause) -> Step
-    ensures { result ≡ Step.Refuse (cause_of kind other) }
+fn refuse(kind: Kind, other: Cause) -> Action
+    ensures { result ≡ Action.Refuse (cause_of kind other) }
 {
     match kind {
-        Kind::Bad => Step::Refuse(Cause::BadByte),
-        Kind::OpenQuoted => Step::Refuse(Cause::OpenText),
-        Kind::OpenNote => Step::Refuse(Cause::OpenComment),
-        _ => Step::Refuse(other),
+        Kind::Bad => Action::Refuse(Cause::BadByte),
+        Kind::OpenQuoted => Action::Refuse(Cause::OpenText),
+        Kind::OpenNote => Action::Refuse(Cause::OpenComment),
+        _ => Action::Refuse(other),
     }
 }
 
@@ -91,34 +91,34 @@ impl Mode {
 
     /// What a token does; `deep` says that no group may be opened.
     #[inline(always)]
-    pub fn next(self, deep: bool, kind: Kind, bytes: &[u8]) -> Step
+    pub fn next(self, deep: bool, kind: Kind, bytes: &[u8]) -> Action
         ensures { result ≡ does self deep kind bytes.now }
     {
         match (self, kind) {
             (Mode::Start, Kind::Word) if bytes == b"library".as_slice() => {
-                Step::Begin(Mode::LibraryName)
+                Action::Begin(Mode::LibraryName)
             }
             (Mode::Start, _) => refuse(kind, Cause::NotLibrary),
-            (Mode::LibraryName, Kind::LeftParen) => Step::Go(Mode::LibraryArgs),
-            (Mode::LibraryArgs, Kind::Word | Kind::Quoted) => Step::Part(Mode::LibraryArgs),
-            (Mode::LibraryArgs, Kind::Comma) => Step::Go(Mode::LibraryArgs),
-            (Mode::LibraryArgs, Kind::RightParen) => Step::Go(Mode::LibraryBody),
-            (Mode::LibraryBody, Kind::LeftBrace) => Step::OpenLibrary,
-            (Mode::Body, Kind::Semicolon) => Step::Go(Mode::Body),
-            (Mode::Body, Kind::RightBrace) => Step::Close,
+            (Mode::LibraryName, Kind::LeftParen) => Action::Go(Mode::LibraryArgs),
+            (Mode::LibraryArgs, Kind::Word | Kind::Quoted) => Action::Part(Mode::LibraryArgs),
+            (Mode::LibraryArgs, Kind::Comma) => Action::Go(Mode::LibraryArgs),
+            (Mode::LibraryArgs, Kind::RightParen) => Action::Go(Mode::LibraryBody),
+            (Mode::LibraryBody, Kind::LeftBrace) => Action::OpenLibrary,
+            (Mode::Body, Kind::Semicolon) => Action::Go(Mode::Body),
+            (Mode::Body, Kind::RightBrace) => Action::Close,
             (Mode::Body, Kind::Word) if bytes != b"include_file".as_slice() => {
-                Step::Begin(Mode::Name)
+                Action::Begin(Mode::Name)
             }
-            (Mode::Name, Kind::Colon) => Step::Go(Mode::Colon),
-            (Mode::Name, Kind::LeftParen) => Step::Go(Mode::Args),
-            (Mode::Colon, Kind::Word | Kind::Quoted) => Step::Piece,
-            (Mode::Value, _) => Step::Piece,
-            (Mode::Args, Kind::Word | Kind::Quoted) => Step::Part(Mode::Args),
-            (Mode::Args, Kind::Comma) => Step::Go(Mode::Args),
-            (Mode::Args, Kind::RightParen) => Step::Go(Mode::ArgsEnd),
-            (Mode::ArgsEnd, Kind::LeftBrace) if deep => Step::Refuse(Cause::TooDeep),
-            (Mode::ArgsEnd, Kind::LeftBrace) => Step::Open,
-            (Mode::End, Kind::Semicolon) => Step::Go(Mode::End),
+            (Mode::Name, Kind::Colon) => Action::Go(Mode::Colon),
+            (Mode::Name, Kind::LeftParen) => Action::Go(Mode::Args),
+            (Mode::Colon, Kind::Word | Kind::Quoted) => Action::Piece,
+            (Mode::Value, _) => Action::Piece,
+            (Mode::Args, Kind::Word | Kind::Quoted) => Action::Part(Mode::Args),
+            (Mode::Args, Kind::Comma) => Action::Go(Mode::Args),
+            (Mode::Args, Kind::RightParen) => Action::Go(Mode::ArgsEnd),
+            (Mode::ArgsEnd, Kind::LeftBrace) if deep => Action::Refuse(Cause::TooDeep),
+            (Mode::ArgsEnd, Kind::LeftBrace) => Action::Open,
+            (Mode::End, Kind::Semicolon) => Action::Go(Mode::End),
             _ => refuse(kind, Cause::Unexpected),
         }
     }

@@ -13,7 +13,7 @@ ghost use Rattle.liberty_groups.specs.Within.{cut_within};
 use crate::builder::Builder;
 use crate::events::Event;
 use crate::faults::Cause;
-use crate::modes::{Mode, Step};
+use crate::modes::{Action, Mode};
 use crate::scan::{Kind, breaks, cut_at};
 use crate::texts::said;
 use crate::tree::GroupTree;
@@ -84,36 +84,41 @@ impl Reader {
         self.builder.begin(text.bytes())
     }
 
-    /// Does what a step says that a token of this kind and of these bytes makes, or says why the token is refused.
+    /// Does this with a token of this kind and of these bytes, or says why the token is refused.
     #[inline(always)]
-    fn step(&mut self, step: Step, kind: Kind, bytes: &[u8]) -> Result<Option<Cause>, OutOfMemory>
+    fn apply(
+        &mut self,
+        action: Action,
+        kind: Kind,
+        bytes: &[u8],
+    ) -> Result<Option<Cause>, OutOfMemory>
         requires bytes { length bytes.now < 2 ^ 32 }
         requires sound { IsSound self.old }
         requires built { IsBuilt self.old.builder }
         requires depth { self.old.depth < 2 ^ 32 }
-        ensures state { IfOk result (Steps (applied step (state_of self.old) (said_by kind bytes.now)) (state_of self.new)) }
+        ensures state { IfOk result (Steps (applied action (state_of self.old) (said_by kind bytes.now)) (state_of self.new)) }
         ensures sound { OnOk result (IsSound self.new) }
         ensures built { OnOk result (IsBuilt self.new.builder) }
     {
-        match step {
-            Step::Refuse(cause) => return Ok(Some(cause)),
-            Step::Go(mode) => self.mode = mode,
-            Step::Begin(mode) => {
+        match action {
+            Action::Refuse(cause) => return Ok(Some(cause)),
+            Action::Go(mode) => self.mode = mode,
+            Action::Begin(mode) => {
                 self.begin(kind, bytes)?;
                 self.mode = mode;
             }
-            Step::Part(mode) => {
+            Action::Part(mode) => {
                 let text = said(self.alloc, kind, bytes)?;
                 self.add(Event::Part(text), mode, self.depth)?;
             }
-            Step::Piece => {
+            Action::Piece => {
                 let text = said(self.alloc, kind, bytes)?;
                 self.add(Event::Piece(text), Mode::Value, self.depth)?;
             }
-            Step::OpenLibrary => self.add(Event::OpenLibrary, Mode::Body, 1)?,
-            Step::Open => self.add(Event::Open, Mode::Body, self.depth + 1)?,
-            Step::Close if self.depth > 1 => self.add(Event::Close, Mode::Body, self.depth - 1)?,
-            Step::Close => self.add(Event::Close, Mode::End, self.depth)?,
+            Action::OpenLibrary => self.add(Event::OpenLibrary, Mode::Body, 1)?,
+            Action::Open => self.add(Event::Open, Mode::Body, self.depth + 1)?,
+            Action::Close if self.depth > 1 => self.add(Event::Close, Mode::Body, self.depth - 1)?,
+            Action::Close => self.add(Event::Close, Mode::End, self.depth)?,
         }
         Ok(None)
     }
@@ -154,8 +159,8 @@ impl Reader {
         ensures built { OnOk result (IsBuilt self.new.builder) }
     {
         self.settle(kind, fresh)?;
-        let step = self.mode.next(self.depth >= DEPTH_LIMIT, kind, bytes);
-        self.step(step, kind, bytes)
+        let action = self.mode.next(self.depth >= DEPTH_LIMIT, kind, bytes);
+        self.apply(action, kind, bytes)
     }
 }
 
