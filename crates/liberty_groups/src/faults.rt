@@ -1,5 +1,4 @@
 //! What is answered where a file is no Liberty text.
-use edge_io::OutOfMemory;
 
 /// Why a token cannot stand where it stands.
 #[derive(Clone, Copy)]
@@ -42,10 +41,4 @@ pub struct SyntaxFault {
 pub enum ParseEnd {
     Syntax(SyntaxFault),
     OutOfMemory,
-}
-
-impl From<OutOfMemory> for ParseEnd {
-    fn from(_end: OutOfMemory) -> ParseEnd {
-        ParseEnd::OutOfMemory
-    }
 }

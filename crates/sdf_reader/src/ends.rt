@@ -1,5 +1,4 @@
 //! What is answered where a file is no SDF text.
-use edge_io::OutOfMemory;
 
 /// Why a token cannot stand where it stands.
 #[derive(Clone, Copy)]
@@ -32,15 +31,4 @@ pub enum SdfEnd {
 
     /// There was no memory for what the file says.
     OutOfMemory,
-}
-
-impl From<OutOfMemory> for SdfEnd {
-    ghost use Rattle.std.specs.Prelude.{◌≡◌};
-    ghost use Rattle.sdf_reader.specs.declared.ends.SdfEnd.TheVariants.{OutOfMemory};
-
-    ghost from_gives = { λ _ end. end ≡ OutOfMemory };
-
-    fn from(_end: OutOfMemory) -> SdfEnd {
-        SdfEnd::OutOfMemory
-    }
 }
