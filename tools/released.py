@@ -77,6 +77,13 @@ def keep_verdict(lines, sources):
     return True
 
 
+def proved_here(sources):
+    """What is kept of the proof of the program that lies here, where that is a proof from these sources, or else nothing."""
+    kept = fields_of(VERDICT) if os.path.exists(PROGRAM) else {}
+    known = [kept.get("program-sha256"), kept.get("sources-sha256")]
+    return kept if kept and known == [[sum_of(read(PROGRAM))], [sources]] else {}
+
+
 def manifest(program, packed, sources, of_toolchain, verdict):
     """The manifest of a program: which one it is, what it was made from, how it was proved, and what it takes of the system."""
     found = elf_needs.symbols(program)
