@@ -9,10 +9,15 @@ import files
 
 ROOT = os.path.dirname(os.path.dirname(os.path.realpath(__file__)))
 SCRIPT = os.path.join(ROOT, "gdc")
+# tools/install puts a list beside the folder of these tools. There that is the program itself, and bin has the script that starts it.
+STARTER = os.path.normpath(os.path.join(ROOT, "..", "..", "bin", "gdc"))
+if os.path.exists(os.path.join(ROOT, "installed.json")) and os.path.exists(STARTER):
+    SCRIPT = STARTER
 # In a repository the script could prove and build the program first, for an hour. By this it takes what is built or released, or ends with 125.
 os.environ.setdefault("GDC_BUILD", "no")
 NO_PROGRAM = 125
-HELP = "the program; else that of the environment variable GDC, else the gdc at the top of this repository, as it is built or released"
+HELP = """the program; else that of the environment variable GDC, else the gdc that is installed with these tools, or the one at the top of
+this repository, as it is built or released"""
 
 
 class CannotRun(Exception):
@@ -24,7 +29,7 @@ def add_program(parser):
 
 
 def program_path(asked):
-    """The path of the program that is asked for, or of that of this repository. None is built for it."""
+    """The path of the program that is asked for, or of the one beside these tools. None is built for it."""
     path = asked or os.environ.get("GDC") or SCRIPT
     if not os.access(path, os.X_OK):
         raise CannotRun(f"there is no program at {path}")
