@@ -218,7 +218,8 @@ def try_other_sources(trials):
     add_byte(source)
     os.utime(source, ns=(before.st_atime_ns, before.st_mtime_ns))
     trials.has_no_program("a changed source", folder, ["the sources are not those of the released program", "rt is not on PATH", TOOLCHAIN])
-    trials.has_no_program("a changed source, and no building", folder, ["GDC_BUILD=no"], GDC_BUILD="no")
+    trials.has_no_program("a changed source, and no building", folder, ["GDC_BUILD=no"], ("rt", "xz", "python", "always"), GDC_BUILD="no")
+    trials.count("nothing is built", not os.path.exists(f"{folder}/crates/gdc/out"))
     trials.count("a stale release", trials.run(folder, "tools/release --check")[0] == 1)
     with open(source, "wb") as file:
         file.write(text)
