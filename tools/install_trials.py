@@ -6,10 +6,12 @@
 The program is PROGRAM, else that of the environment variable GDC, else crates/gdc/out/gdc. What needs a tool that is not installed is skipped by
 its name. The last line is 'N passed, M failed'. The status is 0 only if nothing failed.
 """
+import itertools
 import json
 import os
 import shutil
 import sys
+from unittest import mock
 
 sys.dont_write_bytecode = True
 
@@ -17,6 +19,7 @@ import help_trials
 import timed_runs
 from desk_checks import parser, run_all
 from install_copies import STAND_IN, VERDICT, Copy, example, installed, put, run, tree
+from installation import File, Installation
 from released import read, sum_of
 
 PREFIX = "pre fix é"
@@ -156,6 +159,48 @@ def is_renewed(program):
     yield "a folder bin that is elsewhere", found[0][:2] == (0, read(example("star.sdf"))) and found[1][0] == 0, found
 
 
+def ended_behind(count, function):
+    """A function that does so many times what another does. Then a signal comes."""
+    calls = itertools.count()
+
+    def call(*words):
+        if next(calls) == count:
+            raise KeyboardInterrupt
+        return function(*words)
+
+    return call
+
+
+def is_cut_off(program):
+    """Where an installation is ended while it writes, all is as it was. Where it renames, a later one goes on, or all is removed."""
+    old = {path: File(b"old", 0o755) for path in ("bin/a", "lib/gdc/b", "share/old/c")}
+    new = {path: File(b"new") for path in ("bin/a", "lib/gdc/b", "share/new/d")}
+    for count in range(3):
+        for before in ({}, old):
+            top = f"{count} {len(before)}"
+            if before:
+                Installation(top).put(before, False)
+            found = tree(".")
+            try:
+                with mock.patch.object(File, "put", ended_behind(count, File.put)):
+                    Installation(top).put(new, False)
+            except KeyboardInterrupt:
+                yield f"ended behind {count} written files, with {len(before)} before", tree(".") == found, sorted(tree("."))
+    for go_on in (lambda: Installation("top").put(new, False), lambda: Installation("top").remove()):
+        Installation("top").put(old, False)
+        try:
+            # (the list is renamed twice before)
+            with mock.patch("os.replace", ended_behind(3, os.replace)):
+                Installation("top").put(new, False)
+        except KeyboardInterrupt:
+            told = list(Installation("top").differences())
+            yield "ended behind one renamed file", told[0].startswith("the installation was cut off") and len(told) == 3, told
+        go_on()
+        there = {path for path, found in tree("top").items() if found}
+        yield "what is then there", there in (set(), {*new, "lib/gdc/installed.json"}) and not list(Installation("top").differences()), there
+    yield "nothing is left", not os.path.exists("top")
+
+
 def takes_proved(program):
     """The program that is proved from the sources at hand is taken, with the settings of ./gdc, and no other."""
     copy, prefix = installed(program, "top")
@@ -199,7 +244,7 @@ def wrong_words(program):
     yield "the help of tools/install", copy.install("--help")[0] == 0
 
 
-TRIALS = (runs_alone, is_compared, keeps_others, is_renewed, takes_proved, wrong_words, *help_trials.TRIALS)
+TRIALS = (runs_alone, is_compared, keeps_others, is_renewed, is_cut_off, takes_proved, wrong_words, *help_trials.TRIALS)
 
 
 def main():
