@@ -41,7 +41,8 @@ def proved():
         fields = released.fields_of(MANIFEST)
         program = released.unpacked(fields) if fields.get("sources-sha256") == [sources] else None
         if program is None:
-            raise Refused("no proved program of these sources is here: tools/release --check says why, and tools/build proves and builds one")
+            # (where another run of the toolchain built one, tools/build alone takes it as it is, and keeps no verdict)
+            raise Refused("no proved program of these sources is here: tools/release --check says why, and tools/build --again builds one")
         manifest = read(MANIFEST)
     return Proved(program, manifest, help_text(program))
 

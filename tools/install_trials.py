@@ -233,7 +233,7 @@ def takes_proved(program):
     yield "one that is not that of the manifest", copy.install("none")[0] == 1
     put(f"{copy.path}/crates/gdc/src/more.rt", "")
     status, _, err = copy.install("none")
-    yield "one of other sources", status == 1 and "tools/build proves and builds one" in err and not os.path.exists("none"), err
+    yield "one of other sources", status == 1 and "tools/build --again builds one" in err and not os.path.exists("none"), err
 
 
 def wrong_words(program):
